@@ -3,6 +3,7 @@
 # Rattle's command; `make RT=/some/where/rt build` takes another one.
 RT ?= rt
 PROGRAM := build/bedkeep
+UNPROVED := build/bedkeep-unproved
 
 # Where `make install` puts what it installs; DESTDIR comes before each of these folders.
 PREFIX ?= /usr/local
@@ -25,10 +26,11 @@ DOCUMENTS = README.md CHANGELOG.md LICENSE CITATION.cff $(addprefix docs/,GUIDE.
 		! \( -path '*/workflows/*/*' ! -name '*.cwl' ! -name '*.yaml' \) | LC_ALL=C sort)
 
 .DEFAULT_GOAL := help
-.PHONY: help try build demo install uninstall dist test wrong-bodies clean
+.PHONY: help try check build demo install uninstall dist test wrong-bodies clean
 
 help:
-	@echo 'make try     in a minute, without a proof: the first session of the README, or a run of your own as in make try ARGS="merge -g sizes -i genes.bed"; it leaves build/bedkeep-unproved'
+	@echo 'make try     in a minute, without a proof: the first session of the README, or a run of your own as in make try ARGS="merge -g sizes -i genes.bed"; it leaves $(UNPROVED)'
+	@echo 'make check   the examples of tests/, sizes, hints and options over that program, in minutes'
 	@echo 'make build   prove and build the program; it is left at $(PROGRAM)'
 	@echo 'make demo    build it, then run the scripts of examples/ over the files beside them'
 	@echo 'make install     put the built program, its man page, its completions and the Python package below PREFIX (/usr/local)'
@@ -42,6 +44,14 @@ help:
 # The script of a session comes on standard input: make try ARGS='session -g sizes -i genes.bed' < script
 try:
 	@RT=$(RT) scripts/test/try.sh $(ARGS)
+
+# The tests of the program that need neither a proof nor its speed.
+check:
+	@RT=$(RT) scripts/test/unproved.sh
+	python3 scripts/test/transcripts.py $(UNPROVED)
+	python3 scripts/test/options.py $(UNPROVED)
+	python3 scripts/test/hints.py $(UNPROVED)
+	python3 scripts/test/sizes.py $(UNPROVED)
 
 build:
 	RT=$(RT) scripts/prove/build.sh

@@ -7,7 +7,7 @@ calls of the package with wrong arguments.
 
 Through a pipe standard error has the fixed line alone. At a terminal, and with hints on, one to three lines follow, which name the word,
 the value or the kind of the file, and what to do. If that is a command, or arguments, these have to do what the hint says: they mend
-the file or the script, or the run ends well.
+the file or the script, or the run ends well. What takes minutes or little memory is left out if the program isn't proved (`make check`).
 """
 import contextlib
 import gzip
@@ -25,6 +25,7 @@ TOP = Path(__file__).resolve().parent.parent.parent
 sys.path.insert(0, str(TOP / "python"))
 import bedkeep
 from bedkeep.script import VIEW_COMMAND
+from says import is_proved
 from ways_on import Ways
 
 BED6 = b"chr1\t10\t20\ta\t2.5\t+\nchr1\t15\t30\tb\t1.5\t-\n"
@@ -135,6 +136,7 @@ class Trial:
 
     def __init__(self, program):
         self.program = program
+        self.is_proved = is_proved(program)
         self.ways = Ways(program)
         self.count = 0
         self.from_python = 0
@@ -195,6 +197,8 @@ class Trial:
 
     def try_table(self):
         for where, typed, status, line, parts in read_table():
+            if typed == "many" and not self.is_proved:
+                continue
             if where == "well":
                 self.ways.loss(typed.split(), self.says(typed.split(), status, "", parts))
             elif where == "arguments":
@@ -335,7 +339,8 @@ class Trial:
         self.says(["merge", "-g", "bare.sizes", "-i", "a.bed"], 3, "bedkeep: a.bed: line 1: unknown sequence\n", ["no chr1, and has 1"])
         self.says(["merge", "-g", "low.sizes", "-i", "a.bed"], 3, "bedkeep: a.bed: line 1: end past the sequence's end\n", ["chr1 has 10", "BED file"])
         self.says(["merge", "-g", "sizes", "-i", os.fsdecode(b"\xff.bed")], 2, "bedkeep: bad options\n", ["UTF-8"])
-        self.says(["merge", "-g", "sizes", "-i", "many"], 5, "bedkeep: no memory\n", ["examples/at_scale"], preexec_fn=limit_memory)
+        if self.is_proved:
+            self.says(["merge", "-g", "sizes", "-i", "many"], 5, "bedkeep: no memory\n", ["examples/at_scale"], preexec_fn=limit_memory)
         with open("/dev/full", "wb") as full:
             self.says(merge, 4, lost, ["disk may be full"], stdout=full)
         reader, writer = os.pipe()

@@ -6,6 +6,8 @@ seconds.
 
     scripts/test/sizes.py build/bedkeep
 
+The program of `make check`, which isn't proved and is slower, gets a tenth of most sizes.
+
 Status 1 if a run prints anything else, or has another message or status.
 """
 import os
@@ -19,7 +21,11 @@ import sys
 import tempfile
 from pathlib import Path
 
+from says import is_proved
+
 SECONDS = 120
+# What most sizes are divided by.
+LESS = 1
 ROOMS = [0, 1, 8_190, 8_191, 8_192, 8_193, 8_194, 16_383, 16_384, 16_385]
 NO_ROOM = b"bedkeep: output cannot be written\n"
 # A program whose status says whether its write was cut short.
@@ -42,16 +48,16 @@ def records_at_one_place():
     """Records with one place and many names: each view has one row."""
     yield "records at one place", "session -g g -i a", {
         "g": "big\t1000000\n",
-        "a": table(("big", 0, 10, name) for name in range(20_000)),
+        "a": table(("big", 0, 10, name) for name in range(20_000 // LESS)),
     }, "open\tm\tmerge\nopen\tc\tcomplement\nopen\tg\tgenomecov -bg\nprintall\n", (
-        "#m\nbig\t0\t10\n#c\nbig\t10\t1000000\n#g\nbig\t0\t10\t20000\n"
+        f"#m\nbig\t0\t10\n#c\nbig\t10\t1000000\n#g\nbig\t0\t10\t{20_000 // LESS}\n"
     )
 
 
 def many_sequences():
     """A record of six columns on each of many sequences, and edits of one."""
-    names = [f"chr{number}" for number in range(200_000, 400_000)]
-    here = "chr300000"
+    names = [f"chr{number}" for number in range(200_000, 200_000 + 200_000 // LESS)]
+    here = names[len(names) // 2]
     lines = [("add", here, 5, 9, "n", 0, "."), ("add", here, 5, 9, "n", 0, "."), ("remove", here, 5, 9, "n", 0, "."),
              ("replace", here, 5, 9, "n", 0, ".", here, 15, 19, "n", 0, "."), ("print", "m")]
     yield "many sequences", "session -g g -i a", {
@@ -62,7 +68,7 @@ def many_sequences():
 
 def reversed_records():
     """Many records, the last one first."""
-    places = [("big", start, start + 5) for start in range(0, 1_000_000, 10)]
+    places = [("big", start, start + 5) for start in range(0, 1_000_000 // LESS, 10)]
     files = {"g": "big\t1000000\n", "a": table(reversed(places))}
     yield "places from the end", "merge -g g -i a", files, None, table(places)
     yield "records from the end", "cluster -g g -i a", files, None, table((*place, number) for number, place in enumerate(places, 1))
@@ -111,16 +117,17 @@ def long_names():
 
 def long_bases():
     """The bases of a long sequence, in one line and in many."""
-    bases = "ACGTNacgtR" * 240_000
+    size = 2_400_000 // LESS
+    bases = "ACGTNacgtR" * (size // 10)
     for width in 0, 60, 61:
         yield f"a sequence in lines of {width or 'all its'} bases", "getfasta -g g -bed a -fi f", {
-            "g": "big\t2400000\n", "a": "big\t0\t2400000\n", "f": fasta("big a chromosome", bases, width),
-        }, None, fasta("big:0-2400000", bases)
+            "g": table([("big", size)]), "a": table([("big", 0, size)]), "f": fasta("big a chromosome", bases, width),
+        }, None, fasta(f"big:0-{size}", bases)
 
 
 def many_short_bases():
     """Many sequences, of which the genome has every second one, with a line for each base."""
-    sizes = [(f"contig_{number}", 4 + number % 7) for number in range(50_000)]
+    sizes = [(f"contig_{number}", 4 + number % 7) for number in range(50_000 // LESS)]
     half = sizes[1::2]
     yield "many sequences of bases", "getfasta -g g -bed a -fi f", {
         "g": table(half),
@@ -256,9 +263,11 @@ def is_right(program, name, words, files, script, wanted, rooms=()):
 
 
 def main():
+    global LESS
     if len(sys.argv) != 2:
         sys.exit("usage: scripts/test/sizes.py PROGRAM")
     program = Path(sys.argv[1]).resolve()
+    LESS = 1 if is_proved(program) else 10
     if run_in_parts([sys.executable, "-c", IS_SHORT], "/", None)[0] != 1:
         sys.exit("no write is cut short here")
     whole = [records_at_one_place, many_sequences, reversed_records, regions, long_lines, long_names, long_bases, many_short_bases, long_headers,

@@ -3,6 +3,8 @@
 
     scripts/test/transcripts.py build/bedkeep [FILE ..]     FILE is one of tests/; without any, all are run
 
+The program of `make check` may say that it is unproved where the proved one says with what it was proved.
+
 A file is blocks with an empty line between them. The first says what is in all others, and each of these runs in a folder of
 its own. The mark at the front of a line says what it is:
 
@@ -33,6 +35,8 @@ MISTAKES = "mistakes.tsv"  # a table that hints.py reads
 TESTS = Path(__file__).resolve().parent.parent.parent / "tests"
 STREAMS = {"<": "script", ">": "out", "!": "err"}
 ESCAPES = {"t": b"\t", "n": b"\n", "r": b"\r", "0": b"\0", "\\": b"\\", "": b""}
+# What the program says of itself, and what that of `make check` says there.
+PROVED, UNPROVED = b"\nproved with rattle-kit", b"\nunproved by rattle-kit"
 SECONDS = 60
 
 
@@ -125,7 +129,7 @@ def differences(program, run, folder):
             os.close(stdin)
     if done.returncode != run.get("status", 0):
         yield f"status {done.returncode} instead of {run.get('status', 0)}"
-    for stream, found in ("out", done.stdout), ("err", done.stderr):
+    for stream, found in ("out", done.stdout.replace(UNPROVED, PROVED)), ("err", done.stderr):
         wanted = run.get(stream, b"")
         if found != wanted:
             lines = difflib.unified_diff(shown(wanted), shown(found), n=1, lineterm="")

@@ -22,11 +22,11 @@ pub(crate) trait DepthChanges {
     /// How many changes there are at most.
     ghost left: { Self → ℕ };
 
-    /// They are those of the depth by rank and position, from a position of the sequence of this rank on, up to which the depth is
-    /// the last number.
+    /// They are the changes of a depth by rank and position, from a position of the sequence of this rank on. The depth before that
+    /// position is the last number.
     ghost are_of: { Self → Sequences → (ℕ → ℕ → ℕ) → ℕ → ℕ → ℕ → Type 0 };
 
-    /// They are those of the depth by rank and position, from the sequence of this rank on.
+    /// They are the changes of a depth by rank and position, from the sequence of this rank on.
     ghost are_past: { Self → Sequences → (ℕ → ℕ → ℕ) → ℕ → Type 0 };
 
     /// The next position of the sequence of this rank at which the depth changes, and by how much. `None` if there is none.

@@ -8,4 +8,4 @@ mod rows;
 
 pub use fasta::Fasta;
 pub use lemmas::{fasta_or_first_fault, joined_lines_are_a_sequence};
-pub use rows::{FastaRows, complement, print_fasta, put_fasta};
+pub use rows::{FastaRows, complement, put_fasta};

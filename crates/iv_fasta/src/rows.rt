@@ -1,14 +1,13 @@
 //! The rows of getfasta, and the complement of bases.
 ghost use Rattle.std.specs.Prelude.{◌≡◌, [], if◌then◌else◌, length, codes};
 ghost use Rattle.iv_bytes.specs.Sinks.{Puts};
-ghost use Rattle.iv_fasta.specs.FastaRows.{bracketed, shown_strand as strand_of, shown_bases, fasta_rows, fasta_text};
+ghost use Rattle.iv_fasta.specs.FastaRows.{bracketed, shown_strand as strand_of, shown_bases, fasta_rows};
 ghost use Rattle.iv_fasta.specs.Inside.FastaRows.{front, opposite};
 ghost use Rattle.iv_fasta.specs.Complement.{complement as complement_of};
 
 use crate::fasta::Fasta;
 use iv_bytes::{Sink, WriteFault, put_all, put_pieces};
 use iv_text::{BedRecord, Genome, Strand};
-use iv_track::{Meter, Track};
 use std::alloc::Allocator;
 
 /// How getfasta shows records: the options `-s` and `-tab` of bedtools getfasta.
@@ -22,26 +21,6 @@ pub struct FastaRows {
 
 /// How many bases of an opposite strand are put at a time.
 const CHUNK: usize = 1024;
-
-/// Puts the rows of a getfasta: those of each record of the track, in its order.
-///
-/// One walk over the track, and no memory. On a fault the sink has taken a prefix of the text.
-pub fn print_fasta<A: Allocator + Copy, S: Sink>(
-    shown: FastaRows,
-    track: &Track<A>,
-    fasta: &Fasta<A>,
-    genome: &Genome<A>,
-    meter: &mut Meter,
-    sink: &mut S,
-) -> Result<(), WriteFault>
-    ensures { Puts (S.state sink.old) (S.state sink.new) result (fasta_text shown genome.now fasta.now track.now.rows) }
-{
-    let mut rows = track.walk(0, 0, meter);
-    while let Some(row) = rows.next(meter) {
-        put_fasta(shown, genome, row, fasta, sink)?;
-    }
-    Ok(())
-}
 
 /// Puts the row of a record, as bedtools getfasta does: nothing if the FASTA file lacks the record's sequence.
 ///

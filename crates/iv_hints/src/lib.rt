@@ -8,8 +8,6 @@ mod damage;
 mod exit_reason;
 mod file_kinds;
 mod files;
-#[cfg(test)]
-mod fixtures;
 mod hint;
 mod losses;
 mod mistake;
@@ -17,8 +15,6 @@ mod nearest;
 mod records;
 mod refusals;
 mod script;
-#[cfg(test)]
-mod tests;
 mod unknown_command;
 mod values;
 mod vocabulary;

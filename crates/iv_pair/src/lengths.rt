@@ -85,7 +85,7 @@ pub(crate) fn lengths_of<A: Allocator + Copy>(
     Ok(lengths)
 }
 
-/// A number of positions that no record on the sequence of this rank has more than: the greatest that is counted.
+/// The greatest length that is counted on the sequence of this rank: no record on it is longer.
 pub(crate) fn longest<A: Allocator + Copy>(lengths: &Lengths<A>, seq: u32, meter: &mut Meter) -> u64
     requires { IsTally lengths.now }
     ensures { (k : ℕ × ℕ) → k.0 ≡ seq → 0 < copies_by pair_cmp (expanded lengths.now) k → k.1 ≤ result }

@@ -1,8 +1,9 @@
-//! The second file of a session, and the rows that are made with it: intersect and subtract. The FASTA file and the rows of
-//! `iv_fasta` are re-exported.
+//! The second file of a session, and the rows that are made with it: intersect and subtract. The FASTA file of `iv_fasta` is
+//! re-exported, with the rows of getfasta over a track.
 #![tactic(auto)]
 
 mod count_sweep;
+mod getfasta;
 mod hit_finder;
 mod hits;
 mod intersect;
@@ -14,9 +15,10 @@ mod second;
 mod subtract;
 
 pub use count_sweep::CountSweep;
+pub use getfasta::print_fasta;
 pub use hits::{Hits, is_from, overlaps};
 pub use intersect::{Cross, IntersectRows, put_intersect};
-pub use iv_fasta::{Fasta, FastaRows, complement, print_fasta, put_fasta};
+pub use iv_fasta::{Fasta, FastaRows, complement, put_fasta};
 pub use lemmas::{overlap_is_a_shared_position, uncovered_parts_are_maximal};
 pub use pair_rows::{PairRows, needs_cover_alone, print_pairs, put_pair_rows};
 pub use pair_sweep::PairSweep;

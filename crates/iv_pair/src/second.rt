@@ -179,7 +179,7 @@ impl<A: Allocator + Copy> Second<A> {
         hits
     }
 
-    /// A number of positions that no record on the sequence of this rank has more than.
+    /// A length that no record on the sequence of this rank exceeds.
     pub(crate) fn longest(&self, seq: u32, meter: &mut Meter) -> u64
         ensures { AreUpTo seq result self.now.rows }
     {
@@ -199,7 +199,7 @@ impl<A: Allocator + Copy> Second<A> {
     }
 }
 
-/// A start before which no record starts that reaches past a position, if none has more than `longest` positions.
+/// The earliest start from which a record of at most `longest` bases can reach past a position.
 ///
 /// It is one that a walk may begin at.
 pub(crate) fn first_start(position: u64, longest: u64) -> u64

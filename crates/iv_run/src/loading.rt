@@ -30,8 +30,8 @@ pub struct Inputs<'a> {
 /// held as a `K`: all of it ([`Record`](iv_text::Record)), or its interval ([`Span`](iv_index::Span)).
 ///
 /// The genome file comes first, then the first file, the second, if there is one, and the FASTA file. A file that can't be
-/// read is reported before a damaged one, so each is read to its end, whatever the others are: if the genome file is damaged,
-/// the BED files are read on a genome of no sequence.
+/// read is reported before a damaged one, so every file is read to its end. After a damaged genome file the BED files are checked
+/// against an empty genome.
 #[derive(Drop)]
 pub struct Loading<K: FromRecord<A>, A: Allocator + Copy = Global> {
     alloc: A,

@@ -250,7 +250,7 @@ fn sweep<'t, A: Allocator + Copy, S: Sink>(
 }
 
 /// Sorts the records of a second file in the order of a track, for one print of these rows. If the rows depend only on the
-/// positions that it covers, its records are joined, so that few are gone over however many there are at one position.
+/// positions that it covers, overlapping records are joined first, so that many records at one position cost little.
 fn sort_beside<'t, A: Allocator + Copy>(
     alloc: A,
     rows: PairRows,

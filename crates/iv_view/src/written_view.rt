@@ -11,8 +11,8 @@ ghost use Rattle.iv_view.specs.declared.view.View.TheVariants.{Written};
 
 use crate::records::print_records;
 use iv_bytes::{Sink, WriteFault};
-use iv_fasta::{Fasta, FastaRows, print_fasta, put_fasta};
-use iv_pair::{PairRows, Second, print_pairs, put_pair_rows};
+use iv_fasta::{Fasta, FastaRows, put_fasta};
+use iv_pair::{PairRows, Second, print_fasta, print_pairs, put_pair_rows};
 use iv_text::{BedRecord, Genome, Record, put_line};
 use iv_track::{Meter, Region, Track};
 use std::alloc::Allocator;

@@ -1,10 +1,8 @@
-//! Tests of scripts: examples whose answers were worked out by hand, real sizes, limits, and devices that fail.
+//! Tests of scripts: in pieces, limits, and memory and devices that fail. Examples of what scripts print are in `tests/`.
 #![tactic(auto)]
 
 #[cfg(test)]
 mod bases;
-#[cfg(test)]
-mod blocks;
 #[cfg(test)]
 mod damaged;
 #[cfg(test)]
@@ -15,10 +13,6 @@ mod edits;
 mod failing;
 #[cfg(test)]
 mod fixtures;
-#[cfg(test)]
-mod genomes;
-#[cfg(test)]
-mod lengths;
 #[cfg(test)]
 mod many_views;
 #[cfg(test)]

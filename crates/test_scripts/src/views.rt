@@ -1,104 +1,10 @@
-//! Several views of a session: opening, closing, printing one and all.
-use crate::fixtures::{Example, check};
+//! What words ask for as a view.
 use iv_depth::DepthRows;
 use iv_fasta::FastaRows;
 use iv_pair::{IntersectRows, PairRows};
 use iv_session::ViewWords;
 use iv_view::{KeptView, ViewFault, WrittenView};
 use std::test::Fail;
-
-#[test]
-fn views_by_their_names(rt: HostRuntime) -> Result<(), Fail> {
-    let examples = [
-        // All views are printed in order of opening.
-        Example {
-            width: 3,
-            first: b"",
-            limit: 9,
-            script: b"open\tb\tmerge\nopen\ta\tmerge\nadd\tchr2\t1\t2\nprintall\nclose\tb\nprintall\n",
-            output: b"#b\nchr2\t1\t2\n#a\nchr2\t1\t2\n#a\nchr2\t1\t2\n",
-            messages: b"",
-            lines: 6,
-            refused: 0,
-            left: 1,
-        },
-        Example {
-            width: 3,
-            first: b"",
-            limit: 9,
-            script: b"open\ta\tmerge\nopen\t\tmerge\nopen\t0123456789abcdef0123456789abcdef0\tmerge\nopen\ta\tmerge\nopen\tc\t\nprint\tzz\nclose\tzz\nprint\nclose\nclose\t\nprintall\t\nopen\tc\nclose\ta\tb\n",
-            output: b"",
-            messages: b"line 2: bad view name\nline 3: bad view name\nline 4: view name taken\nline 5: bad options\nline 6: no such view\nline 7: no such view\nline 8: no such command or wrong fields\nline 9: no such command or wrong fields\nline 10: no such view\nline 11: no such command or wrong fields\nline 12: no such command or wrong fields\nline 13: no such command or wrong fields\n",
-            lines: 13,
-            refused: 12,
-            left: 0,
-        },
-    ];
-    check(&rt, &examples)
-}
-
-/// Depth in two views, over a sequence of length 0 too.
-#[test]
-fn depth_of_records(rt: HostRuntime) -> Result<(), Fail> {
-    let examples = [
-        // Book-ended records are one row, and what is left of them is another.
-        Example {
-            width: 3,
-            first: b"chr1\t20\t30\nchr1\t10\t20\n",
-            limit: 9,
-            script: b"open\tg\tgenomecov -bg\nopen\ta\tgenomecov -bga\nprint\tg\nremove\tchr1\t10\t20\nprintall\n",
-            output: b"chr1\t10\t30\t1\n#g\nchr1\t20\t30\t1\n#a\nchr1\t0\t20\t0\nchr1\t20\t30\t1\nchr1\t30\t100\t0\nchr2\t0\t50\t0\n",
-            messages: b"",
-            lines: 5,
-            refused: 0,
-            left: 1,
-        },
-        // Up to the end of a sequence.
-        Example {
-            width: 3,
-            first: b"",
-            limit: 9,
-            script: b"open\tg\tgenomecov -bg\nopen\ta\tgenomecov -bga\nadd\tchr1\t0\t100\nadd\tchr1\t50\t100\nprintall\n",
-            output: b"#g\nchr1\t0\t50\t1\nchr1\t50\t100\t2\n#a\nchr1\t0\t50\t1\nchr1\t50\t100\t2\nchr2\t0\t50\t0\n",
-            messages: b"",
-            lines: 5,
-            refused: 0,
-            left: 2,
-        },
-    ];
-    check(&rt, &examples)
-}
-
-/// What each sequence has left, of two kinds, while views are opened, closed and printed together.
-#[test]
-fn gaps_beside_blocks_and_depth(rt: HostRuntime) -> Result<(), Fail> {
-    let examples = [
-        Example {
-            width: 3,
-            first: b"",
-            limit: 9,
-            script: b"open\tb\tmerge\nopen\ta\tcomplement -L\nadd\tchr1\t10\t20\nprintall\nclose\tb\nopen\tb\tgenomecov -bg\nprintall\n",
-            output: b"#b\nchr1\t10\t20\n#a\nchr1\t0\t10\nchr1\t20\t100\n#a\nchr1\t0\t10\nchr1\t20\t100\n#b\nchr1\t10\t20\t1\n",
-            messages: b"",
-            lines: 7,
-            refused: 0,
-            left: 1,
-        },
-        // A sequence that is covered whole has no gap.
-        Example {
-            width: 3,
-            first: b"chr1\t0\t100\nchr1\t50\t100\n",
-            limit: 9,
-            script: b"open\tc\tcomplement\nopen\tl\tcomplement -L\nopen\tg\tgenomecov -bg -d\nopen\tg\tgenomecov\nprintall\n",
-            output: b"#c\nchr2\t0\t50\n#l\n",
-            messages: b"line 3: bad options\nline 4: bad options\n",
-            lines: 5,
-            refused: 2,
-            left: 2,
-        },
-    ];
-    check(&rt, &examples)
-}
 
 /// What words ask for on a track of three columns beside a second file.
 fn view_of(rt: &HostRuntime, words: &[&[u8]]) -> Result<ViewWords, ViewFault> {

@@ -1,7 +1,8 @@
 //! What getfasta prints of files.
 use crate::fasta_fixtures::{fasta_of, holds, track_of};
 use iv_bytes::MemSink;
-use iv_fasta::{Fasta, FastaRows, print_fasta};
+use iv_fasta::{Fasta, FastaRows};
+use iv_pair::print_fasta;
 use iv_text::Genome;
 use iv_track::{Meter, Track};
 use std::test::Fail;

@@ -1,9 +1,8 @@
 //! Hints, each beside what it is a hint on.
 use crate::fixtures::{MemHintFiles, Named, hints, words_of};
-use crate::refusals::hint_of_refusal;
-use crate::script::{Refusal, SeenScript};
 use iv_args::Slot;
 use iv_cli::ExitReason;
+use iv_hints::{Refusal, SeenScript, hint_of_refusal};
 use iv_text::{Fault, LoadCause, LoadFault};
 use std::alloc::{AllocError, Global};
 use std::test::Fail;

@@ -1,7 +1,7 @@
 use Rattle.std.proofs.Common.{◌≡◌, ◌∙◌}
 use Rattle.iv_bytes.proofs.PutLemmas.{Underway-begin, Underway-more, Underway-fails, Puts-err}
 use Rattle.iv_track.proofs.WalkLemmas.{filter-from_first}
-use Rattle.iv_fasta.proofs.rows.print_fasta.Goals as goal
+use Rattle.iv_pair.proofs.getfasta.print_fasta.Goals as goal
 
 pub loop-row-init : goal.loop-row-init
 loop-row-init g c =

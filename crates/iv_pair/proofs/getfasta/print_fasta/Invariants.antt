@@ -2,7 +2,7 @@ use Rattle.std.proofs.Common.{length}
 use Rattle.std.specs.List.{flat_map}
 use Rattle.iv_bytes.proofs.PutLemmas.{Underway}
 use Rattle.iv_fasta.specs.FastaRows.{fasta_rows, fasta_text}
-use Rattle.iv_fasta.proofs.rows.print_fasta.Given as goal
+use Rattle.iv_pair.proofs.getfasta.print_fasta.Given as goal
 
 -- the rows of the records that are left remain to be put
 abbrev pub invariant-loop-row : goal.invariant-loop-row

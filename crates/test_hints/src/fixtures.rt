@@ -1,8 +1,7 @@
 //! Files in memory, and hints over them.
-use crate::exit_reason::hint_of;
-use crate::files::{HintFiles, NoFile};
 use iv_bytes::MemSource;
 use iv_cli::ExitReason;
+use iv_hints::{HintFiles, NoFile, hint_of};
 use std::alloc::{AllocError, Global};
 
 /// A file in memory.

@@ -1,0 +1,7 @@
+//! Tests of hints.
+#![tactic(auto)]
+
+#[cfg(test)]
+mod fixtures;
+#[cfg(test)]
+mod hints;
