@@ -23,7 +23,7 @@ use Rattle.iv_workspace.specs.OpenViews.{Shown}
 use Rattle.iv_workspace.proofs.OpenViewLemmas.{current-named}
 
 -- the line above a view's text, and both
-abbrev name_line : List ℕ → List ℕ
+abbrev pub name_line : List ℕ → List ℕ
 name_line name = codes "#" ++ name ++ codes "\n"
 
 abbrev pub headed_text : Option Region → State → List ℕ × Shown → List ℕ

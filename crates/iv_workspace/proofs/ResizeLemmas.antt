@@ -186,7 +186,7 @@ session-resized inside s g views seq n same is new none =
 -- ---- what a resize answers
 
 -- the session with this length of the sequence of a rank, if there is one
-abbrev resized_if : State → Option ℕ → ℕ → Result State Fault
+abbrev pub resized_if : State → Option ℕ → ℕ → Result State Fault
 resized_if s at n = if_ok (ok_or at fault.UnknownSeq) (λ seq.
     if has_record_past s seq n then Err fault.Shorter
     else if has_other_bases s.bases seq n then Err fault.Fixed
@@ -218,7 +218,7 @@ resized-in inside s g name seq n same at past other is =
 -- ---- the bases of a FASTA file
 
 -- there is a count, and it is another
-abbrev is_other : Option ℕ → ℕ → Bool
+abbrev pub is_other : Option ℕ → ℕ → Bool
 is_other count n = option_map_or (λ k. not (k == n)) count false
 
 same-count : (o : Option (List ℕ)) (bases : List ℕ) (n : ℕ) → o ≡ Some bases → is_other (option_map length o) n ≡ false → length bases ≡ n

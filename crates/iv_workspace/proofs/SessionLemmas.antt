@@ -63,7 +63,7 @@ views-changed change inside s more same is =
     ap (λ (l : List (List ℕ × Shown)). record inside { views = l }) is ∙ ap (λ (u : State). record u { views = change u.views }) same
 
 -- an edit of the track, after which some views may be stale
-abbrev IsChangedTo : (Tracked → Tracked) → State → State → Type 0
+abbrev pub IsChangedTo : (Tracked → Tracked) → State → State → Type 0
 IsChangedTo change old new = (new ≡ record old { track = change old.track; views = new.views }) × Stales old.views new.views
 
 pub edited : (change : Tracked → Tracked) (inside s : State) (t : Tracked) (more : List (List ℕ × Shown)) → inside ≡ s → t ≡ change inside.track
