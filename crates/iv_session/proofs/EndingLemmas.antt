@@ -28,9 +28,9 @@ done-none old new before after most_lines most text summary known ran =
 -- the first line that passes a limit is not before the one that the run ended at
 from-line : (old new : State) (before after : Streams) (most_lines most n : ℕ) (cause : RunCause) (text : List ℕ)
     → before.input.coming ≡ Some text → (u : Stopped old new before after most_lines most n cause)
-    → first_over most_lines most 1 (line_sizes text) ≡ first_over most_lines most n (line_sizes (u.given ++ u.more))
+    → first_over most_lines most 1 (line_sizes text) ≡ first_over most_lines most n (line_sizes (u.at.given ++ u.at.more))
 from-line old new before after most_lines most n cause text known u =
-    let rest : List ℕ = u.given ++ u.more in
+    let rest : List ℕ = u.at.given ++ u.at.more in
     let is : text ≡ u.front ++ rest = known_text before.input text (u.front ++ rest) known u.input in
     let count : length (line_sizes u.front) ≡ length (lines u.front) = length-sizes u.front in
     let number : 1 + length (line_sizes u.front) ≡ n = omega (arith, count, u.number) in
@@ -44,7 +44,7 @@ pub stopped-noticed : (old new : State) (before after : Streams) (most_lines mos
     → before.input.coming ≡ Some text → Ran old new before after most_lines most (Err fault)
     → first_over most_lines most 1 (line_sizes text) ≡ Some n → fault.line ≤ n
 stopped-noticed old new before after most_lines most n text fault known ran is =
-    let rest : List ℕ = ran.given ++ ran.more in
+    let rest : List ℕ = ran.at.given ++ ran.at.more in
     over-low most_lines most fault.line n (line_sizes rest)
     (sym (from-line old new before after most_lines most fault.line fault.cause text known ran) ∙ is)
 
@@ -56,9 +56,9 @@ pub stopped-ran : (old new : State) (before after : Streams) (most_lines most n 
 stopped-ran old new before after most_lines most n text fault known ran sink is = go fault.cause ran sink
   where
     past : (cause : RunCause) (u : Stopped old new before after most_lines most fault.line cause)
-        → Keeps most_lines most fault.line (line_sizes (u.given ++ u.more)) → fault.line < n
+        → Keeps most_lines most fault.line (line_sizes (u.at.given ++ u.at.more)) → fault.line < n
     past cause u keeps =
-        over-past most_lines most fault.line n (line_sizes (u.given ++ u.more)) keeps
+        over-past most_lines most fault.line n (line_sizes (u.at.given ++ u.at.more)) keeps
         (sym (from-line old new before after most_lines most fault.line cause text known u) ∙ is)
 
     go : (cause : RunCause) → Stopped old new before after most_lines most fault.line cause
@@ -87,8 +87,8 @@ too_long-exact old new before after most_lines most n text (Err fault) known ran
     go TooLong u memory =
         let first : first_over most_lines most 1 (line_sizes text) ≡ Some fault.line =
         from-line old new before after most_lines most fault.line TooLong text known u
-        ∙ over-first most_lines most fault.line (line_sizes (u.given ++ u.more))
-        (passes-more most_lines most fault.line u.given u.more u.why) in
+        ∙ over-first most_lines most fault.line (line_sizes (u.at.given ++ u.at.more))
+        (passes-more most_lines most fault.line u.at.given u.at.more u.why) in
         (λ at. first ∙ ap (λ (k : ℕ). Some k) at.0, λ is. (some-inj fault.line n (sym first ∙ is), refl))
     go Input u memory = absurd (true≢false (sym u.source ∙ sound.0))
     go Output u memory = absurd (true≢false (sym u.last.texts.0.failed ∙ sound.1))

@@ -33,11 +33,6 @@ abbrev pub two_fields : List (List ℕ) → Result (List ℕ × List ℕ) Fault
 two_fields (field ∷ next ∷ []) = Ok (field, next)
 two_fields other = Err fault.Command
 
--- no field
-abbrev pub no_fields : List (List ℕ) → Result (Unit {0}) Fault
-no_fields [] = Ok tt
-no_fields other = Err fault.Command
-
 -- the length that a field means: 1 to 10 digits, and not above the greatest
 abbrev pub length_said : List ℕ → Result ℕ Fault
 length_said field = if_ok (ok_or (number field) fault.StopNumber) (λ n. if nat_le n most_length then Ok n else Err fault.StopNumber)
@@ -71,7 +66,7 @@ asked_by s word fields =
     else if bytes_eq word (codes "open") then if_ok (two_fields fields) (λ pair. Ok (request.Open pair.0 pair.1))
     else if bytes_eq word (codes "close") then if_ok (only_field fields) (λ name. Ok (request.Close name))
     else if bytes_eq word (codes "print") then if_ok (only_field fields) (λ name. Ok (request.Print name None))
-    else if bytes_eq word (codes "printall") then if_ok (no_fields fields) (λ none. Ok (request.PrintAll None))
+    else if bytes_eq word (codes "printall") then (if length fields == 0 then Ok (request.PrintAll None) else Err fault.Command)
     else if bytes_eq word (codes "show") then show_asked s fields
     else if bytes_eq word (codes "showall") then show_all_asked s fields
     else if bytes_eq word (codes "resize") then

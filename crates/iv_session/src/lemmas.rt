@@ -41,6 +41,6 @@ pub fn too_long_is_exact()
 
 /// A script that ends early has handed on all that the lines before wrote, if the output or the messages hold nothing back.
 pub fn lines_before_are_handed_on()
-    ensures output { (old new : State) (before after : Streams) (most_lines most n : ℕ) (cause : RunCause) (stopped : Stopped old new before after most_lines most n cause) → IsNone before.output.held → Appends before.output.reached stopped.reached.output.reached (flat_map (λ w. w.output) stopped.written) }
-    ensures messages { (old new : State) (before after : Streams) (most_lines most n : ℕ) (cause : RunCause) (stopped : Stopped old new before after most_lines most n cause) → IsNone before.messages.held → Appends before.messages.reached stopped.reached.messages.reached (messages_from 1 stopped.written) }
+    ensures output { (old new : State) (before after : Streams) (most_lines most n : ℕ) (cause : RunCause) (stopped : Stopped old new before after most_lines most n cause) → IsNone before.output.held → Appends before.output.reached stopped.at.streams.output.reached (flat_map (λ w. w.output) stopped.written) }
+    ensures messages { (old new : State) (before after : Streams) (most_lines most n : ℕ) (cause : RunCause) (stopped : Stopped old new before after most_lines most n cause) → IsNone before.messages.held → Appends before.messages.reached stopped.at.streams.messages.reached (messages_from 1 stopped.written) }
 {}

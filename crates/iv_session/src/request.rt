@@ -1,5 +1,5 @@
 //! What a line of a script asks for.
-ghost use Rattle.std.specs.Prelude.{◌≡◌, ◌≢◌, ◌<◌, ◌≤◌, ◌++◌, Err, None, IfOk, MatchOption, length, Ok};
+ghost use Rattle.std.specs.Prelude.{◌≡◌, ◌≢◌, ◌<◌, ◌≤◌, ◌++◌, Err, None, IfOk, MatchOption, length, Ok, ◌==◌, if◌then◌else◌};
 ghost use Rattle.iv_text.specs.Bytes.{tab};
 ghost use Rattle.iv_text.specs.Chains.{if_ok};
 ghost use Rattle.iv_text.specs.Fields.{columns as columns_of, fields_left};
@@ -8,7 +8,7 @@ ghost use Rattle.iv_text.specs.Read.{Fits, read_columns};
 ghost use Rattle.iv_workspace.specs.Edits.{EditFits};
 ghost use Rattle.iv_workspace.specs.States.{State};
 ghost use Rattle.iv_session.specs.EditLines.{edit_said};
-ghost use Rattle.iv_session.specs.Requests.{asked, asked_by, edit_asked, length_said, no_fields, only_field, show_all_asked, show_asked, two_fields as two_of};
+ghost use Rattle.iv_session.specs.Requests.{asked, asked_by, edit_asked, length_said, only_field, show_all_asked, show_asked, two_fields as two_of};
 ghost use Rattle.iv_session.specs.Inside.Requests.{RequestFits, both, read_two};
 ghost use Rattle.iv_session.specs.declared.request.Request.TheVariants as request;
 ghost use Rattle.iv_text.specs.Widths.{IsWidth};
@@ -182,10 +182,12 @@ impl<'a> Request<'a> {
 
     /// To print all views; there is no field.
     fn print_all(fields: Option<&'a [u8]>) -> Result<Request<'a>, Fault>
-        ensures value { result ≡ if_ok (no_fields (fields_left tab fields.entry)) (λ none. Ok (request.PrintAll None)) }
+        ensures value { result ≡ (if length (fields_left tab fields.entry) == 0 then Ok (request.PrintAll None) else Err Fault.Command) }
         ensures fits { (s : State) → IfOk result (RequestFits s) }
     {
-        no_field(fields)?;
+        if fields.is_some() {
+            return Err(Fault::Command);
+        }
         Ok(Request::PrintAll(None))
     }
 
@@ -230,16 +232,6 @@ impl<'a> Request<'a> {
         let region = session.region(sequence, start, stop)?;
         Ok(Request::PrintAll(Some(region)))
     }
-}
-
-/// There is no field after a command that takes none.
-fn no_field(fields: Option<&[u8]>) -> Result<(), Fault>
-    ensures { result ≡ no_fields (fields_left tab fields.entry) }
-{
-    if fields.is_some() {
-        return Err(Fault::Command);
-    }
-    Ok(())
 }
 
 /// The field after a command that takes one.

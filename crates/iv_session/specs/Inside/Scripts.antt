@@ -8,7 +8,6 @@ use Rattle.iv_session.specs.declared.line.Outcome.{Outcome}
 use Rattle.iv_session.specs.declared.script.RunCause.{RunCause}
 use Rattle.iv_session.specs.declared.line.Outcome.TheVariants as outcome
 use Rattle.iv_session.specs.declared.script.RunCause.TheVariants as cause
-use Rattle.iv_session.specs.Scripts.{FailedTexts}
 
 -- whether a line is refused, as a number
 abbrev pub refusal_count : Option (List ℕ) → ℕ
@@ -27,11 +26,17 @@ pub record RanLine (may : Written → Type 0) (n : ℕ) (out0 out1 said0 said1 :
   pub messages : Takes said0 said1 (message n written.refusal)
   pub count : refusal_count written.refusal ≡ refusals_of ended_as
 
+-- a sink failed at one of two texts, and the other was put
+abbrev pub FailsAt : RunCause → SinkState → SinkState → SinkState → SinkState → List ℕ → List ℕ → Type 0
+FailsAt cause.Output out0 out1 said0 said1 output messages = FailsIn out0 out1 output × Takes said0 said1 []
+FailsAt cause.Messages out0 out1 said0 said1 output messages = Takes out0 out1 output × FailsIn said0 said1 messages
+FailsAt other out0 out1 said0 said1 output messages = ⊥
+
 -- one line was run that may write this, and a sink failed at one of its texts
 pub record FailedLine (may : Written → Type 0) (n : ℕ) (out0 out1 said0 said1 : SinkState) (failed : RunCause) : Type 0 where
   pub written : Written
   pub makes : may written
-  pub texts : FailedTexts failed out0 out1 said0 said1 written.output (message n written.refusal)
+  pub texts : FailsAt failed out0 out1 said0 said1 written.output (message n written.refusal)
 
 -- a line that was not done is reported, by the number of its fault; without one the output failed
 abbrev pub Tells : Option ℕ → ℕ → SinkState → SinkState → Result Outcome RunCause → Type 0
