@@ -4,7 +4,6 @@ use Rattle.iv_bytes.proofs.PutLemmas.{Takes-append}
 use Rattle.iv_bytes.specs.Sinks.{SinkState, Takes, waiting}
 use Rattle.iv_workspace.specs.States.{State}
 use Rattle.iv_session.specs.Endings.{Ran}
-use Rattle.iv_session.specs.ScriptLines.{RunsLine}
 use Rattle.iv_session.specs.Scripts.{Done}
 use Rattle.iv_session.specs.Streams.{Streams}
 use Rattle.iv_session.specs.declared.script.RunCause.{RunCause}
@@ -120,7 +119,7 @@ script-done plan texts before reached after ended line runs is flushed = by runs
       begins = begins;
       reached = reached;
       count = summary.lines;
-      runs = subst (λ (n : ℕ). Done RunsLine s new before reached plan.limit most_line_bytes summary.lines n)
+      runs = subst (λ (n : ℕ). Done s new before reached plan.limit most_line_bytes summary.lines n)
           (none-refused summary.refused (summary.refused == 0) refl e) ran;
       flushed = flushed;
     }

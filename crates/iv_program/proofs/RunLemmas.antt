@@ -9,7 +9,6 @@ use Rattle.iv_text.specs.declared.fault.Fault.{Fault}
 use Rattle.iv_text.specs.declared.fault.Fault.TheVariants as refused
 use Rattle.iv_workspace.specs.States.{State}
 use Rattle.iv_session.specs.Endings.{Ran}
-use Rattle.iv_session.specs.ScriptLines.{RunsLine, RunsLast}
 use Rattle.iv_session.specs.Scripts.{Done}
 use Rattle.iv_session.specs.Stops.{Stopped}
 use Rattle.iv_session.specs.Streams.{Streams}
@@ -158,8 +157,8 @@ report-of plan texts known bases r says report =
     (report texts.sizes texts.first texts.other says.known_is)))
 
 pub ran-of : (old new : State) (before after : Streams) (lines most : ℕ) (r : Result Summary RunFault)
-    → IfOk r (λ summary. Done RunsLine old new before after lines most summary.lines summary.refused)
-    → IfErr r (λ why. Stopped RunsLine RunsLast old new before after lines most why.line why.cause)
+    → IfOk r (λ summary. Done old new before after lines most summary.lines summary.refused)
+    → IfErr r (λ why. Stopped old new before after lines most why.line why.cause)
     → Ran old new before after lines most r
 ran-of old new before after lines most (Ok summary) done stopped = done
 ran-of old new before after lines most (Err why) done stopped = stopped

@@ -2,7 +2,6 @@
 use Rattle.std.specs.Prelude.{◌≡◌, ◌≤◌, ℕ, List, [], Bool, true, false, Option, None, Some, Result, Ok, Err, length}
 use Rattle.iv_bytes.specs.Sinks.{Takes}
 use Rattle.iv_workspace.specs.States.{State}
-use Rattle.iv_session.specs.ScriptLines.{RunsLine}
 use Rattle.iv_session.specs.Scripts.{Done}
 use Rattle.iv_session.specs.Streams.{Streams}
 use Rattle.iv_args.specs.Words.{RunPlan, is_session}
@@ -27,7 +26,7 @@ pub record RunsAll (plan : RunPlan) (texts : Texts) (before after : Streams) : T
   pub begins : loaded plan.width texts.sizes texts.first texts.other texts.bases plan.limit ≡ Ok old
   pub reached : Streams
   pub count : ℕ
-  pub runs : Done RunsLine old new before reached plan.limit most_line_bytes count 0
+  pub runs : Done old new before reached plan.limit most_line_bytes count 0
   pub flushed : Takes reached.output after.output []
 
 -- all that a plan asks for was done with these texts

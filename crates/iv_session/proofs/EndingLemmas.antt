@@ -1,9 +1,9 @@
 -- What follows from the end of a run about the limits.
 use Rattle.std.proofs.Common.{◌≡◌, ◌≢◌, ℕ, ◌+◌, ◌≤◌, ◌<◌, ◌++◌, ◌⊎◌, inl, inr, List, length, Option, Some, None, Result, Ok, Err, IfSome, ◌↔◌, refl, sym, ap, ◌∙◌, subst, arith, true≢false}
 use Rattle.iv_bytes.specs.Sources.{SourceState, IsInput}
+use Rattle.iv_text.specs.Lines.{lines}
 use Rattle.iv_session.specs.Endings.{Ran, AreSound, HadMemory, IsTooLongAt}
 use Rattle.iv_session.specs.Limits.{line_sizes, Keeps, first_over}
-use Rattle.iv_session.specs.ScriptLines.{RunsLine, RunsLast}
 use Rattle.iv_session.specs.Stops.{Stopped}
 use Rattle.iv_session.specs.Streams.{Streams}
 use Rattle.iv_session.specs.declared.script.RunCause.{RunCause}
@@ -27,12 +27,12 @@ done-none old new before after most_lines most text summary known ran =
 
 -- the first line that passes a limit is not before the one that the run ended at
 from-line : (old new : State) (before after : Streams) (most_lines most n : ℕ) (cause : RunCause) (text : List ℕ)
-    → before.input.coming ≡ Some text → (u : Stopped RunsLine RunsLast old new before after most_lines most n cause)
-    → first_over most_lines most 1 (line_sizes text) ≡ first_over most_lines most n (line_sizes (u.given ++ u.more))
+    → before.input.coming ≡ Some text → (u : Stopped old new before after most_lines most n cause)
+    → first_over most_lines most 1 (line_sizes text) ≡ first_over most_lines most n (line_sizes (u.at.given ++ u.at.more))
 from-line old new before after most_lines most n cause text known u =
-    let rest : List ℕ = u.given ++ u.more in
+    let rest : List ℕ = u.at.given ++ u.at.more in
     let is : text ≡ u.front ++ rest = known_text before.input text (u.front ++ rest) known u.input in
-    let count : length (line_sizes u.front) ≡ length u.done = length-sizes u.front ∙ ap length u.front_lines in
+    let count : length (line_sizes u.front) ≡ length (lines u.front) = length-sizes u.front in
     let number : 1 + length (line_sizes u.front) ≡ n = omega (arith, count, u.number) in
     let few : 1 + length (line_sizes u.front) ≤ most_lines + 1 = omega (arith, u.within.0) in
     ap (λ (l : List ℕ). first_over most_lines most 1 (line_sizes l)) is
@@ -44,7 +44,7 @@ pub stopped-noticed : (old new : State) (before after : Streams) (most_lines mos
     → before.input.coming ≡ Some text → Ran old new before after most_lines most (Err fault)
     → first_over most_lines most 1 (line_sizes text) ≡ Some n → fault.line ≤ n
 stopped-noticed old new before after most_lines most n text fault known ran is =
-    let rest : List ℕ = ran.given ++ ran.more in
+    let rest : List ℕ = ran.at.given ++ ran.at.more in
     over-low most_lines most fault.line n (line_sizes rest)
     (sym (from-line old new before after most_lines most fault.line fault.cause text known ran) ∙ is)
 
@@ -55,16 +55,16 @@ pub stopped-ran : (old new : State) (before after : Streams) (most_lines most n 
     → first_over most_lines most 1 (line_sizes text) ≡ Some n → fault.line < n
 stopped-ran old new before after most_lines most n text fault known ran sink is = go fault.cause ran sink
   where
-    past : (cause : RunCause) (u : Stopped RunsLine RunsLast old new before after most_lines most fault.line cause)
-        → Keeps most_lines most fault.line (line_sizes (u.given ++ u.more)) → fault.line < n
+    past : (cause : RunCause) (u : Stopped old new before after most_lines most fault.line cause)
+        → Keeps most_lines most fault.line (line_sizes (u.at.given ++ u.at.more)) → fault.line < n
     past cause u keeps =
-        over-past most_lines most fault.line n (line_sizes (u.given ++ u.more)) keeps
+        over-past most_lines most fault.line n (line_sizes (u.at.given ++ u.at.more)) keeps
         (sym (from-line old new before after most_lines most fault.line cause text known u) ∙ is)
 
-    go : (cause : RunCause) → Stopped RunsLine RunsLast old new before after most_lines most fault.line cause
+    go : (cause : RunCause) → Stopped old new before after most_lines most fault.line cause
         → (cause ≡ Output) ⊎ (cause ≡ Messages) → fault.line < n
-    go Output u sink = past Output u u.why.0
-    go Messages u sink = past Messages u u.why.0
+    go Output u sink = past Output u u.why
+    go Messages u sink = past Messages u u.why
     go Input u (inl other) = absurd (cc other)
     go Input u (inr other) = absurd (cc other)
     go TooLong u (inl other) = absurd (cc other)
@@ -82,15 +82,15 @@ too_long-exact old new before after most_lines most n text (Ok summary) known ra
 )
 too_long-exact old new before after most_lines most n text (Err fault) known ran sound memory = go fault.cause ran memory
   where
-    go : (cause : RunCause) → Stopped RunsLine RunsLast old new before after most_lines most fault.line cause → cause ≢ Memory
+    go : (cause : RunCause) → Stopped old new before after most_lines most fault.line cause → cause ≢ Memory
         → ((fault.line ≡ n) × (cause ≡ TooLong)) ↔ (first_over most_lines most 1 (line_sizes text) ≡ Some n)
     go TooLong u memory =
         let first : first_over most_lines most 1 (line_sizes text) ≡ Some fault.line =
         from-line old new before after most_lines most fault.line TooLong text known u
-        ∙ over-first most_lines most fault.line (line_sizes (u.given ++ u.more))
-        (passes-more most_lines most fault.line u.given u.more u.why.0) in
+        ∙ over-first most_lines most fault.line (line_sizes (u.at.given ++ u.at.more))
+        (passes-more most_lines most fault.line u.at.given u.at.more u.why) in
         (λ at. first ∙ ap (λ (k : ℕ). Some k) at.0, λ is. (some-inj fault.line n (sym first ∙ is), refl))
     go Input u memory = absurd (true≢false (sym u.source ∙ sound.0))
-    go Output u memory = absurd (true≢false (sym u.why.1.texts.0.failed ∙ sound.1))
-    go Messages u memory = absurd (true≢false (sym u.why.1.texts.1.failed ∙ sound.2))
+    go Output u memory = absurd (true≢false (sym u.last.texts.0.failed ∙ sound.1))
+    go Messages u memory = absurd (true≢false (sym u.last.texts.1.failed ∙ sound.2))
     go Memory u memory = absurd (memory refl)

@@ -10,10 +10,10 @@ use Rattle.iv_session.specs.ScriptLines.{RunsLine}
 use Rattle.iv_session.specs.Scripts.{Steps}
 use Rattle.iv_workspace.specs.OpenViews.{Shown}
 use Rattle.iv_track.specs.Edits.{with_record}
-use Rattle.iv_workspace.specs.States.{State, with_track}
+use Rattle.iv_workspace.specs.States.{State}
 use Rattle.iv_workspace.specs.Views.{view_asked, all_text, text_in}
 use Rattle.iv_view.specs.Views.{read_words}
-use Rattle.iv_session.specs.Written.{Written, printed, refused_by}
+use Rattle.iv_session.specs.Written.{Written, refused_by}
 use Rattle.iv_session.specs.declared.request.Request.TheVariants as request
 use Rattle.iv_workspace.specs.declared.session.edits.Edit.TheVariants as edit
 use Rattle.iv_workspace.specs.declared.session.edits.Target.TheVariants as target
@@ -55,10 +55,10 @@ abbrev with_a_view : State
 with_a_view = record empty { views = (codes "m", merging) ∷ [] }
 
 abbrev with_one : State
-with_one = with_track with_a_view (with_record first_row)
+with_one = record with_a_view { track = with_record first_row with_a_view.track }
 
 abbrev with_two : State
-with_two = with_track with_one (with_record second_row)
+with_two = record with_one { track = with_record second_row with_one.track }
 
 pub comments-ask_nothing : asked empty (codes "# a note") ≡ Ok request.Nothing
 comments-ask_nothing = refl
@@ -109,23 +109,26 @@ script =
     (codes "print" ++ tab ++ codes "m") ∷
     (codes "add" ++ tab ++ codes "chr1" ++ tab ++ codes "90" ++ tab ++ codes "101") ∷ []
 
+abbrev printed : List ℕ → Written
+printed text = record { output = text; refusal = None }
+
 abbrev silent : Written
 silent = printed []
 
-pub script-steps : Steps RunsLine empty script (silent ∷ silent ∷ silent ∷ printed (text_in None with_two plain_merge) ∷ refused_by fault.PastEnd ∷ []) with_two
+pub script-steps : Steps empty script (silent ∷ silent ∷ silent ∷ printed (text_in None with_two plain_merge) ∷ refused_by fault.PastEnd ∷ []) with_two
 script-steps = (
   with_a_view,
-  inl ([], ((plain_merge, refl, refl), refl), refl),
+  inl (((plain_merge, refl, refl), refl), refl),
   (
     with_one,
-    inl ([], ((omega arith, (refl, (refl, refl, (λ stale. stale), (λ none. refl), tt))), refl), refl),
+    inl (((omega arith, refl, ((refl, refl, (λ stale. stale), (λ none. refl)), tt)), refl), refl),
     (
       with_two,
-      inl ([], ((omega arith, (refl, (refl, refl, (λ stale. stale), (λ none. refl), tt))), refl), refl),
+      inl (((omega arith, refl, ((refl, refl, (λ stale. stale), (λ none. refl)), tt)), refl), refl),
       (
         with_two,
-        inl (text_in None with_two plain_merge, (merging, refl, refl, refl), refl),
-        (with_two, inr (fault.PastEnd, refl, refl, refl), refl),
+        inl ((merging, refl, refl, refl), refl),
+        (with_two, (refl, refl), refl),
       ),
     ),
   ),
@@ -136,13 +139,13 @@ abbrev with_stale : State
 with_stale = record with_one { views = (codes "m", record { view = plain_merge; stale = true }) ∷ [] }
 
 pub edits-may_leave_a_view_stale : RunsLine with_a_view (codes "add" ++ tab ++ codes "chr1" ++ tab ++ codes "10" ++ tab ++ codes "20") with_stale silent
-edits-may_leave_a_view_stale = inl ([], ((omega arith, (refl, (refl, refl, (λ stale. refl), (λ none. absurd (cc (none))), tt))), refl), refl)
+edits-may_leave_a_view_stale = inl (((omega arith, refl, ((refl, refl, (λ stale. refl), (λ none. absurd (cc (none)))), tt)), refl), refl)
 
 pub prints-may_want_memory : RunsLine with_stale (codes "print" ++ tab ++ codes "m") with_stale (refused_by fault.NoMemory)
 prints-may_want_memory = inr (fault.NoMemory, (record { view = plain_merge; stale = true }, refl, refl), refl, refl)
 
 pub prints-make_a_view_current : RunsLine with_stale (codes "print" ++ tab ++ codes "m") with_one (printed (text_in None with_one plain_merge))
-prints-make_a_view_current = inl (text_in None with_one plain_merge, (record { view = plain_merge; stale = true }, refl, refl, refl), refl)
+prints-make_a_view_current = inl ((record { view = plain_merge; stale = true }, refl, refl, refl), refl)
 
 -- ---- a second file
 

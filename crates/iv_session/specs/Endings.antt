@@ -1,7 +1,6 @@
 -- How a run of a script ends, as its contract has it.
 use Rattle.std.specs.Prelude.{◌≡◌, ◌≢◌, ℕ, ⊤, false, Result, Ok, Err}
 use Rattle.iv_workspace.specs.States.{State}
-use Rattle.iv_session.specs.ScriptLines.{RunsLine, RunsLast}
 use Rattle.iv_session.specs.Scripts.{Done}
 use Rattle.iv_session.specs.Stops.{Stopped}
 use Rattle.iv_session.specs.Streams.{Streams}
@@ -11,10 +10,8 @@ use Rattle.iv_session.specs.declared.script.Summary.{Summary}
 
 -- a run led from one session to another, and from these streams to those, and ended like this
 abbrev pub Ran : State → State → Streams → Streams → ℕ → ℕ → Result Summary RunFault → Type 0
-Ran old new before after most_lines most (Ok summary) =
-    Done RunsLine old new before after most_lines most summary.lines summary.refused
-Ran old new before after most_lines most (Err fault) =
-    Stopped RunsLine RunsLast old new before after most_lines most fault.line fault.cause
+Ran old new before after most_lines most (Ok summary) = Done old new before after most_lines most summary.lines summary.refused
+Ran old new before after most_lines most (Err fault) = Stopped old new before after most_lines most fault.line fault.cause
 
 -- none of the streams is failed
 abbrev pub AreSound : Streams → Type 0

@@ -1,15 +1,15 @@
 //! Lemmas on the definitions: functions that do nothing, whose contracts are the lemmas.
 ghost use Rattle.std.specs.Prelude.{◌≡◌, ◌↔◌, ◌⊎◌, ℕ, ◌+◌, ◌≤◌, ◌<◌, ◌++◌, ◌∷◌, [], List, Some, None, Result, Ok, Err, length, IsNone};
 ghost use Rattle.std.specs.Io.KnownBytes.{Appends};
+ghost use Rattle.std.specs.List.{flat_map};
 ghost use Rattle.iv_text.specs.Bytes.{line_feed};
 ghost use Rattle.iv_text.specs.Lines.{lines, HasNoFeed};
 ghost use Rattle.iv_workspace.specs.States.{State};
 ghost use Rattle.iv_session.specs.Endings.{Ran, AreSound, HadMemory, IsTooLongAt};
 ghost use Rattle.iv_session.specs.Limits.{line_sizes, AreWithin, Passes, first_over};
-ghost use Rattle.iv_session.specs.ScriptLines.{RunsLine, RunsLast};
 ghost use Rattle.iv_session.specs.Stops.{Stopped};
 ghost use Rattle.iv_session.specs.Streams.{Streams};
-ghost use Rattle.iv_session.specs.Written.{outputs, messages_from};
+ghost use Rattle.iv_session.specs.Written.{messages_from};
 ghost use Rattle.iv_session.specs.declared.script.RunCause.{RunCause};
 ghost use Rattle.iv_session.specs.declared.script.RunCause.TheVariants.{Output, Messages};
 ghost use Rattle.iv_session.specs.declared.script.RunFault.{RunFault};
@@ -41,6 +41,6 @@ pub fn too_long_is_exact()
 
 /// A script that ends early has handed on all that the lines before wrote, if the output or the messages hold nothing back.
 pub fn lines_before_are_handed_on()
-    ensures output { (old new : State) (before after : Streams) (most_lines most n : ℕ) (cause : RunCause) (stopped : Stopped RunsLine RunsLast old new before after most_lines most n cause) → IsNone before.output.held → Appends before.output.reached stopped.reached.output.reached (outputs stopped.written) }
-    ensures messages { (old new : State) (before after : Streams) (most_lines most n : ℕ) (cause : RunCause) (stopped : Stopped RunsLine RunsLast old new before after most_lines most n cause) → IsNone before.messages.held → Appends before.messages.reached stopped.reached.messages.reached (messages_from 1 stopped.written) }
+    ensures output { (old new : State) (before after : Streams) (most_lines most n : ℕ) (cause : RunCause) (stopped : Stopped old new before after most_lines most n cause) → IsNone before.output.held → Appends before.output.reached stopped.at.streams.output.reached (flat_map (λ w. w.output) stopped.written) }
+    ensures messages { (old new : State) (before after : Streams) (most_lines most n : ℕ) (cause : RunCause) (stopped : Stopped old new before after most_lines most n cause) → IsNone before.messages.held → Appends before.messages.reached stopped.at.streams.messages.reached (messages_from 1 stopped.written) }
 {}

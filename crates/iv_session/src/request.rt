@@ -1,14 +1,15 @@
 //! What a line of a script asks for.
-ghost use Rattle.std.specs.Prelude.{◌≡◌, ◌≢◌, ◌<◌, ◌≤◌, ◌++◌, Err, None, IfOk, MatchOption, length};
+ghost use Rattle.std.specs.Prelude.{◌≡◌, ◌≢◌, ◌<◌, ◌≤◌, ◌++◌, Err, None, IfOk, MatchOption, length, Ok, ◌==◌, if◌then◌else◌};
 ghost use Rattle.iv_text.specs.Bytes.{tab};
+ghost use Rattle.iv_text.specs.Chains.{if_ok};
 ghost use Rattle.iv_text.specs.Fields.{columns as columns_of, fields_left};
 ghost use Rattle.iv_text.specs.Genome.{most_length};
 ghost use Rattle.iv_text.specs.Read.{Fits, read_columns};
 ghost use Rattle.iv_workspace.specs.Edits.{EditFits};
 ghost use Rattle.iv_workspace.specs.States.{State};
-ghost use Rattle.iv_session.specs.EditLines.{both, edit_said, read_two};
-ghost use Rattle.iv_session.specs.Requests.{asked, asked_by, edit_asked, length_said, name_and_length, no_fields, of_fields, only_field, show_all_asked, show_asked, two_fields as two_of};
-ghost use Rattle.iv_session.specs.Inside.Requests.{RequestFits};
+ghost use Rattle.iv_session.specs.EditLines.{edit_said};
+ghost use Rattle.iv_session.specs.Requests.{asked, asked_by, edit_asked, length_said, only_field, show_all_asked, show_asked, two_fields as two_of};
+ghost use Rattle.iv_session.specs.Inside.Requests.{RequestFits, both, read_two};
 ghost use Rattle.iv_session.specs.declared.request.Request.TheVariants as request;
 ghost use Rattle.iv_text.specs.Widths.{IsWidth};
 
@@ -148,7 +149,7 @@ impl<'a> Request<'a> {
 
     /// To give the sequence of the first field the length of the second.
     fn resize(fields: Option<&'a [u8]>) -> Result<Request<'a>, Fault>
-        ensures value { result ≡ of_fields (λ pair. request.Resize pair.0 pair.1) (name_and_length (two_of (fields_left tab fields.entry))) }
+        ensures value { result ≡ if_ok (two_of (fields_left tab fields.entry)) (λ pair. if_ok (length_said pair.1) (λ n. Ok (request.Resize pair.0 n))) }
         ensures fits { (s : State) → IfOk result (RequestFits s) }
     {
         let (name, field) = two_fields(fields)?;
@@ -158,7 +159,7 @@ impl<'a> Request<'a> {
 
     /// To open a view under the first field, by the words of the second.
     fn open(fields: Option<&'a [u8]>) -> Result<Request<'a>, Fault>
-        ensures { result ≡ of_fields (λ pair. request.Open pair.0 pair.1) (two_of (fields_left tab fields.entry)) }
+        ensures { result ≡ if_ok (two_of (fields_left tab fields.entry)) (λ pair. Ok (request.Open pair.0 pair.1)) }
     {
         let (name, words) = two_fields(fields)?;
         Ok(Request::Open(name, words))
@@ -166,14 +167,14 @@ impl<'a> Request<'a> {
 
     /// To close the view of the one field.
     fn close(fields: Option<&'a [u8]>) -> Result<Request<'a>, Fault>
-        ensures { result ≡ of_fields (λ name. request.Close name) (only_field (fields_left tab fields.entry)) }
+        ensures { result ≡ if_ok (only_field (fields_left tab fields.entry)) (λ name. Ok (request.Close name)) }
     {
         Ok(Request::Close(one_field(fields)?))
     }
 
     /// To print the view of the one field.
     fn print(fields: Option<&'a [u8]>) -> Result<Request<'a>, Fault>
-        ensures value { result ≡ of_fields (λ name. request.Print name None) (only_field (fields_left tab fields.entry)) }
+        ensures value { result ≡ if_ok (only_field (fields_left tab fields.entry)) (λ name. Ok (request.Print name None)) }
         ensures fits { (s : State) → IfOk result (RequestFits s) }
     {
         Ok(Request::Print(one_field(fields)?, None))
@@ -181,10 +182,12 @@ impl<'a> Request<'a> {
 
     /// To print all views; there is no field.
     fn print_all(fields: Option<&'a [u8]>) -> Result<Request<'a>, Fault>
-        ensures value { result ≡ of_fields (λ none. request.PrintAll None) (no_fields (fields_left tab fields.entry)) }
+        ensures value { result ≡ (if length (fields_left tab fields.entry) == 0 then Ok (request.PrintAll None) else Err Fault.Command) }
         ensures fits { (s : State) → IfOk result (RequestFits s) }
     {
-        no_field(fields)?;
+        if fields.is_some() {
+            return Err(Fault::Command);
+        }
         Ok(Request::PrintAll(None))
     }
 
@@ -229,16 +232,6 @@ impl<'a> Request<'a> {
         let region = session.region(sequence, start, stop)?;
         Ok(Request::PrintAll(Some(region)))
     }
-}
-
-/// There is no field after a command that takes none.
-fn no_field(fields: Option<&[u8]>) -> Result<(), Fault>
-    ensures { result ≡ no_fields (fields_left tab fields.entry) }
-{
-    if fields.is_some() {
-        return Err(Fault::Command);
-    }
-    Ok(())
 }
 
 /// The field after a command that takes one.

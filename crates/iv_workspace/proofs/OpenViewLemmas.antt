@@ -109,7 +109,7 @@ stales-steps [] [] rows r less = omega arith
 stales-steps [] (w ∷ new) rows r less = absurd less
 stales-steps (v ∷ old) [] rows r less = absurd less
 stales-steps (v ∷ old) (w ∷ new) rows r less =
-    omega (arith, one v.1 w.1 less.1 less.2, stales-steps old new rows r less.4)
+    omega (arith, one v.1 w.1 less.0.1 less.0.2, stales-steps old new rows r less.1)
   where
     one : (v w : Shown) → w.view ≡ v.view → (v.stale ≡ true → w.stale ≡ true) → view_steps w rows r ≤ view_steps v rows r
     one v w view stays = by v.stale w.stale _ _ (ap (λ (s : View). repair_steps_of s rows r) view) stays
@@ -126,11 +126,13 @@ stales-trans [] (m ∷ mid) new first second = absurd first
 stales-trans (v ∷ old) [] new first second = absurd first
 stales-trans (v ∷ old) (m ∷ mid) [] first second = absurd second
 stales-trans (v ∷ old) (m ∷ mid) (w ∷ new) first second = (
-  second.0 ∙ first.0,
-  second.1 ∙ first.1,
-  λ stale. second.2 (first.2 stale),
-  λ none. second.3 (ap state_key_of first.1 ∙ none) ∙ first.3 none,
-  stales-trans old mid new first.4 second.4,
+  (
+    second.0.0 ∙ first.0.0,
+    second.0.1 ∙ first.0.1,
+    λ stale. second.0.2 (first.0.2 stale),
+    λ none. second.0.3 (ap state_key_of first.0.1 ∙ none) ∙ first.0.3 none,
+  ),
+  stales-trans old mid new first.1 second.1,
 )
 
 -- ---- the view at an index
@@ -170,27 +172,27 @@ midway-at {V} Done P old es place v mid found all =
 
 pub stales-same : (views : List (List ℕ × Shown)) → Stales views views
 stales-same [] = tt
-stales-same (v ∷ views) = (refl, refl, λ stale. stale, λ none. refl, stales-same views)
+stales-same (v ∷ views) = ((refl, refl, λ stale. stale, λ none. refl), stales-same views)
 
 pub stales-append : (old new old2 new2 : List (List ℕ × Shown)) → Stales old new → Stales old2 new2 → Stales (old ++ old2) (new ++ new2)
 stales-append [] [] old2 new2 a b = b
 stales-append [] (w ∷ new) old2 new2 a b = absurd a
 stales-append (v ∷ old) [] old2 new2 a b = absurd a
-stales-append (v ∷ old) (w ∷ new) old2 new2 a b = (a.0, a.1, a.2, a.3, stales-append old new old2 new2 a.4 b)
+stales-append (v ∷ old) (w ∷ new) old2 new2 a b = (a.0, stales-append old new old2 new2 a.1 b)
 
 pub freshens-same : (views : List (List ℕ × Shown)) → Freshens views views
 freshens-same [] = tt
-freshens-same (v ∷ views) = (refl, refl, λ stale. stale, freshens-same views)
+freshens-same (v ∷ views) = ((refl, refl, λ stale. stale), freshens-same views)
 
 pub freshens-all : (views : List (List ℕ × Shown)) → Freshens views (all_current views)
 freshens-all [] = tt
-freshens-all (v ∷ views) = (refl, refl, λ e. absurd (cc (e)), freshens-all views)
+freshens-all (v ∷ views) = ((refl, refl, λ e. absurd (cc (e))), freshens-all views)
 
 pub freshens-one : (views : List (List ℕ × Shown)) (name : List ℕ) → Freshens views (with_current views name)
 freshens-one [] name = tt
 freshens-one (v ∷ views) name = elim (bytes_eq name v.0) as (λ b. Freshens (v ∷ views) (cond b ((v.0, current v.1) ∷ views) (v ∷ with_current views name))) [
-  | true ↦ (refl, refl, λ e. absurd (cc (e)), freshens-same views)
-  | false ↦ (refl, refl, λ stale. stale, freshens-one views name)
+  | true ↦ ((refl, refl, λ e. absurd (cc (e))), freshens-same views)
+  | false ↦ ((refl, refl, λ stale. stale), freshens-one views name)
 ]
 
 pub seen-append : {A : Type 0} (xs ys : List (List ℕ × OpenView A)) → all_seen (xs ++ ys) ≡ all_seen xs ++ all_seen ys

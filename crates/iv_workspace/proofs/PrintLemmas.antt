@@ -2,7 +2,7 @@
 use Rattle.std.proofs.lemmas.Option.{slice_get-map, slice_get_within, slice_get_cases, get_or_from_slice_get}
 use Rattle.std.proofs.lemmas.List.Elements.{All-from_recursion}
 use Rattle.std.proofs.Common.{◌+◌, drop, get_or, append_assoc, add-one, drop-cons, inl, inr, length, slice_get, ◌≤◌, ◌≡◌, ℕ, List, [], ◌∷◌, ◌++◌, Option, None, Some, Result, Ok, Err, false, refl, sym, ap, ap₂, subst, ◌∙◌}
-use Rattle.std.specs.Prelude.{All, MatchOption, MatchResult, IsSomeAnd}
+use Rattle.std.specs.Prelude.{All, codes, MatchOption, MatchResult, IsSomeAnd}
 use Rattle.std.specs.List.{flat_map, AllByRecursion}
 use Rattle.std.specs.Map.{lookup}
 use Rattle.std.specs.Option.{option_map}
@@ -14,13 +14,20 @@ use Rattle.iv_workspace.specs.declared.views.OpenView.{OpenView}
 use Rattle.iv_workspace.specs.Inside.ViewStates.{seen}
 use Rattle.iv_workspace.specs.Inside.ViewStates.{all_seen}
 use Rattle.iv_workspace.specs.OpenViews.{current, all_current, with_current}
-use Rattle.iv_workspace.specs.Prints.{PrintedAll, PrintedView, with_all_printed, with_printed}
+use Rattle.iv_workspace.specs.Prints.{PrintedAll, PrintedView}
 use Rattle.iv_workspace.specs.States.{State}
-use Rattle.iv_workspace.specs.Views.{name_line, headed_text, all_text, text_in}
+use Rattle.iv_workspace.specs.Views.{all_text, text_in}
 use Rattle.iv_workspace.specs.declared.fault.PrintFault.{PrintFault}
 use Rattle.iv_workspace.specs.declared.fault.PrintFault.TheVariants as printing
 use Rattle.iv_workspace.specs.OpenViews.{Shown}
 use Rattle.iv_workspace.proofs.OpenViewLemmas.{current-named}
+
+-- the line above a view's text, and both
+abbrev pub name_line : List ℕ → List ℕ
+name_line name = codes "#" ++ name ++ codes "\n"
+
+abbrev pub headed_text : Option Region → State → List ℕ × Shown → List ℕ
+headed_text part s v = name_line v.0 ++ text_in part s v.1.view
 
 pub match-none : (o : Option Shown) (Q : Type 0) (P : Shown → Type 0) → None ≡ o → Q → MatchOption o Q P
 match-none o Q P is q = subst (λ (o : Option Shown). MatchOption o Q P) is q
@@ -51,7 +58,7 @@ pub same-text : (part : Option Region) (inside s : State) (v : Shown) (view : Vi
 same-text part inside s v view same is = ap (text_in part inside) is ∙ ap (λ (u : State). text_in part u v.view) same
 
 -- all views print the same, current or not
-pub same-all_text : (part : Option Region) (s : State) → all_text part (with_all_printed s) ≡ all_text part s
+pub same-all_text : (part : Option Region) (s : State) → all_text part (record s { views = all_current s.views }) ≡ all_text part s
 same-all_text part s = by s.views
   where
     by : (views : List (List ℕ × Shown)) → flat_map (headed_text part s) (all_current views) ≡ flat_map (headed_text part s) views
@@ -69,12 +76,12 @@ Puts-text old new put a b same puts = subst (λ (l : List ℕ). Puts old new put
 
 -- the answer of a print whose text was put, of one view and of all
 pub view-answered : {E : Type 0} (part : Option Region) (old new : State) (name : List ℕ) (v : Shown) (out0 out1 : SinkState) (put : Result (Unit {0}) E) (result : Result (Unit {0}) PrintFault)
-    → MatchResult put (λ done. result ≡ Ok done) (λ fault. result ≡ Err printing.Write) → Puts out0 out1 put (text_in part old v.view) → new ≡ with_printed old name → PrintedView part old name v new out0 out1 result
+    → MatchResult put (λ done. result ≡ Ok done) (λ fault. result ≡ Err printing.Write) → Puts out0 out1 put (text_in part old v.view) → new ≡ record old { views = with_current old.views name } → PrintedView part old name v new out0 out1 result
 view-answered part old new name v out0 out1 (Ok done) result is took same = subst (λ (r : Result (Unit {0}) PrintFault). PrintedView part old name v new out0 out1 r) (sym is) (took, same)
 view-answered part old new name v out0 out1 (Err fault) result is fails same = subst (λ (r : Result (Unit {0}) PrintFault). PrintedView part old name v new out0 out1 r) (sym is) (fails, same)
 
 pub all-answered : {E : Type 0} (part : Option Region) (old new : State) (out0 out1 : SinkState) (put : Result (Unit {0}) E) (result : Result (Unit {0}) PrintFault)
-    → MatchResult put (λ done. result ≡ Ok done) (λ fault. result ≡ Err printing.Write) → Puts out0 out1 put (all_text part old) → new ≡ with_all_printed old → PrintedAll part old new out0 out1 result
+    → MatchResult put (λ done. result ≡ Ok done) (λ fault. result ≡ Err printing.Write) → Puts out0 out1 put (all_text part old) → new ≡ record old { views = all_current old.views } → PrintedAll part old new out0 out1 result
 all-answered part old new out0 out1 (Ok done) result is took same = subst (λ (r : Result (Unit {0}) PrintFault). PrintedAll part old new out0 out1 r) (sym is) (took, same)
 all-answered part old new out0 out1 (Err fault) result is fails same = subst (λ (r : Result (Unit {0}) PrintFault). PrintedAll part old new out0 out1 r) (sym is) (fails, same)
 

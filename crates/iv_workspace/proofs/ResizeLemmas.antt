@@ -1,12 +1,13 @@
 -- A session with another length of one sequence.
 use denote.Ref.{Bor}
-use Rattle.std.proofs.Common.{◌≡◌, ℕ, ◌+◌, ◌<◌, ◌≤◌, ◌==◌, ◌&&◌, ◌||◌, nat_lt, inl, inr, Bool, true, false, List, [], ◌∷◌, Option, None, Some, Result, Ok, Err, length, arith, refl, sym, ap, ap₂, subst, ◌∙◌}
+use Rattle.std.proofs.Common.{◌≡◌, ℕ, ◌+◌, ◌<◌, ◌≤◌, ◌==◌, ◌&&◌, ◌||◌, nat_lt, inl, inr, Bool, true, false, if◌then◌else◌, List, [], ◌∷◌, Option, None, Some, Result, Ok, Err, length, arith, refl, sym, ap, ap₂, subst, ◌∙◌}
 use Rattle.std.specs.Iterator.{YieldsFirstRef}
 use Rattle.std.specs.List.{list_any}
-use Rattle.std.specs.Option.{is_some, option_map, unwrap_or}
+use Rattle.std.specs.Option.{is_some, ok_or, option_map, option_map_or, unwrap_or}
 use Rattle.std.specs.Prelude.{All, IfSome, filter, not}
 use Rattle.std.proofs.lemmas.Bool.{and_parts, and_cases, or_parts, or_from, or_left, not-false, cases_Bool, cases_eq, cond-true, cond-false, ne_eqb, ltb-true, ltb-false, lt-ltb, eqb-true, eqb-false, true≢false, false_from_ne_true}
 use Rattle.std.proofs.lemmas.Map.Views.{exact_unsigned_eq}
+use Rattle.iv_text.specs.Chains.{if_ok}
 use Rattle.iv_text.specs.Genome.{Sequences, length_at, with_length}
 use Rattle.iv_text.specs.Named.{name_index}
 use Rattle.iv_text.specs.Ordered.{AreInOrder}
@@ -22,7 +23,7 @@ use Rattle.iv_track.specs.Regions.{overlaps}
 use Rattle.iv_track.proofs.PlaceLemmas.{le_pair, pair_le, from_all}
 use Rattle.iv_view.specs.Views.{second_records}
 use Rattle.iv_workspace.specs.OpenViews.{Shown}
-use Rattle.iv_workspace.specs.Resizes.{reaches_past, has_record_past, has_other_bases, is_other, with_sequence_length, resized_if, resized}
+use Rattle.iv_workspace.specs.Resizes.{reaches_past, has_record_past, has_other_bases, resized}
 use Rattle.iv_workspace.specs.States.{State}
 use Rattle.iv_workspace.specs.Inside.States.{IsTrackOn, IsSession}
 
@@ -185,6 +186,13 @@ session-resized inside s g views seq n same is new none =
 
 -- ---- what a resize answers
 
+-- the session with this length of the sequence of a rank, if there is one
+abbrev pub resized_if : State → Option ℕ → ℕ → Result State Fault
+resized_if s at n = if_ok (ok_or at fault.UnknownSeq) (λ seq.
+    if has_record_past s seq n then Err fault.Shorter
+    else if has_other_bases s.bases seq n then Err fault.Fixed
+    else Ok (record s { genome = with_length s.genome seq n }))
+
 module _ (s : State) (name : List ℕ) (n : ℕ) where
   pub resized-unknown : name_index s.genome name ≡ None → resized s name n ≡ Err fault.UnknownSeq
   resized-unknown none = ap (λ (o : Option ℕ). resized_if s o n) none
@@ -197,7 +205,7 @@ module _ (s : State) (name : List ℕ) (n : ℕ) where
   resized-fixed seq at past other = ap (λ (o : Option ℕ). resized_if s o n) at ∙ cond-false _ _ _ past ∙ cond-true _ _ _ other
 
   pub resized-done : (seq : ℕ) → name_index s.genome name ≡ Some seq → has_record_past s seq n ≡ false → has_other_bases s.bases seq n ≡ false
-      → resized s name n ≡ Ok (with_sequence_length s seq n)
+      → resized s name n ≡ Ok (record s { genome = with_length s.genome seq n })
   resized-done seq at past other = ap (λ (o : Option ℕ). resized_if s o n) at ∙ cond-false _ _ _ past ∙ cond-false _ _ _ other
 
 -- the session as its fields are written
@@ -205,10 +213,14 @@ pub resized-in : (inside s : State) (g : Sequences) (name : List ℕ) (seq n : �
     → has_other_bases s.bases seq n ≡ false → g ≡ with_length inside.genome seq n → resized s name n ≡ Ok (record inside { genome = g })
 resized-in inside s g name seq n same at past other is =
     resized-done s name n seq (ap (λ (t : State). name_index t.genome name) (sym same) ∙ sym at) past other
-    ∙ ap (λ (t : State). Ok (with_sequence_length t seq n)) (sym same)
+    ∙ ap (λ (t : State). Ok (record t { genome = with_length t.genome seq n })) (sym same)
     ∙ ap (λ (h : Sequences). Ok (record inside { genome = h })) (sym is)
 
 -- ---- the bases of a FASTA file
+
+-- there is a count, and it is another
+abbrev pub is_other : Option ℕ → ℕ → Bool
+is_other count n = option_map_or (λ k. not (k == n)) count false
 
 same-count : (o : Option (List ℕ)) (bases : List ℕ) (n : ℕ) → o ≡ Some bases → is_other (option_map length o) n ≡ false → length bases ≡ n
 same-count o bases n at not_other =
@@ -226,11 +238,11 @@ lengths-corrected g fasta seq n are within not_other k bases at = elim (cases_eq
 
 -- what follows from an accepted resize
 accepted : (old new : State) (name : List ℕ) (n : ℕ) → resized old name n ≡ Ok new
-    → (seq : ℕ) × (name_index old.genome name ≡ Some seq) × (has_other_bases old.bases seq n ≡ false) × (with_sequence_length old seq n ≡ new)
+    → (seq : ℕ) × (name_index old.genome name ≡ Some seq) × (has_other_bases old.bases seq n ≡ false) × (record old { genome = with_length old.genome seq n } ≡ new)
 accepted old new name n is = by (name_index old.genome name) refl is
   where
     by : (o : Option ℕ) → name_index old.genome name ≡ o → resized_if old o n ≡ Ok new
-        → (seq : ℕ) × (name_index old.genome name ≡ Some seq) × (has_other_bases old.bases seq n ≡ false) × (with_sequence_length old seq n ≡ new)
+        → (seq : ℕ) × (name_index old.genome name ≡ Some seq) × (has_other_bases old.bases seq n ≡ false) × (record old { genome = with_length old.genome seq n } ≡ new)
     by None at is = absurd (cc is)
     by (Some seq) at is = elim (cases_Bool (has_record_past old seq n)) [
       | inl past ↦
@@ -241,7 +253,7 @@ accepted old new name n is = by (name_index old.genome name) refl is
             let never : ◌≡◌ {A = Result State Fault} (Err fault.Fixed) (Ok new) = sym (cond-false _ _ _ clear ∙ cond-true _ _ _ other) ∙ is in
             absurd (cc never)
         | inr same ↦
-            let done : ◌≡◌ {A = Result State Fault} (Ok (with_sequence_length old seq n)) (Ok new) = sym (cond-false _ _ _ clear ∙ cond-false _ _ _ same) ∙ is in
+            let done : ◌≡◌ {A = Result State Fault} (Ok (record old { genome = with_length old.genome seq n })) (Ok new) = sym (cond-false _ _ _ clear ∙ cond-false _ _ _ same) ∙ is in
             (seq, at, same, cc done)
       ]
     ]

@@ -6,7 +6,7 @@ use Rattle.iv_text.specs.Read.{Fits}
 use Rattle.iv_text.specs.RecordValue.{RecordValue}
 use Rattle.iv_track.specs.Tracked.{Tracked}
 use Rattle.iv_workspace.specs.OpenViews.{Shown}
-use Rattle.iv_workspace.specs.States.{State, FitsSecond, with_second}
+use Rattle.iv_workspace.specs.States.{State, FitsSecond}
 use Rattle.iv_workspace.specs.Inside.States.{IsTrackOn, AreServed, IsSession}
 
 -- what holds of the second file, as it is inside, holds of the session's
@@ -28,11 +28,11 @@ second-track g second t is on = subst (λ (o : Option Tracked). IfSome o (IsTrac
 
 -- an edit of it
 pub second-edited : (change : Tracked → Tracked) (inside s : State) (t u : Tracked) → inside ≡ s → inside.second ≡ Some t → u ≡ change t
-    → record inside { second = Some u } ≡ with_second s change
+    → record inside { second = Some u } ≡ record s { second = option_map change s.second }
 second-edited change inside s t u same is changed =
     ap (λ (x : Tracked). record inside { second = Some x }) changed
     ∙ ap (λ (o : Option Tracked). record inside { second = option_map change o }) (sym is)
-    ∙ ap (λ (x : State). with_second x change) same
+    ∙ ap (λ (x : State). record x { second = option_map change x.second }) same
 
 -- and none
 pub second-kept : (inside s : State) (t u : Tracked) → inside ≡ s → inside.second ≡ Some t → u ≡ t → record inside { second = Some u } ≡ s

@@ -18,10 +18,11 @@ use Rattle.iv_track.proofs.Edits.{All-added, All-removed, added-removed}
 use Rattle.iv_view.specs.declared.kept_state.StateKey.{StateKey}
 use Rattle.iv_view.specs.declared.view.View.{View}
 use Rattle.iv_view.specs.KeptStates.{state_key_of}
+use Rattle.iv_view.specs.Views.{read_words}
 use Rattle.iv_workspace.specs.OpenViews.{Shown, Stales, Freshens, all_current, with_current}
-use Rattle.iv_workspace.specs.Views.{is_view_name, view_named, words_said, view_asked}
+use Rattle.iv_workspace.specs.Views.{is_view_name, view_named, view_asked}
 use Rattle.iv_workspace.proofs.OpenViewLemmas.{all-current, freshens-all, freshens-one}
-use Rattle.iv_workspace.specs.States.{State, IsButStale, tracked}
+use Rattle.iv_workspace.specs.States.{State, tracked}
 use Rattle.iv_workspace.specs.Inside.States.{IsTrackOn, IsServed, AreServed, IsWrittenFresh, AreWrittenFresh, IsSession}
 
 -- the records fit with one more that fits
@@ -62,11 +63,14 @@ views-changed change inside s more same is =
     ap (λ (l : List (List ℕ × Shown)). record inside { views = l }) is ∙ ap (λ (u : State). record u { views = change u.views }) same
 
 -- an edit of the track, after which some views may be stale
+abbrev pub IsChangedTo : (Tracked → Tracked) → State → State → Type 0
+IsChangedTo change old new = (new ≡ record old { track = change old.track; views = new.views }) × Stales old.views new.views
+
 pub edited : (change : Tracked → Tracked) (inside s : State) (t : Tracked) (more : List (List ℕ × Shown)) → inside ≡ s → t ≡ change inside.track
-    → Stales inside.views more → IsButStale (record s { track = change s.track }) (record inside { track = t; views = more })
+    → Stales inside.views more → IsChangedTo change s (record inside { track = t; views = more })
 edited change inside s t more same is less =
-    subst (λ (s : State). IsButStale (record s { track = change s.track }) (record inside { track = t; views = more })) same
-    (subst (λ (t : Tracked). IsButStale (record inside { track = change inside.track }) (record inside { track = t; views = more })) (sym is) (refl, less))
+    subst (λ (s : State). IsChangedTo change s (record inside { track = t; views = more })) same
+    (subst (λ (t : Tracked). IsChangedTo change inside (record inside { track = t; views = more })) (sym is) (refl, less))
 
 -- a track before and after a record q was added, and after one copy of r was then taken out
 pub record Replaced (g : Sequences) (old mid new : Tracked) (r q : RecordValue) : Type 0 where
@@ -107,7 +111,7 @@ replaced-in inside s mid new before r after q same first next session order ther
 
 -- if the name has no fault, the words decide
 pub no-name_fault : (inside s : State) (name : List ℕ) (words : List (List ℕ)) (v : View) → inside ≡ s → is_view_name name ≡ true → is_some (view_named inside.views name) ≡ false
-    → length inside.views < 64 → words_said inside words ≡ Ok v → view_asked s name words ≡ Ok v
+    → length inside.views < 64 → read_words inside.track.width (is_some inside.second) (is_some inside.bases) words ≡ Ok v → view_asked s name words ≡ Ok v
 no-name_fault inside s name words v same good free few said =
     subst (λ (t : State). view_asked t name words ≡ Ok v) same (rw (good, free, lt-leb 64 (length inside.views) few) said)
 
@@ -119,14 +123,14 @@ served-stales second [] [] less served = tt
 served-stales second [] (w ∷ new) less served = absurd less
 served-stales second (v ∷ old) [] less served = absurd less
 served-stales second (v ∷ old) (w ∷ new) less served =
-    (subst (IsServed second) (sym less.1) served.0, served-stales second old new less.4 served.1)
+    (subst (IsServed second) (sym less.0.1) served.0, served-stales second old new less.1 served.1)
 
 served-fresher : (second : Option Tracked) (old new : List (List ℕ × Shown)) → Freshens old new → AreServed second old → AreServed second new
 served-fresher second [] [] less served = tt
 served-fresher second [] (w ∷ new) less served = absurd less
 served-fresher second (v ∷ old) [] less served = absurd less
 served-fresher second (v ∷ old) (w ∷ new) less served =
-    (subst (IsServed second) (sym less.1) served.0, served-fresher second old new less.3 served.1)
+    (subst (IsServed second) (sym less.0.1) served.0, served-fresher second old new less.1 served.1)
 
 -- those of which one is current, and those of which all are
 pub served-current : (second : Option Tracked) (name : List ℕ) (old new : List (List ℕ × Shown)) → new ≡ with_current old name → AreServed second old → AreServed second new
@@ -140,9 +144,9 @@ fresh-stales [] (w ∷ new) less fresh = absurd less
 fresh-stales (v ∷ old) [] less fresh = absurd less
 fresh-stales (v ∷ old) (w ∷ new) less fresh = (
   λ none.
-      let was : state_key_of v.1.view ≡ None = ap state_key_of (sym less.1) ∙ none in
-      less.3 was ∙ fresh.0 was,
-  fresh-stales old new less.4 fresh.1,
+      let was : state_key_of v.1.view ≡ None = ap state_key_of (sym less.0.1) ∙ none in
+      less.0.3 was ∙ fresh.0 was,
+  fresh-stales old new less.1 fresh.1,
 )
 
 fresh-fresher : (old new : List (List ℕ × Shown)) → Freshens old new → AreWrittenFresh old → AreWrittenFresh new
@@ -150,7 +154,7 @@ fresh-fresher [] [] less fresh = tt
 fresh-fresher [] (w ∷ new) less fresh = absurd less
 fresh-fresher (v ∷ old) [] less fresh = absurd less
 fresh-fresher (v ∷ old) (w ∷ new) less fresh =
-    (λ none. still w.1.stale v.1.stale less.2 (fresh.0 (ap state_key_of (sym less.1) ∙ none)), fresh-fresher old new less.3 fresh.1)
+    (λ none. still w.1.stale v.1.stale less.0.2 (fresh.0 (ap state_key_of (sym less.0.1) ∙ none)), fresh-fresher old new less.1 fresh.1)
   where
     still : (b c : Bool) → (b ≡ true → c ≡ true) → c ≡ false → b ≡ false
     still false c up is = refl

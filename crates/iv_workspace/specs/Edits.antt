@@ -1,5 +1,6 @@
 -- Edits of the two tracks of a session: what an edit leaves, how many steps it takes, and why it is refused; and the records of the second file.
 use Rattle.std.specs.Prelude.{ℕ, ◌≡◌, ◌≤◌, ◌<◌, ◌⊎◌, ◌+◌, List, Option, None, Some, Result, Ok, Err, IsSomeAnd, length}
+use Rattle.std.specs.Option.{ok_or, option_map}
 use Rattle.iv_text.specs.Genome.{Sequences}
 use Rattle.iv_text.specs.Ordered.{added, copies}
 use Rattle.iv_text.specs.Read.{Fits, read}
@@ -8,8 +9,8 @@ use Rattle.iv_text.specs.declared.fault.Fault.{Fault}
 use Rattle.iv_text.specs.declared.fault.Fault.TheVariants as fault
 use Rattle.iv_track.specs.Edits.{RefusesAdd, RefusesRemove, RefusesReplace, with_record, without_record, with_replaced}
 use Rattle.iv_track.specs.Tracked.{Tracked}
-use Rattle.iv_workspace.specs.OpenViews.{all_steps, stale_count}
-use Rattle.iv_workspace.specs.States.{State, FitsSecond, IsButStale, with_track, with_second}
+use Rattle.iv_workspace.specs.OpenViews.{Stales, all_steps, stale_count}
+use Rattle.iv_workspace.specs.States.{State, FitsSecond}
 use Rattle.iv_workspace.specs.declared.session.edits.Accepted.{Accepted}
 use Rattle.iv_workspace.specs.declared.session.edits.Edit.{Edit}
 use Rattle.iv_workspace.specs.declared.session.edits.Edit.TheVariants as edit
@@ -29,15 +30,10 @@ read_beside g (Some t) line = read g t.width line
 abbrev pub read_second : State → List ℕ → Result RecordValue Fault
 read_second s line = read_beside s.genome s.second line
 
--- the width of a second file, or that there is none
-abbrev pub width_beside : Option Tracked → Result ℕ Fault
-width_beside None = Err fault.NoSecond
-width_beside (Some t) = Ok t.width
-
--- the width of the track that an edit is for
+-- the width of the track that an edit is for, or that there is no second file
 abbrev pub width_of : State → Target → Result ℕ Fault
 width_of s target.First = Ok s.track.width
-width_of s target.Second = width_beside s.second
+width_of s target.Second = ok_or (option_map (λ t. t.width) s.second) fault.NoSecond
 
 -- a record fits the track that an edit is for
 abbrev pub FitsIn : State → Target → RecordValue → Type 0
@@ -68,19 +64,13 @@ RefusesEdit (edit.Add r) t f = RefusesCopy t f ⊎ RefusesAdd t r f
 RefusesEdit (edit.Remove r) t f = RefusesCopy t f ⊎ RefusesRemove t r f
 RefusesEdit (edit.Replace r q) t f = RefusesCopy t f ⊎ RefusesReplace t r q f
 
--- the track that an edit is for has what it needs
-abbrev pub AllowsIn : Target → Edit → State → Type 0
-AllowsIn target.First e s = Allows e s.track
-AllowsIn target.Second e s = IsSomeAnd s.second (Allows e)
-
--- an edit of a session's track leaves some views stale, one of its second file none
-abbrev pub IsLeft : Target → Edit → State → State → Type 0
-IsLeft target.First e old new = IsButStale (with_track old (edited e)) new
-IsLeft target.Second e old new = new ≡ with_second old (edited e)
-
--- the edit is done
+-- the edit is done of a track that has what it needs: that track is edited, and all else stays; but an edit of the session's own
+-- track may leave views stale
 abbrev pub IsEdited : Target → Edit → State → State → Type 0
-IsEdited to e old new = AllowsIn to e old × IsLeft to e old new
+IsEdited target.First e old new =
+    Allows e old.track × (new ≡ record old { track = edited e old.track; views = new.views }) × Stales old.views new.views
+IsEdited target.Second e old new =
+    IsSomeAnd old.second (Allows e) × (new ≡ record old { second = option_map (edited e) old.second })
 
 -- the most steps that an edit takes: 8 in the track and those of the views for each record added or taken out; 16 in the second file
 abbrev pub most_steps : Target → Edit → State → ℕ

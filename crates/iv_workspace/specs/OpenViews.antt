@@ -1,5 +1,6 @@
 -- The open views as contracts see them, and what edits and prints leave of them.
 use Rattle.std.specs.Prelude.{◌≡◌, ℕ, ◌+◌, Bool, true, false, if◌then◌else◌, List, [], ◌∷◌, None, map}
+use Rattle.std.specs.List.{AllZip}
 use Rattle.std.specs.Str.{bytes_eq}
 use Rattle.iv_text.specs.RecordValue.{RecordValue}
 use Rattle.iv_view.specs.KeptStates.{state_key_of, repair_steps_of}
@@ -25,20 +26,12 @@ with_current (v ∷ views) name = if bytes_eq name v.0 then (v.0, current v.1) �
 
 -- the views are the same, except that some kept views may have become stale
 abbrev pub Stales : List (List ℕ × Shown) → List (List ℕ × Shown) → Type 0
-Stales [] [] = Unit {0}
-Stales [] (w ∷ new) = ⊥
-Stales (v ∷ old) [] = ⊥
-Stales (v ∷ old) (w ∷ new) =
-    (w.0 ≡ v.0) × (w.1.view ≡ v.1.view) × (v.1.stale ≡ true → w.1.stale ≡ true)
-    × (state_key_of v.1.view ≡ None → w.1.stale ≡ v.1.stale) × Stales old new
+Stales old new = AllZip (λ v w. (w.0 ≡ v.0) × (w.1.view ≡ v.1.view)
+    × (v.1.stale ≡ true → w.1.stale ≡ true) × (state_key_of v.1.view ≡ None → w.1.stale ≡ v.1.stale)) old new
 
 -- the views are the same, except that some that were stale may have become current
 abbrev pub Freshens : List (List ℕ × Shown) → List (List ℕ × Shown) → Type 0
-Freshens [] [] = Unit {0}
-Freshens [] (w ∷ new) = ⊥
-Freshens (v ∷ old) [] = ⊥
-Freshens (v ∷ old) (w ∷ new) =
-    (w.0 ≡ v.0) × (w.1.view ≡ v.1.view) × (w.1.stale ≡ true → v.1.stale ≡ true) × Freshens old new
+Freshens old new = AllZip (λ v w. (w.0 ≡ v.0) × (w.1.view ≡ v.1.view) × (w.1.stale ≡ true → v.1.stale ≡ true)) old new
 
 -- how many views are stale
 abbrev pub stale_count : List (List ℕ × Shown) → ℕ

@@ -18,14 +18,6 @@ use Rattle.iv_workspace.specs.Views.{all_text, text_in, view_named}
 use Rattle.iv_workspace.specs.declared.fault.PrintFault.{PrintFault}
 use Rattle.iv_workspace.specs.declared.fault.PrintFault.TheVariants as printing
 
--- the session with the view of a name current
-abbrev pub with_printed : State → List ℕ → State
-with_printed s name = record s { views = with_current s.views name }
-
--- the session with all views current
-abbrev pub with_all_printed : State → State
-with_all_printed s = record s { views = all_current s.views }
-
 -- the session, except that some stale views may have become current
 abbrev pub IsButCurrent : State → State → Type 0
 IsButCurrent old new = (new ≡ record old { views = new.views }) × Freshens old.views new.views
@@ -33,8 +25,10 @@ IsButCurrent old new = (new ≡ record old { views = new.views }) × Freshens ol
 -- what a print of the view of a name leaves: its text, or a prefix, and the view current;
 -- or, if an allocation failed for a stale view of which something is kept, all as before and nothing written
 abbrev pub PrintedView : Option Region → State → List ℕ → Shown → State → SinkState → SinkState → Result (Unit {0}) PrintFault → Type 0
-PrintedView part old name v new out0 out1 (Ok done) = Takes out0 out1 (text_in part old v.view) × (new ≡ with_printed old name)
-PrintedView part old name v new out0 out1 (Err printing.Write) = FailsIn out0 out1 (text_in part old v.view) × (new ≡ with_printed old name)
+PrintedView part old name v new out0 out1 (Ok done) =
+    Takes out0 out1 (text_in part old v.view) × (new ≡ record old { views = with_current old.views name })
+PrintedView part old name v new out0 out1 (Err printing.Write) =
+    FailsIn out0 out1 (text_in part old v.view) × (new ≡ record old { views = with_current old.views name })
 PrintedView part old name v new out0 out1 (Err (printing.Refused fault.NoMemory)) =
     (v.stale ≡ true) × IsSome (state_key_of v.view) × (out1 ≡ out0) × (new ≡ old)
 PrintedView part old name v new out0 out1 (Err (printing.Refused other)) = ⊥
@@ -48,8 +42,10 @@ PrintedNamed part old name new out0 out1 result = MatchOption (view_named old.vi
 -- what a print of all views leaves: their texts, or a prefix, and all current;
 -- or, if an allocation for a stale view failed, nothing written, and some views may have become current
 abbrev pub PrintedAll : Option Region → State → State → SinkState → SinkState → Result (Unit {0}) PrintFault → Type 0
-PrintedAll part old new out0 out1 (Ok done) = Takes out0 out1 (all_text part old) × (new ≡ with_all_printed old)
-PrintedAll part old new out0 out1 (Err printing.Write) = FailsIn out0 out1 (all_text part old) × (new ≡ with_all_printed old)
+PrintedAll part old new out0 out1 (Ok done) =
+    Takes out0 out1 (all_text part old) × (new ≡ record old { views = all_current old.views })
+PrintedAll part old new out0 out1 (Err printing.Write) =
+    FailsIn out0 out1 (all_text part old) × (new ≡ record old { views = all_current old.views })
 PrintedAll part old new out0 out1 (Err (printing.Refused fault.NoMemory)) = (0 < stale_count old.views) × (out1 ≡ out0) × IsButCurrent old new
 PrintedAll part old new out0 out1 (Err (printing.Refused other)) = ⊥
 

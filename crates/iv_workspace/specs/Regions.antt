@@ -9,12 +9,9 @@ use Rattle.iv_text.specs.declared.fault.Fault.{Fault}
 use Rattle.iv_text.specs.declared.fault.Fault.TheVariants as fault
 use Rattle.iv_track.specs.declared.region.Region.{Region}
 
--- the faults of a region, in the order in which they are reported: each is that of a record of these three columns
-abbrev pub region_faults : List Fault
-region_faults = fault.StartNumber ∷ fault.StopNumber ∷ fault.Order ∷ fault.UnknownSeq ∷ fault.PastEnd ∷ []
-
--- the region that a name, a start and an end mean, or the first fault
+-- the region that a name, a start and an end mean, or the first of these faults of a record of these three columns
 abbrev pub region_said : Sequences → List ℕ → List ℕ → List ℕ → Result Region Fault
 region_said g name start stop =
-    unless_fault (find (has_fault g 3 (name ∷ start ∷ stop ∷ [])) region_faults)
+    unless_fault (find (has_fault g 3 (name ∷ start ∷ stop ∷ []))
+    (fault.StartNumber ∷ fault.StopNumber ∷ fault.Order ∷ fault.UnknownSeq ∷ fault.PastEnd ∷ []))
     (Ok (record { seq = unwrap_or (name_index g name) 0; start = number_in start; stop = number_in stop }))

@@ -1,7 +1,5 @@
 -- A session as contracts see it.
-use Rattle.std.specs.Prelude.{◌≡◌, ℕ, false, List, [], ◌∷◌, ◌++◌, Option, IsSomeAnd, option_map}
-use Rattle.std.specs.Map.{remove_entry}
-use Rattle.std.specs.Str.{bytes_eq}
+use Rattle.std.specs.Prelude.{ℕ, List, [], Option, IsSomeAnd, option_map}
 use Rattle.iv_text.specs.Genome.{Sequences}
 use Rattle.iv_text.specs.BedFile.{Bed}
 use Rattle.iv_text.specs.RecordValue.{RecordValue}
@@ -9,8 +7,7 @@ use Rattle.iv_text.specs.Ordered.{ordered}
 use Rattle.iv_text.specs.Read.{Fits}
 use Rattle.iv_fasta.specs.Fasta.{Bases}
 use Rattle.iv_track.specs.Tracked.{Tracked}
-use Rattle.iv_view.specs.declared.view.View.{View}
-use Rattle.iv_workspace.specs.OpenViews.{Shown, Stales}
+use Rattle.iv_workspace.specs.OpenViews.{Shown}
 
 -- the genome, the track, the second file as a track of its own, the bases of the FASTA file, and the open views with their
 -- names, in order of opening; a stale view must be rebuilt before it is printed
@@ -35,26 +32,6 @@ begun g first second bases limit = record {
   views = [];
 }
 
--- the session with its track changed
-abbrev pub with_track : State → (Tracked → Tracked) → State
-with_track s change = record s { track = change s.track }
-
--- the session with its second file changed, if there is one
-abbrev pub with_second : State → (Tracked → Tracked) → State
-with_second s change = record s { second = option_map change s.second }
-
--- the session with one more view, the last, which is current
-abbrev pub with_view : State → List ℕ → View → State
-with_view s name view = record s { views = s.views ++ (name, record { view = view; stale = false }) ∷ [] }
-
--- the session without the view of a name
-abbrev pub without_view : State → List ℕ → State
-without_view s name = record s { views = remove_entry (bytes_eq name) s.views }
-
 -- there is a second file, and the record fits it
 abbrev pub FitsSecond : State → RecordValue → Type 0
 FitsSecond s r = IsSomeAnd s.second (λ t. Fits s.genome t.width r)
-
--- the session as it is to be, except that some views may have become stale
-abbrev pub IsButStale : State → State → Type 0
-IsButStale done new = (new ≡ record done { views = new.views }) × Stales done.views new.views

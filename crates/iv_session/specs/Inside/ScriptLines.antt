@@ -1,5 +1,5 @@
 -- What one line writes, as the functions that run it see it.
-use Rattle.std.specs.Prelude.{◌≡◌, Option, None, Some, Result, Ok, Err}
+use Rattle.std.specs.Prelude.{◌≡◌, ℕ, List, Option, None, Some, Result, Ok, Err}
 use Rattle.iv_bytes.specs.Sinks.{SinkState, Takes, FailsIn}
 use Rattle.iv_text.specs.Fault.{fault_text}
 use Rattle.iv_text.specs.declared.fault.Fault.{Fault}
@@ -8,7 +8,9 @@ use Rattle.iv_session.specs.Inside.Scripts.{refusal_of}
 use Rattle.iv_session.specs.Written.{Written}
 use Rattle.iv_workspace.specs.declared.fault.PrintFault.{PrintFault}
 use Rattle.iv_session.specs.declared.request.Request.{Request}
-use Rattle.iv_session.specs.ScriptLines.{AsksToPrint, Ends}
+use Rattle.iv_session.specs.declared.script.RunCause.{RunCause}
+use Rattle.iv_session.specs.Requests.{asked}
+use Rattle.iv_session.specs.ScriptLines.{AsksToPrint, Ends, EndsAt, RunsLine}
 
 -- what is written of a line that was not done: with a fault it is refused, and without one the output failed at its text
 abbrev pub WritesFault : Option Fault → SinkState → SinkState → Written → Type 0
@@ -30,3 +32,7 @@ pub record Writes (asks : Result Request Fault) (old new : State) (out0 out1 : S
   pub ends : Ends asks old new written
   pub writes : WritesAs result out0 out1 written
   pub prints : PrintsUnless result asks
+
+-- what the last line of a run may do that ends at a sink for this cause: what lines may do, and no more than that
+abbrev pub RunsLast : RunCause → State → List ℕ → State → Written → Type 0
+RunsLast failed old line new written = RunsLine old line new written × EndsAt failed (asked old line) old new written

@@ -1,13 +1,14 @@
 //! The open views under their names: opened, printed and closed.
-ghost use Rattle.std.specs.Prelude.{◌≡◌, ◌+◌, ◌<◌, None, Some, All, map, false, not, IsSome, IfSome, IfErr, OnOk, OnErr, MatchOption, MatchResult, Ok, Err};
+ghost use Rattle.std.specs.Prelude.{◌≡◌, ◌+◌, ◌<◌, ◌++◌, codes, None, Some, All, map, false, not, IsSome, IfSome, IfErr, OnOk, OnErr, MatchOption, MatchResult, Ok, Err};
+ghost use Rattle.std.specs.Map.{remove_entry};
 ghost use Rattle.std.specs.Option.{is_some};
+ghost use Rattle.std.specs.Str.{bytes_eq};
 ghost use Rattle.iv_bytes.specs.Sinks.{Puts};
 ghost use Rattle.iv_text.specs.Read.{read};
 ghost use Rattle.iv_view.specs.RegionText.{IsWithin};
 ghost use Rattle.iv_workspace.specs.OpenViews.{stale_count};
 ghost use Rattle.iv_workspace.specs.Prints.{PrintedNamed, PrintedAll, NamedPrintsWithin, AllPrintWithin};
-ghost use Rattle.iv_workspace.specs.States.{without_view};
-ghost use Rattle.iv_workspace.specs.Views.{all_text, name_line, is_view_name as is_name, view_named, RefusesOpen, Opens};
+ghost use Rattle.iv_workspace.specs.Views.{all_text, is_view_name as is_name, view_named, RefusesOpen, Opens};
 
 use super::Session;
 use crate::fault::PrintFault;
@@ -37,7 +38,7 @@ fn is_view_name(name: &[u8]) -> bool
 
 /// Puts the line above a view's text, `#NAME`.
 fn put_heading<S: Sink>(sink: &mut S, name: &[u8]) -> Result<(), WriteFault>
-    ensures { Puts (S.state sink.old) (S.state sink.new) result (name_line name.now) }
+    ensures { Puts (S.state sink.old) (S.state sink.new) result (codes "#" ++ name.now ++ codes "\n") }
 {
     put_pieces(sink, &[b"#", name, b"\n"])
 }
@@ -90,7 +91,7 @@ impl<A: Allocator + Copy> Session<A> {
     /// `NoView` exactly if no view of this name is open. Nothing changes.
     pub fn close_view(&mut self, name: &[u8]) -> Result<(), Fault>
         ensures there { OnOk result (IsSome (view_named self.old.views name.now)) }
-        ensures ok { OnOk result (self.new ≡ without_view self.old name.now) }
+        ensures ok { OnOk result (self.new ≡ record self.old { views = remove_entry (bytes_eq name.now) self.old.views }) }
         ensures why { IfErr result (λ fault. (fault ≡ Fault.NoView) × (view_named self.old.views name.now ≡ None)) }
         ensures err { OnErr result (self.new ≡ self.old) }
     {

@@ -55,11 +55,12 @@ returns-clause-ok g c =
     ∙ ap (λ (r : RecordValue). all_steps (all_seen inside.views) (added inside.track.rows r) c.args.row.now) c.in_ok-record.ensures.ok
     ∙ ap (λ (s : State). all_steps s.views (added s.track.rows c.args.row.now) c.args.row.now) c.self.view_is in
     let more = c.repair.ensures.steps in
+    let changed = edited (with_record c.args.row.now) _ _ c.add.new.self _ c.self.view_is (c.in_ok-add.ensures.ok ∙ ap (λ (r : RecordValue). record inside.track { rows = added inside.track.rows r }) c.in_ok-record.ensures.ok) c.repair.ensures.stales in
     record {
       done = (
         subst (λ (s : State). length s.track.rows < s.track.limit) c.self.view_is c.in_ok-add.ensures.room,
-        edited (with_record c.args.row.now) _ _ c.add.new.self _ c.self.view_is
-            (c.in_ok-add.ensures.ok ∙ ap (λ (r : RecordValue). record inside.track { rows = added inside.track.rows r }) c.in_ok-record.ensures.ok) c.repair.ensures.stales,
+        changed.0,
+        changed.1,
       );
       steps = omega (arith, same, more.at_most, c.in_ok-add.ensures.steps.at_most, c.new-meter.ensures, ap (λ (a : Accepted). a.steps) c.of.ensures);
       stale = ap (λ (a : Accepted). a.stale) c.of.ensures;

@@ -2,7 +2,8 @@ use Rattle.std.proofs.Common.{ℕ, drop}
 use Rattle.std.specs.List.{flat_map}
 use Rattle.iv_bytes.proofs.PutLemmas.{Underway}
 use Rattle.iv_workspace.specs.Prints.{AllPrintWithin}
-use Rattle.iv_workspace.specs.Views.{all_text, headed_text}
+use Rattle.iv_workspace.specs.Views.{all_text}
+use Rattle.iv_workspace.proofs.PrintLemmas.{headed_text}
 use Rattle.iv_workspace.proofs.session.Session.put_views.Given as goal
 
 abbrev pub invariant-loop-place : goal.invariant-loop-place

@@ -56,11 +56,12 @@ returns-clause-ok g c =
     ap (λ (l : List RecordValue). all_steps (all_seen inside.views) l c.args.row.now) (sym rows)
     ∙ ap (λ (s : State). all_steps s.views s.track.rows c.args.row.now) c.self.view_is in
     let more = c.repair.ensures.steps in
+    let changed = edited (without_record c.args.row.now) _ _ c.remove.new.self _ c.self.view_is (e.ok ∙ ap (λ (r : RecordValue). record inside.track { rows = removed inside.track.rows r }) c.in_ok-record.ensures.ok) c.repair.ensures.stales in
     record {
       done = (
         subst (λ (s : State). 0 < copies s.track.rows c.args.row.now) c.self.view_is (subst (λ (r : RecordValue). 0 < copies inside.track.rows r) c.in_ok-record.ensures.ok e.there),
-        edited (without_record c.args.row.now) _ _ c.remove.new.self _ c.self.view_is
-            (e.ok ∙ ap (λ (r : RecordValue). record inside.track { rows = removed inside.track.rows r }) c.in_ok-record.ensures.ok) c.repair.ensures.stales,
+        changed.0,
+        changed.1,
       );
       steps = omega (arith, same, more.at_most, e.steps.at_most, c.new-meter.ensures, ap (λ (a : Accepted). a.steps) c.of.ensures);
       stale = ap (λ (a : Accepted). a.stale) c.of.ensures;

@@ -94,10 +94,12 @@ returns-clause-ok g c =
     let less = stales-steps _ _ (added c.remove.new.self.rows c.args.old.now) c.args.old.now c.repair.ensures.stales in
     let one = c.repair.ensures.steps in
     let two = c.repair-2.ensures.steps in
+    let changed = edited (with_replaced c.args.old.now c.args.new.now) _ _ c.remove.new.self _ c.self.view_is whole.is (stales-trans _ _ _ c.repair.ensures.stales c.repair-2.ensures.stales) in
     record {
       done = (
         subst (λ (s : State). 0 < copies s.track.rows c.args.old.now) c.self.view_is (subst (λ (r : RecordValue). 0 < copies inside.track.rows r) c.in_ok-before.ensures.ok there),
-        edited (with_replaced c.args.old.now c.args.new.now) _ _ c.remove.new.self _ c.self.view_is whole.is (stales-trans _ _ _ c.repair.ensures.stales c.repair-2.ensures.stales),
+        changed.0,
+        changed.1,
       );
       steps = omega (
         arith,
