@@ -19,23 +19,18 @@ use Rattle.iv_run.specs.declared.fault.FileFault.TheVariants as file
 use Rattle.iv_args.specs.declared.plan.Slot.{Slot}
 use Rattle.iv_args.specs.Words.{RunPlan, file_of}
 
--- the text of a fault of words; a number that the table of faults lacks is reported as bad options
-abbrev pub words_text : ℕ → List ℕ
-words_text code = if nat_le 1 code && nat_le code 24 then fault_text code else fault_text 16
-
 -- how an ending is reported: its exit status, the file that it speaks of, and what is said of it
 pub record Report : Type 0 where
   pub status : ℕ
   pub slot : Option Slot
   pub text : List ℕ
 
--- the report of an ending
+-- the report of an ending; a number of bad options that the table of faults lacks is reported as theirs
 abbrev pub report_of : ExitReason → Report
 report_of exit_reason.Done = record { status = 0; slot = None; text = [] }
 report_of exit_reason.Refused = record { status = 1; slot = None; text = [] }
-report_of (exit_reason.Words code) = record { status = 2; slot = None; text = words_text code }
-report_of (exit_reason.Damaged slot damage) =
-    record { status = 3; slot = Some slot; text = codes "line " ++ decimal damage.line ++ codes ": " ++ load_text damage.cause }
+report_of (exit_reason.Words code) = record { status = 2; slot = None; text = if nat_le 1 code && nat_le code 24 then fault_text code else fault_text 16 }
+report_of (exit_reason.Damaged slot damage) = record { status = 3; slot = Some slot; text = codes "line " ++ decimal damage.line ++ codes ": " ++ load_text damage.cause }
 report_of (exit_reason.Unreadable slot) = record { status = 4; slot = Some slot; text = codes "cannot be read" }
 report_of (exit_reason.TooLong slot) = record { status = 4; slot = Some slot; text = codes "too long" }
 report_of exit_reason.InputUnreadable = record { status = 4; slot = None; text = codes "input cannot be read" }
@@ -69,13 +64,12 @@ ending_of_file slot file.Input = exit_reason.Unreadable slot
 ending_of_file slot file.TooLong = exit_reason.TooLong slot
 ending_of_file slot file.Memory = exit_reason.Memory
 
--- the ending of a script that stopped
+-- the ending of a script that stopped, at a fault of the output or of the messages if not for another cause
 abbrev pub ending_of_cause : RunCause → ExitReason
 ending_of_cause cause.Input = exit_reason.InputUnreadable
 ending_of_cause cause.TooLong = exit_reason.InputTooLong
-ending_of_cause cause.Output = exit_reason.Output
-ending_of_cause cause.Messages = exit_reason.Output
 ending_of_cause cause.Memory = exit_reason.Memory
+ending_of_cause sink = exit_reason.Output
 
 -- the ending of a script: whether a line of it was refused, or why it stopped
 abbrev pub ending_of_run : Result Summary RunFault → ExitReason
@@ -84,7 +78,7 @@ ending_of_run (Err stopped) = ending_of_cause stopped.cause
 
 -- whether all that was asked for was carried out
 abbrev pub is_through : ExitReason → Bool
-is_through ended = nat_le (status_of ended) 1
+is_through ended = nat_le (report_of ended).status 1
 
 -- the ending once the output has handed on what it held, or has failed to
 abbrev pub ending_after : Bool → ExitReason → ExitReason

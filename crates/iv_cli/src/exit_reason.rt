@@ -1,7 +1,7 @@
 //! How a run ends: its exit status, and its line on standard error.
 ghost use Rattle.std.specs.Prelude.{◌≡◌, ◌++◌, true, codes, decimal};
 ghost use Rattle.iv_bytes.specs.Sinks.{Puts};
-ghost use Rattle.iv_cli.specs.ExitReasons.{status_of, ending_of, ending_of_run, ending_after, words_text as text_of_words, name_meant, line_of, is_through};
+ghost use Rattle.iv_cli.specs.ExitReasons.{status_of, ending_of, ending_of_run, ending_after, name_meant, line_of, is_through, report_of};
 
 use itoa::Buffer;
 use iv_args::{Plan, Slot};
@@ -197,7 +197,7 @@ impl ExitReason {
 
 /// The text of a fault of arguments.
 fn words_text(code: u8) -> &'static [u8]
-    ensures { result.now ≡ text_of_words code }
+    ensures { result.now ≡ (report_of (ExitReason.Words code)).text }
 {
     if 1 <= code && code <= 24 {
         fault_text(code)
