@@ -5,6 +5,8 @@ It goes by names: from the clauses of a call, and from the models and clauses of
 `use` lines to definitions, and on through these. A name that a definition binds is no use of another definition. A name in the
 sources may be taken for one, so a few too many may be counted as reached; one that is listed as not reached is reached by no name.
 
+The numbers of the pages leave out names of bytes and the definitions of notices (statement.py).
+
     scripts/prove/reached.py            how many are reached from run_program, from the public crates, and by none
     scripts/prove/reached.py --list     lists those that none reaches, with their files and lines
     scripts/prove/reached.py --order    lists those that run_program reaches, by file, with sizes in lines
@@ -18,7 +20,7 @@ import sys
 from collections import defaultdict
 from pathlib import Path
 
-from statement import Statement
+from statement import Statement, is_counted, what_is_uncounted
 
 TOP = Path(__file__).resolve().parent.parent.parent
 PUBLIC = ["iv_text", "iv_track", "iv_cover", "iv_pair", "iv_session", "iv_cli"]
@@ -83,7 +85,7 @@ def definitions():
                 if not indent:
                     around = ""
                 at = ("spec", crate, module, head[2])
-                found[at] = {"text": around, "comment": " ".join(said), "names": names, "path": path.relative_to(TOP), "lines": 0}
+                found[at] = {"text": around, "comment": " ".join(said), "names": names, "path": path.relative_to(TOP), "lines": 0, "at": len(found)}
             elif LEMMA.match(line) and len(LEMMA.match(line)[1]) <= indent:
                 at = None
             elif line.startswith("use ") or not line.strip():
@@ -241,6 +243,8 @@ class Walk:
 
 def page_with(page, keys, size):
     """The page of promises with the numbers of these definitions: of all, and of the crates that each row of its table links."""
+    page = re.sub(r"\d+ names of bytes and the \d+ definitions of notices", what_is_uncounted(keys), page)
+    keys = [*filter(is_counted, keys)]
     page = re.sub(r"[\d,]+ definitions, [\d,]+ lines", f"{len(keys):,} definitions, {size(keys):,} lines", page)
 
     def row(m):
@@ -267,7 +271,7 @@ def main():
         print(f"crates/{crate}/specs: {name} of {module} is {'in' if module.startswith(INSIDE) else 'outside'} the folder {INSIDE}")
     promises, statement = TOP / "docs" / "PROMISES.md", Statement(walk, TOP)
     right = {promises: page_with(promises.read_text(), program, size), TOP / "docs" / "STATEMENT.md": statement.page()}
-    statement.problems += [f"{walk.specs[key]['path']}: {key[3]} is counted, but not on the page" for key in program - {*statement.keys}]
+    statement.problems += [f"{walk.specs[key]['path']}: {key[3]} is reached, but not on the page" for key in program - {*statement.keys, *statement.bytes}]
     for problem in statement.problems:
         print(problem)
     if "--check" in sys.argv and statement.problems:

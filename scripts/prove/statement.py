@@ -10,6 +10,8 @@ from collections import Counter, defaultdict, namedtuple
 
 PROGRAM = ("iv_program", "run_program")
 LINES_OF_A_SCRIPT = ("iv_session", "ScriptLines")  # with these the first part begins
+BYTES = ("iv_text", "Bytes")  # names of bytes, which are lines of the glossary
+NOTICES = {("iv_args", "InfoRequests"), ("iv_args", "Texts")}  # what has a section of its own at the end
 # Several definitions of one file have a heading of their own if they are all that it has, or have so many lines; the second number is
 # for all that a part of the page has of the file.
 LINES_FOR_A_HEADING = 8, 6
@@ -142,6 +144,8 @@ The contract of `bedkeep`, and each definition on which it rests, after the one 
 |---|---|---|
 {rows}
 
+These numbers are without {uncounted}: the first are lines of the glossary, and the others are the last section.
+
 `scripts/prove/reached.py --write` writes the page from the sources, and `make test` compares the two. The prose is that of comments; only the text in blocks counts.
 
 ## Contents
@@ -162,7 +166,7 @@ The contract of `bedkeep`, and each definition on which it rests, after the one 
 
 ## Glossary
 
-The words of Rattle's standard library that definitions use. Each has a definition there too; *New words* below a definition are those that no definition above uses.
+The words of Rattle's standard library that definitions use, where each has a definition too, and the names of bytes, from [`iv_text/specs/Bytes.antt`](../crates/iv_text/specs/Bytes.antt). *New words* below a definition are those that no definition above uses.
 
 {glossary}
 
@@ -170,7 +174,7 @@ The words of Rattle's standard library that definitions use. Each has a definiti
 
 {contract}
 
-This is about any files, input, output and messages; `F.state`, `R.state`, `W.state` and `E.state` are what is known of them ([The devices](#the-devices)). `words` are the arguments after the program's name, and `result` is how the run ended: its `exit_reason` decides the exit status, by `status_of` of [`iv_cli/specs/ExitReasons.antt`](../crates/iv_cli/specs/ExitReasons.antt).
+This is about any files, input, output and messages; `F.state`, `R.state`, `W.state` and `E.state` are what is known of them ([The devices](#the-devices)). `words` are the arguments after the program's name, and `result` is how the run ended: its `exit_reason` decides the exit status, which is that of its `report_of` ([`iv_cli/specs/ExitReasons.antt`](../crates/iv_cli/specs/ExitReasons.antt)).
 
 {ended}
 """
@@ -194,6 +198,13 @@ The contract is about all files, inputs and outputs that keep these promises. Th
 """
 
 
+LAST = """\
+## Notices
+
+The contract promises of `--help`, of help on one kind of run, and of `--version` only that such a text is printed, or a prefix if the output fails, and nothing else is done. `notice_of` says which words ask for one; the text is a constant of the sources, and nothing is promised of what it says. So these {count} definitions are in no number above.
+"""
+
+
 def sentence(comment):
     """A comment as a sentence of prose."""
     text = re.sub(r"<(?=\w)", "&lt;", " ".join(comment.split()).replace("*", r"\*"))
@@ -206,6 +217,17 @@ def block(text, language=""):
 
 def quoted(words):
     return ", ".join(f"`{word}`" for word in words)
+
+
+def is_counted(key):
+    """Whether a definition is one of those whose number the page gives."""
+    return key[1:3] != BYTES and key[1:3] not in NOTICES
+
+
+def what_is_uncounted(keys):
+    """What the numbers of definitions leave out, with how many there are."""
+    names, notices = (sum(test(key[1:3]) for key in keys) for test in (BYTES.__eq__, NOTICES.__contains__))
+    return f"{names} names of bytes and the {notices} definitions of notices"
 
 
 def slug(heading):
@@ -255,7 +277,12 @@ class Statement:
         devices = [used for trait in self.traits for used in self.uses_of_type(trait) if used[0] == "spec"]
         first, second = {*self.ways(self.starts)}, {*self.before}
         third = {*self.ways(devices)} - first - second
-        self.groups = self.ordered(self.starts, first), self.ordered(self.roots, second - first), self.ordered(devices, third)
+        notices = [key for key in self.before if key[1:3] in NOTICES]
+        others = first | second | third
+        self.bytes = {key: self.byte(key) for key in sorted(others, key=lambda key: self.walk.specs[key]["at"]) if key[1:3] == BYTES}
+        first, second, third = ({key for key in keys if is_counted(key)} for keys in (first, second, third))
+        self.groups = (self.ordered(self.starts, first), self.ordered(self.roots, second - first), self.ordered(devices, third),
+                       self.ordered(notices, {*notices}))
         self.keys = [key for groups in self.groups for _, keys, _ in groups for key in keys]
         self.user = {key: self.before[key] for key in self.starts}
         for key in self.keys:
@@ -266,6 +293,13 @@ class Statement:
         self.means, self.bearers = {}, self.all_names()
 
     # ---- what there is
+
+    def byte(self, key):
+        """The number that a name of a byte means."""
+        m = re.fullmatch(rf"\s*abbrev pub {key[3]} : ℕ\n{key[3]} = (\d+)\n*", self.walk.specs[key]["text"])
+        if not m:
+            sys.exit(f"{self.walk.specs[key]['path']}: {key[3]} is no name of a byte, so the page can't have it as one")
+        return int(m[1])
 
     def named(self, text, names, imported, crate):
         """What a text of the sources names, in order: definitions of specs/, and what the sources declare or see as something else."""
@@ -316,7 +350,7 @@ class Statement:
         """How many definitions, words of std, types of Rust and their cases have a name."""
         types = {self.type_key(used) for key in self.keys for _, used in self.walk.uses[key] if used and used[0] == "src"}
         cases = [name for key in types if key in self.declared for name in [key[2], *self.cases(key)] if name[0].isupper()]
-        return Counter([*(key[3] for key in self.keys), *WORDS, *cases])
+        return Counter([*(key[3] for key in [*self.keys, *self.bytes]), *WORDS, *cases])
 
     # ---- the order
 
@@ -462,9 +496,10 @@ class Statement:
         return parts, headings
 
     def words(self, key):
-        """The words of std that a definition uses, in order."""
+        """The words of the glossary that a definition uses, in order."""
         fields = re.findall(r"(?<=[\w)'])\.(now|old|new)\b", self.walk.specs[key]["text"])
-        return [used[1] for _, used in self.walk.uses[key] if used and used[0] == "std"] + fields
+        used = [used for _, used in self.walk.uses[key] if used]
+        return [key[-1] for key in used if key[0] == "std" or key in self.bytes] + fields
 
     def page(self):
         """The text of the page. It also finds what is wrong with it."""
@@ -474,15 +509,22 @@ class Statement:
         ended = [part for key in self.types if key not in self.traits for part in self.type_block(key)]
         (first, of_first), (second, of_second) = map(self.part, self.groups[:2])
         devices = [part for key in self.traits for part in self.type_block(key)] + self.part(self.groups[2], False)[0]
+        notices = self.part(self.groups[3], False)[0]
         self.check()
         headings = [("Part 1: edits, session and views", of_first), ("Part 2: the shell", of_second + ["The devices"])]
         contents = "\n\n".join(f"[{title}](#{slug(title)}): " + " · ".join(f"[{name}](#{slug(name)})" for name in names) for title, names in headings)
-        glossary = "\n\n".join(f"**{subject}**\n\n" + "\n".join(f"- {line}" for line in lines.values()) for subject, lines in GLOSSARY.items())
+        contents += f"\n\n[Notices](#{slug('Notices')})"
+        named = {"**Bytes**, by names": [f"`{key[3]}`: the byte {byte}" for key, byte in self.bytes.items()]}
+        subjects = {**{f"**{subject}**": lines.values() for subject, lines in GLOSSARY.items()}, **named}
+        glossary = "\n\n".join(f"{subject}\n\n" + "\n".join(f"- {line}" for line in lines) for subject, lines in subjects.items())
         count = len([key for _, keys, _ in self.groups[0] for key in keys])
-        parts = {"1: edits, session and views": self.keys[:count], "2: the shell": self.keys[count:], "Both": self.keys}
+        counted = [*filter(is_counted, self.keys)]
+        parts = {"1: edits, session and views": counted[:count], "2: the shell": counted[count:], "Both": counted}
         rows = "\n".join(f"| {name} | {len(keys)} | {sum(self.walk.specs[key]['lines'] for key in keys):,} |" for name, keys in parts.items())
-        head = HEAD.format(rows=rows, contents=contents, glossary=glossary, contract="\n\n".join(contract), ended="\n\n".join(ended))
-        pieces = [head, FIRST.format(chain=quoted(self.chain())), *first, SECOND, *second, DEVICES, *devices]
+        uncounted = what_is_uncounted([*self.keys, *self.bytes])
+        head = HEAD.format(rows=rows, uncounted=uncounted, contents=contents, glossary=glossary, contract="\n\n".join(contract), ended="\n\n".join(ended))
+        pieces = [head, FIRST.format(chain=quoted(self.chain())), *first, SECOND, *second, DEVICES, *devices,
+                  LAST.format(count=len(self.keys) - len(counted)), *notices]
         return "\n\n".join(piece.strip() for piece in pieces) + "\n"
 
     # ---- what a reader would miss
@@ -503,10 +545,11 @@ class Statement:
             text = re.sub(r'"(?:\\.|[^"\\])*"', '""', one["text"])
             modules = {f"{name}." for name in one["names"].modules}
             unknown = [name for name, used in self.walk.uses[key] if not used or used[0] == "std" and used[1] not in WORDS
-                       or used[0] == "spec" and used not in self.keys or used[0] == "src" and self.type_key(used) not in self.shown]
+                       or used[0] == "spec" and used not in self.keys and used not in self.bytes or used[0] == "src" and self.type_key(used) not in self.shown]
             unknown += [name for before, name in re.findall(r"([\w)']+\.)([A-Za-z_]\w*)", text) if before not in modules and name not in fields]
             unknown += [name for name in re.findall(r"[{;]\s*(\w+)\s+=\s", text) if name not in fields and not re.fullmatch("[A-Z]", name)]
             for name in dict.fromkeys(unknown):
                 self.problems.append(f"{one['path']}: {key[3]} uses {name}, which the page doesn't explain")
-        self.problems += [f"scripts/prove/statement.py: no definition uses the word {word} of the glossary" for word in sorted(WORDS - self.said)]
-        self.problems += [f"scripts/prove/statement.py: the glossary lacks the word {word}, which the page uses" for word in sorted(self.said - WORDS)]
+        words = WORDS | {key[3] for key in self.bytes}
+        self.problems += [f"scripts/prove/statement.py: no definition uses the word {word} of the glossary" for word in sorted(words - self.said)]
+        self.problems += [f"scripts/prove/statement.py: the glossary lacks the word {word}, which the page uses" for word in sorted(self.said - words)]

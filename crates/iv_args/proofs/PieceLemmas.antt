@@ -8,10 +8,11 @@ use Rattle.std.proofs.lemmas.List.Elements.{recursion_from_All}
 use Rattle.iv_args.specs.declared.subcommand.Subcommand.{Subcommand}
 use Rattle.iv_args.specs.declared.subcommand.RunOption.{RunOption}
 use Rattle.iv_args.specs.declared.subcommand.RunOption.TheVariants as option
-use Rattle.iv_args.specs.Words.{RunPlan, IsPlan, SplitWords, split_words, split_next, run_of, is_session, option_of, takes_value, values_of, is_option, limit_said, width_said}
+use Rattle.iv_args.specs.Words.{RunPlan, IsPlan, SplitWords, split_words, split_next, run_of, is_session, option_of, takes_value, values_of, is_option}
+use Rattle.iv_args.specs.Inside.Drafts.{limit_said, width_said}
 use Rattle.iv_args.specs.Inside.Pieces.{Piece, piece_words, IsPiece}
 use Rattle.iv_args.proofs.DraftLemmas.{none≢some, some-same, Setting, with_setting, with_words, split_last}
-use Rattle.iv_args.proofs.WordLemmas.{width-once, limit-once, few-listed}
+use Rattle.iv_args.proofs.WordLemmas.{width-once, limit-once, few-listed, for-kind, of-kind}
 
 -- ---- what a piece adds to the parts of the words after it
 
@@ -160,25 +161,29 @@ plan-parts word rest plan is = ap (split_words plan.run) (sym (tail-is is.are)) 
 
 -- words with the same parts are the same plan
 plan-alike : (word : List ℕ) (rest other : List (List ℕ)) (plan : RunPlan) (is : IsPlan (word ∷ rest) plan) → HasParts (split_words plan.run other) is.parts → IsPlan (word ∷ other) plan
-plan-alike word rest other plan is like = record {
-  word = word;
-  rest = other;
-  parts = like.0;
-  are = refl;
-  run = ap run_of (sym (head-is is.are)) ∙ is.run;
-  splitting = like.1;
-  sizes = sym (like.2.values option.Sizes) ∙ is.sizes;
-  first = sym (like.2.values option.First) ∙ is.first;
-  other = sym (like.2.values option.Other) ∙ is.other;
-  bases = sym (like.2.values option.Bases) ∙ is.bases;
-  width = ap width_said (sym (like.2.values option.Width)) ∙ is.width;
-  limit = ap limit_said (sym (like.2.values option.Limit)) ∙ is.limit;
-  view =
-      is.view ∙ ap (λ (w : List ℕ). if is_session plan.run then is.parts.view else w ∷ is.parts.view) (head-is is.are)
-      ∙ ap (λ (l : List (List ℕ)). if is_session plan.run then l else word ∷ l) like.2.view;
-  needed = is.needed;
-  understood = is.understood;
-}
+plan-alike word rest other plan is like =
+    let asked = for-kind plan.run is.word is.parts plan.view plan.other plan.bases is.other is.bases is.kind in
+    let first_is = sym (like.2.values option.First) ∙ is.first in
+    let other_is = sym (like.2.values option.Other) ∙ is.other in
+    let bases_are = sym (like.2.values option.Bases) ∙ is.bases in
+    record {
+      word = word;
+      rest = other;
+      parts = like.0;
+      are = refl;
+      run = ap run_of (sym (head-is is.are)) ∙ is.run;
+      splitting = like.1;
+      sizes = sym (like.2.values option.Sizes) ∙ is.sizes;
+      first = first_is;
+      other = other_is;
+      bases = bases_are;
+      width = ap width_said (sym (like.2.values option.Width)) ∙ is.width;
+      limit = ap limit_said (sym (like.2.values option.Limit)) ∙ is.limit;
+      kind = of-kind plan.run word like.0 plan.view plan.first plan.other plan.bases first_is other_is bases_are
+          (asked.view_is ∙ ap (λ (w : List ℕ). if is_session plan.run then is.parts.view else w ∷ is.parts.view) (head-is is.are)
+          ∙ ap (λ (l : List (List ℕ)). if is_session plan.run then l else word ∷ l) like.2.view)
+          asked.needed asked.accepted;
+    }
 
 plan-moved : (plan : RunPlan) (word : List ℕ) (front : List Piece) (a b : Piece) (back : List (List ℕ)) → AllByRecursion (IsPiece plan.run) (front ++ a ∷ b ∷ [])
     → option_of plan.run a.word ≢ option_of plan.run b.word → IsPlan (word ∷ (piece_words (front ++ a ∷ b ∷ []) ++ back)) plan

@@ -1,7 +1,8 @@
 -- The words of a run: those that are a plan, and those that are none.
 use Rattle.std.proofs.Common.{◌≡◌, ℕ, ◌≤◌, true, false, List, [], ◌∷◌, ◌++◌, Option, Some, None, length, refl, sym, ap, ◌∙◌, subst, arith, ◌⊎◌, inl, inr, Result, Ok, Err}
-use Rattle.std.specs.Prelude.{◌≢◌, if◌then◌else◌, IfOk, IfErr}
-use Rattle.std.specs.Option.{option_to_list}
+use Rattle.std.specs.Prelude.{◌≢◌, codes, if◌then◌else◌, IfOk, IfErr}
+use Rattle.std.specs.Option.{is_some, option_to_list}
+use Rattle.std.proofs.lemmas.List.Elements.{All-nil, All-cons, recursion_from_All}
 use Rattle.std.proofs.lemmas.Bool.{false≢true}
 use Rattle.iv_text.specs.declared.fault.Fault.{Fault}
 use Rattle.iv_text.specs.declared.fault.Fault.TheVariants as fault
@@ -11,8 +12,8 @@ use Rattle.iv_args.specs.declared.subcommand.Subcommand.{Subcommand}
 use Rattle.iv_args.specs.declared.subcommand.Subcommand.TheVariants as kind
 use Rattle.iv_args.specs.declared.subcommand.RunOption.{RunOption}
 use Rattle.iv_args.specs.declared.subcommand.RunOption.TheVariants as option
-use Rattle.iv_args.specs.Words.{RunPlan, IsPlan, SplitWords, split_words, run_of, is_session, values_of, limit_said, width_said, has_needed_files, AreViewWords}
-use Rattle.iv_args.specs.Inside.Drafts.{PartialPlan, begun_by, drafted, lead, are_understood, are_view_words, Makes}
+use Rattle.iv_args.specs.Words.{RunPlan, IsPlan, IsOfKind, SplitWords, file_options, split_words, run_of, is_session, values_of}
+use Rattle.iv_args.specs.Inside.Drafts.{PartialPlan, AreViewWords, begun_by, drafted, has_needed_files, lead, limit_said, are_understood, are_view_words, width_said, Makes}
 use Rattle.iv_args.proofs.DraftLemmas.{none≢some, some-same, listed, Gives, drafted-gives, drafted-never}
 
 -- nothing is given by the first word
@@ -64,6 +65,82 @@ pub few-listed : (o : Option (List ℕ)) → length (option_to_list o) ≤ 1
 few-listed None = omega arith
 few-listed (Some value) = omega arith
 
+-- ---- what a kind of run asks for
+
+-- an option is given
+abbrev IsGiven : SplitWords → List ℕ × RunOption → Type 0
+IsGiven parts file = values_of file.1 parts.settings ≢ []
+
+one-given : (values : List (List ℕ)) (value : List ℕ) → values ≡ value ∷ [] → values ≢ []
+one-given values value is none = none≢one (sym none ∙ is)
+  where
+    none≢one : [] ≡ value ∷ [] → ⊥
+    none≢one e = cc
+
+some-given : (o : Option (List ℕ)) (values : List (List ℕ)) → values ≡ option_to_list o → is_some o ≡ true → values ≢ []
+some-given None values is some none = absurd (false≢true some)
+some-given (Some value) values is some none = one-given values value is none
+
+given-some : (o : Option (List ℕ)) → (option_to_list o ≡ [] → ⊥) → is_some o ≡ true
+given-some None given = absurd (given refl)
+given-some (Some value) given = refl
+
+pub of-kind : (run : Subcommand) (word : List ℕ) (parts : SplitWords) (view : List (List ℕ)) (first : List ℕ) (other bases : Option (List ℕ))
+    → values_of option.First parts.settings ≡ first ∷ [] → values_of option.Other parts.settings ≡ option_to_list other
+    → values_of option.Bases parts.settings ≡ option_to_list bases → view ≡ (if is_session run then parts.view else word ∷ parts.view)
+    → has_needed_files run other bases ≡ true → AreViewWords run view → IsOfKind run word parts view
+of-kind kind.Session word parts view first other bases f o b is needed accepted = (sym is ∙ accepted, accepted)
+of-kind kind.Intersect word parts view first other bases f o b is needed accepted = (
+  is,
+  accepted,
+  All-cons (IsGiven parts) (codes "-a", option.First) ((codes "-b", option.Other) ∷ []) (one-given _ first f)
+      (All-cons (IsGiven parts) (codes "-b", option.Other) [] (some-given other _ o needed) (All-nil (IsGiven parts))),
+)
+of-kind kind.Subtract word parts view first other bases f o b is needed accepted = (
+  is,
+  accepted,
+  All-cons (IsGiven parts) (codes "-a", option.First) ((codes "-b", option.Other) ∷ []) (one-given _ first f)
+      (All-cons (IsGiven parts) (codes "-b", option.Other) [] (some-given other _ o needed) (All-nil (IsGiven parts))),
+)
+of-kind kind.Getfasta word parts view first other bases f o b is needed accepted = (
+  is,
+  accepted,
+  All-cons (IsGiven parts) (codes "-bed", option.First) ((codes "-fi", option.Bases) ∷ []) (one-given _ first f)
+      (All-cons (IsGiven parts) (codes "-fi", option.Bases) [] (some-given bases _ b needed) (All-nil (IsGiven parts))),
+)
+of-kind run word parts view first other bases f o b is needed accepted = (
+  is,
+  accepted,
+  All-cons (IsGiven parts) (codes "-i", option.First) [] (one-given _ first f) (All-nil (IsGiven parts)),
+)
+
+-- what the words of a plan are for its kind
+pub record AreForKind (run : Subcommand) (word : List ℕ) (parts : SplitWords) (view : List (List ℕ)) (other bases : Option (List ℕ)) : Type 0 where
+  pub view_is : view ≡ (if is_session run then parts.view else word ∷ parts.view)
+  pub needed : has_needed_files run other bases ≡ true
+  pub accepted : AreViewWords run view
+
+pub for-kind : (run : Subcommand) (word : List ℕ) (parts : SplitWords) (view : List (List ℕ)) (other bases : Option (List ℕ))
+    → values_of option.Other parts.settings ≡ option_to_list other → values_of option.Bases parts.settings ≡ option_to_list bases
+    → IsOfKind run word parts view → AreForKind run word parts view other bases
+for-kind kind.Session word parts view other bases o b is = record { view_is = is.1 ∙ sym is.0; needed = refl; accepted = is.1 }
+for-kind kind.Intersect word parts view other bases o b is = record {
+  view_is = is.0;
+  needed = given-some other (λ none. (recursion_from_All (IsGiven parts) (file_options kind.Intersect) is.2).1.0 (o ∙ none));
+  accepted = is.1;
+}
+for-kind kind.Subtract word parts view other bases o b is = record {
+  view_is = is.0;
+  needed = given-some other (λ none. (recursion_from_All (IsGiven parts) (file_options kind.Subtract) is.2).1.0 (o ∙ none));
+  accepted = is.1;
+}
+for-kind kind.Getfasta word parts view other bases o b is = record {
+  view_is = is.0;
+  needed = given-some bases (λ none. (recursion_from_All (IsGiven parts) (file_options kind.Getfasta) is.2).1.0 (b ∙ none));
+  accepted = is.1;
+}
+for-kind run word parts view other bases o b is = record { view_is = is.0; needed = refl; accepted = is.1 }
+
 module _ (word : List ℕ) (rest : List (List ℕ)) (run : Subcommand) (is_run : Some run ≡ run_of word) where
   -- ---- words that are a plan
 
@@ -74,6 +151,9 @@ module _ (word : List ℕ) (rest : List (List ℕ)) (run : Subcommand) (is_run :
   pub accept : (said : PartialPlan) (plan : RunPlan) → drafted run rest (begun_by run word) ≡ Some said → Makes run said plan → IsPlan (word ∷ rest) plan
   accept said plan h made =
       let g = drafted-gives run rest (begun_by run word) said h in
+      let first = values-said said g option.First ∙ ap option_to_list made.first in
+      let other = values-said said g option.Other ∙ ap option_to_list made.other in
+      let bases = values-said said g option.Bases ∙ ap option_to_list made.bases in
       record {
         word = word;
         rest = rest;
@@ -82,17 +162,16 @@ module _ (word : List ℕ) (rest : List (List ℕ)) (run : Subcommand) (is_run :
         run = sym is_run ∙ ap Some (sym made.run_is);
         splitting = ap (λ (r : Subcommand). split_words r rest) made.run_is ∙ g.are;
         sizes = values-said said g option.Sizes ∙ ap option_to_list made.sizes;
-        first = values-said said g option.First ∙ ap option_to_list made.first;
-        other = values-said said g option.Other ∙ ap option_to_list made.other;
-        bases = values-said said g option.Bases ∙ ap option_to_list made.bases;
+        first = first;
+        other = other;
+        bases = bases;
         width = ap width_said (values-said said g option.Width) ∙ made.width;
         limit = ap limit_said (values-said said g option.Limit) ∙ made.limit;
-        view = sym made.view ∙ g.view ∙ ap (λ (r : Subcommand). lead r word ++ g.parts.view) (sym made.run_is) ∙ lead-is plan.run word g.parts.view;
-        needed =
-            ap (λ (r : Subcommand). has_needed_files r plan.other plan.bases) made.run_is ∙ ap (λ (o : Option (List ℕ)). has_needed_files run o plan.bases) (sym made.other)
-            ∙ ap (λ (o : Option (List ℕ)). has_needed_files run said.other o) (sym made.bases) ∙ made.needed;
-        understood =
-            accepted-of plan.run plan.view (ap (λ (r : Subcommand). are_view_words r plan.view) made.run_is ∙ ap (are_view_words run) (sym made.view) ∙ made.understood);
+        kind = of-kind plan.run word g.parts plan.view plan.first plan.other plan.bases first other bases
+            (sym made.view ∙ g.view ∙ ap (λ (r : Subcommand). lead r word ++ g.parts.view) (sym made.run_is) ∙ lead-is plan.run word g.parts.view)
+            (ap (λ (r : Subcommand). has_needed_files r plan.other plan.bases) made.run_is ∙ ap (λ (o : Option (List ℕ)). has_needed_files run o plan.bases) (sym made.other)
+            ∙ ap (λ (o : Option (List ℕ)). has_needed_files run said.other o) (sym made.bases) ∙ made.needed)
+            (accepted-of plan.run plan.view (ap (λ (r : Subcommand). are_view_words r plan.view) made.run_is ∙ ap (are_view_words run) (sym made.view) ∙ made.understood));
       }
 
   pub accept-from : (first said : PartialPlan) (plan : RunPlan) → first ≡ begun_by run word → drafted run rest first ≡ Some said → Makes run said plan
@@ -161,6 +240,7 @@ module _ (word : List ℕ) (rest : List (List ℕ)) (run : Subcommand) (is_run :
   makes said plan h is =
       let g = drafted-gives run rest (begun_by run word) said h in
       let of = is-of plan is in
+      let asked = for-kind plan.run is.word is.parts plan.view plan.other plan.bases is.other is.bases is.kind in
       let parts : g.parts ≡ is.parts = some-same g.parts is.parts (sym g.are ∙ of.splitting) in
       let at : (k : RunOption) → listed said k ≡ values_of k is.parts.settings =
       λ k. sym (values-said said g k) ∙ ap (λ (p : SplitWords). values_of k p.settings) parts in
@@ -168,7 +248,7 @@ module _ (word : List ℕ) (rest : List (List ℕ)) (run : Subcommand) (is_run :
       let bases : said.bases ≡ plan.bases = said-same said.bases plan.bases (at option.Bases ∙ is.bases) in
       let view : said.view ≡ plan.view =
       g.view ∙ ap (λ (p : SplitWords). lead run word ++ p.view) parts ∙ ap (λ (r : Subcommand). lead r word ++ is.parts.view) (sym of.run_is)
-      ∙ ap (λ (w : List ℕ). lead plan.run w ++ is.parts.view) (sym of.word_is) ∙ lead-is plan.run is.word is.parts.view ∙ sym is.view in
+      ∙ ap (λ (w : List ℕ). lead plan.run w ++ is.parts.view) (sym of.word_is) ∙ lead-is plan.run is.word is.parts.view ∙ sym asked.view_is in
       record {
         run_is = of.run_is;
         sizes = said-value said.sizes plan.sizes (at option.Sizes ∙ is.sizes);
@@ -180,8 +260,8 @@ module _ (word : List ℕ) (rest : List (List ℕ)) (run : Subcommand) (is_run :
         view = view;
         needed =
             ap (λ (r : Subcommand). has_needed_files r said.other said.bases) (sym of.run_is) ∙ ap (λ (o : Option (List ℕ)). has_needed_files plan.run o said.bases) other
-            ∙ ap (λ (o : Option (List ℕ)). has_needed_files plan.run plan.other o) bases ∙ is.needed;
-        understood = ap (are_view_words run) view ∙ ap (λ (r : Subcommand). are_view_words r plan.view) (sym of.run_is) ∙ accepted-by plan.run plan.view is.understood;
+            ∙ ap (λ (o : Option (List ℕ)). has_needed_files plan.run plan.other o) bases ∙ asked.needed;
+        understood = ap (are_view_words run) view ∙ ap (λ (r : Subcommand). are_view_words r plan.view) (sym of.run_is) ∙ accepted-by plan.run plan.view asked.accepted;
       }
 
   pub refuse-plan : (said : PartialPlan) → drafted run rest (begun_by run word) ≡ Some said → ((plan : RunPlan) → ¬ Makes run said plan)

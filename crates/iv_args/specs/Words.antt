@@ -1,5 +1,5 @@
 -- The words of a run.
-use Rattle.std.specs.Prelude.{◌≡◌, ◌≢◌, ℕ, ◌&&◌, ◌||◌, nat_le, Bool, true, false, if◌then◌else◌, List, [], ◌∷◌, Option, None, Some, Err, map, filter, codes}
+use Rattle.std.specs.Prelude.{◌≡◌, ◌≢◌, ℕ, ◌&&◌, ◌||◌, nat_le, Bool, true, false, if◌then◌else◌, List, [], ◌∷◌, Option, None, Some, Err, All, map, filter, codes}
 use Rattle.std.specs.Map.{lookup}
 use Rattle.std.specs.Option.{is_some, option_and_then, option_map, option_to_list}
 use Rattle.std.specs.Str.{bytes_eq}
@@ -35,10 +35,9 @@ file_of plan Bases = plan.bases
 -- the kind of run that a word names
 abbrev pub run_of : List ℕ → Option Subcommand
 run_of word =
-    lookup (bytes_eq word)
-    ((codes "session", kind.Session) ∷ (codes "merge", kind.Merge) ∷ (codes "cluster", kind.Cluster) ∷ (codes "complement", kind.Complement)
-    ∷ (codes "genomecov", kind.Genomecov) ∷ (codes "intersect", kind.Intersect) ∷ (codes "subtract", kind.Subtract)
-    ∷ (codes "getfasta", kind.Getfasta) ∷ (codes "records", kind.Records) ∷ [])
+    lookup (bytes_eq word) ((codes "session", kind.Session) ∷ (codes "merge", kind.Merge) ∷ (codes "cluster", kind.Cluster)
+    ∷ (codes "complement", kind.Complement) ∷ (codes "genomecov", kind.Genomecov) ∷ (codes "intersect", kind.Intersect)
+    ∷ (codes "subtract", kind.Subtract) ∷ (codes "getfasta", kind.Getfasta) ∷ (codes "records", kind.Records) ∷ [])
 
 -- whether a script is run
 abbrev pub is_session : Subcommand → Bool
@@ -53,17 +52,9 @@ file_options kind.Subtract = (codes "-a", option.First) ∷ (codes "-b", option.
 file_options kind.Getfasta = (codes "-bed", option.First) ∷ (codes "-fi", option.Bases) ∷ []
 file_options run = (codes "-i", option.First) ∷ []
 
--- whether the files are named that a kind of run needs beside the genome and the records: the second file and the FASTA file
-abbrev pub has_needed_files : Subcommand → Option (List ℕ) → Option (List ℕ) → Bool
-has_needed_files kind.Intersect other bases = is_some other
-has_needed_files kind.Subtract other bases = is_some other
-has_needed_files kind.Getfasta other bases = is_some bases
-has_needed_files run other bases = true
-
 -- the option that a word is: one that names a file of this kind of run, or the one of the width or the limit
 abbrev pub option_of : Subcommand → List ℕ → Option RunOption
-option_of run word =
-    lookup (bytes_eq word) ((codes "-g", option.Sizes) ∷ (codes "-width", option.Width) ∷ (codes "-limit", option.Limit) ∷ file_options run)
+option_of run word = lookup (bytes_eq word) ((codes "-g", option.Sizes) ∷ (codes "-width", option.Width) ∷ (codes "-limit", option.Limit) ∷ file_options run)
 
 -- whether a word of the view has the next word as its value
 abbrev pub takes_value : Subcommand → List ℕ → Bool
@@ -104,31 +95,28 @@ is_option asked _ = false
 abbrev pub values_of : RunOption → List (RunOption × List ℕ) → List (List ℕ)
 values_of asked settings = map (λ setting. setting.1) (filter (λ setting. is_option asked setting.0) settings)
 
--- the width of the values that are given for it: one of these digits, and 3 if there is none
-abbrev pub width_said : List (List ℕ) → Option ℕ
-width_said [] = Some 3
-width_said (value ∷ []) = lookup (bytes_eq value) ((codes "3", 3) ∷ (codes "4", 4) ∷ (codes "5", 5) ∷ (codes "6", 6) ∷ [])
-width_said values = None
+-- what the values mean that are given for an option that may be left out: this if there is none, what one means if there is one; more
+-- are refused
+abbrev pub said_once : ℕ → (List ℕ → Option ℕ) → List (List ℕ) → Option ℕ
+said_once usual meaning [] = Some usual
+said_once usual meaning (value ∷ []) = meaning value
+said_once usual meaning values = None
 
 -- the greatest limit
 abbrev pub most_limit : ℕ
 most_limit = 100000000
 
--- the limit of the values that are given for it: a number from 1 to the greatest, and 4,000,000 if there is none
-abbrev pub limit_said : List (List ℕ) → Option ℕ
-limit_said [] = Some 4000000
-limit_said (value ∷ []) = option_and_then (λ n. if nat_le 1 n && nat_le n most_limit then Some n else None) (number value)
-limit_said values = None
-
--- the words of the view are accepted, for records of six columns and beside both files; a fault that only the files can show is
--- none here, and a session has no such words
-abbrev pub AreViewWords : Subcommand → List (List ℕ) → Type 0
-AreViewWords kind.Session words = words ≡ []
-AreViewWords run words = read_words 6 true true words ≢ Err fault.Words
+-- what each kind of run asks for, given its first word and the parts of the others: a session has no words of a view. The words of the
+-- view of a subcommand are its first word and those among the others, and are accepted for records of six columns and beside both files;
+-- a fault that only the files can show is none here. Each file is named that it has an option for
+abbrev pub IsOfKind : Subcommand → List ℕ → SplitWords → List (List ℕ) → Type 0
+IsOfKind kind.Session word parts view = (parts.view ≡ []) × (view ≡ [])
+IsOfKind run word parts view =
+    (view ≡ word ∷ parts.view) × (read_words 6 true true view ≢ Err fault.Words) × All (λ file. values_of file.1 parts.settings ≢ []) (file_options run)
 
 -- the words are those of the plan: the first is that of its kind, and the others are separated into options with their values and the words
--- of its view, which come after its first word, except in a session; `-g` and the file of the records are given once, `-width` and
--- `-limit` once at most, and the second file and the FASTA file once if the kind needs them, and at most once otherwise
+-- of its view; `-g` and the file of the records are given once, and the second file, the FASTA file, `-width` and `-limit` once at most. A
+-- width is a digit from 3 to 6, 3 if none is given, and a limit a number from 1 to 100,000,000, or else 4,000,000
 pub record IsPlan (words : List (List ℕ)) (plan : RunPlan) : Type 0 where
   pub word : List ℕ
   pub rest : List (List ℕ)
@@ -140,8 +128,8 @@ pub record IsPlan (words : List (List ℕ)) (plan : RunPlan) : Type 0 where
   pub first : values_of option.First parts.settings ≡ plan.first ∷ []
   pub other : values_of option.Other parts.settings ≡ option_to_list plan.other
   pub bases : values_of option.Bases parts.settings ≡ option_to_list plan.bases
-  pub width : width_said (values_of option.Width parts.settings) ≡ Some plan.width
-  pub limit : limit_said (values_of option.Limit parts.settings) ≡ Some plan.limit
-  pub view : plan.view ≡ (if is_session plan.run then parts.view else word ∷ parts.view)
-  pub needed : has_needed_files plan.run plan.other plan.bases ≡ true
-  pub understood : AreViewWords plan.run plan.view
+  pub width : said_once 3 (λ value. lookup (bytes_eq value) ((codes "3", 3) ∷ (codes "4", 4) ∷ (codes "5", 5) ∷ (codes "6", 6) ∷ []))
+      (values_of option.Width parts.settings) ≡ Some plan.width
+  pub limit : said_once 4000000 (λ value. option_and_then (λ n. if nat_le 1 n && nat_le n 100000000 then Some n else None) (number value))
+      (values_of option.Limit parts.settings) ≡ Some plan.limit
+  pub kind : IsOfKind plan.run word parts plan.view

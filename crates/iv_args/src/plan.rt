@@ -2,8 +2,8 @@
 ghost use Rattle.std.specs.Prelude.{◌≡◌, ◌≤◌, ◌⊎◌, ◌∷◌, [], true, Some, None, IsSome, IfOk, IfErr, OnOk, map, length, drop};
 ghost use Rattle.std.specs.Option.{option_copied, option_to_list};
 ghost use Rattle.iv_view.specs.Views.{read_words};
-ghost use Rattle.iv_args.specs.Words.{RunPlan, IsPlan, file_of, has_needed_files, is_session, limit_said, most_limit, width_said};
-ghost use Rattle.iv_args.specs.Inside.Drafts.{Makes, are_view_words, begun_by, drafted, viewed, with_value};
+ghost use Rattle.iv_args.specs.Words.{RunPlan, IsPlan, file_of, is_session, most_limit};
+ghost use Rattle.iv_args.specs.Inside.Drafts.{Makes, are_view_words, begun_by, drafted, has_needed_files, limit_said, viewed, width_said, with_value};
 ghost use Rattle.iv_text.specs.Widths.{IsWidth};
 
 use crate::subcommand::{RunOption, Subcommand};

@@ -4,6 +4,7 @@ use Rattle.std.specs.Prelude.{All, map}
 use Rattle.std.specs.Option.{option_map}
 use Rattle.iv_text.specs.Genome.{Sequences}
 use Rattle.iv_text.specs.BedFile.{Bed}
+use Rattle.iv_text.specs.Chains.{if_ok}
 use Rattle.iv_text.specs.BedReading.{projected_bed}
 use Rattle.iv_text.specs.Read.{Fits}
 use Rattle.iv_text.specs.RecordValue.{RecordValue}
@@ -13,7 +14,7 @@ use Rattle.iv_run.specs.declared.fault.CliFault.{CliFault}
 use Rattle.iv_run.specs.declared.fault.CliFault.TheVariants.{Memory}
 use Rattle.iv_run.specs.Loading.{IsReport, Parsed, parsed}
 use Rattle.iv_run.specs.SoFar.{AreProjected, ReportsProjected, projected_files}
-use Rattle.iv_cli.specs.Loading.{loaded, session_of}
+use Rattle.iv_cli.specs.Loading.{loaded}
 
 -- what is held of whole records is the records
 same-all : (rows : List RecordValue) → map (λ (r : RecordValue). r) rows ≡ rows
@@ -51,9 +52,13 @@ report-err (Ok value) said is = tt
 report-err (Err k) said is = is
 
 module _ (width : ℕ) (sizes text : List ℕ) (other bases : Option (List ℕ)) (limit : ℕ) where
+  -- the session that they begin
+  abbrev begins_at : Parsed → Result State CliFault
+  begins_at files = Ok (begun files.genome files.first files.second files.bases files.limit)
+
   -- the files are sound, and all of their records is held
   pub begins : (files : Parsed) (r : Result State CliFault) → ReportsProjected (λ r. r) (Ok files) (parsed width sizes text other bases limit)
       → IfOk r (λ s. s ≡ begun files.genome files.first files.second files.bases files.limit) → IfErr r (λ k. k ≡ Memory) → IsReport r (loaded width sizes text other bases limit)
   begins files (Ok s) all ok err =
-      ap session_of (all.1 ∙ ap Ok (sym (all.2 ∙ same-files all.0))) ∙ ap Ok (sym ok)
+      ap (λ (read : Result Parsed CliFault). if_ok read begins_at) (all.1 ∙ ap Ok (sym (all.2 ∙ same-files all.0))) ∙ ap Ok (sym ok)
   begins files (Err k) all ok err = inl err

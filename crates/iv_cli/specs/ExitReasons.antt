@@ -26,7 +26,7 @@ pub record Report : Type 0 where
   pub slot : Option Slot
   pub text : List ℕ
 
--- the report of an ending
+-- the report of an ending; a number of bad options that the table of faults lacks is reported as theirs
 abbrev pub report_of : ExitReason → Report
 report_of exit_reason.Done = record { status = 0; slot = None; text = [] }
 report_of exit_reason.Refused = record { status = 1; slot = None; text = [] }
@@ -66,13 +66,12 @@ ending_of_file slot file.Input = exit_reason.Unreadable slot
 ending_of_file slot file.TooLong = exit_reason.TooLong slot
 ending_of_file slot file.Memory = exit_reason.Memory
 
--- the ending of a script that stopped
+-- the ending of a script that stopped, at a fault of the output or of the messages if not for another cause
 abbrev pub ending_of_cause : RunCause → ExitReason
 ending_of_cause cause.Input = exit_reason.InputUnreadable
 ending_of_cause cause.TooLong = exit_reason.InputTooLong
-ending_of_cause cause.Output = exit_reason.Output
-ending_of_cause cause.Messages = exit_reason.Output
 ending_of_cause cause.Memory = exit_reason.Memory
+ending_of_cause sink = exit_reason.Output
 
 -- the ending of a script: whether a line of it was refused, or why it stopped
 abbrev pub ending_of_run : Result Summary RunFault → ExitReason
@@ -81,7 +80,7 @@ ending_of_run (Err stopped) = ending_of_cause stopped.cause
 
 -- whether all that was asked for was carried out
 abbrev pub is_through : ExitReason → Bool
-is_through ended = nat_le (status_of ended) 1
+is_through ended = nat_le (report_of ended).status 1
 
 -- the ending once the output has handed on what it held, or has failed to
 abbrev pub ending_after : Bool → ExitReason → ExitReason

@@ -8,7 +8,7 @@ use iv_args::{Plan, Slot};
 use iv_bytes::{Sink, WriteFault, put_pieces};
 use iv_run::{CliFault, FileFault};
 use iv_session::{RunCause, RunFault, Summary};
-use iv_text::{Fault, LoadFault, fault_text, load_text};
+use iv_text::{Fault, LoadFault, load_text};
 use std::alloc::{AllocError, Allocator};
 use std::io::{self, ErrorKind};
 
@@ -169,7 +169,7 @@ impl ExitReason {
     {
         match self {
             ExitReason::Done | ExitReason::Refused => Ok(()),
-            ExitReason::Words(fault) => put_said(fault_text(fault), sink),
+            ExitReason::Words(fault) => put_said(fault.text(), sink),
             ExitReason::Damaged(_, damage) => {
                 put_damage(name, damage.line, load_text(&damage.cause), sink)
             }

@@ -1,6 +1,6 @@
 //! What is kept of a script while it runs: the lines that were read last, and how often each kind of message was written.
 use crate::records::count_of;
-use iv_text::{Fault, fault_text, read_number};
+use iv_text::{Fault, read_number};
 use std::alloc::{AllocError, Global};
 
 /// How many bytes are kept of a line before the piece that was read last.
@@ -179,7 +179,7 @@ fn code_of(text: &[u8]) -> Option<u8> {
         return Some(22);
     }
     for fault in &FAULTS {
-        if fault_text(*fault) == text {
+        if fault.text() == text {
             return Some(fault.code());
         }
     }

@@ -1,10 +1,13 @@
 -- Files that were read, and what a run does with them.
-use Rattle.std.proofs.Common.{◌≡◌, ◌⊎◌, inl, inr, ◌<◌, ◌≤◌, ◌^◌, ℕ, List, [], ◌∷◌, ◌++◌, length, false, Option, None, Some, Result, Ok, Err, IfOk, IfErr, IfSome, refl, sym, ap, ◌∙◌, subst, arith}
+use Rattle.std.proofs.Common.{◌≡◌, ◌⊎◌, inl, inr, ◌<◌, ◌≤◌, ◌^◌, ℕ, List, [], ◌∷◌, ◌++◌, length, false, true≢false, Option, None, Some, Result, Ok, Err, IfOk, IfErr, IfSome, refl, sym, ap, ◌∙◌, subst, arith}
+use Rattle.std.proofs.lemmas.Bool.{false≢true}
 use Rattle.std.proofs.lemmas.List.Elements.{All-nil, All-cons}
 use Rattle.std.specs.List.{All}
 use Rattle.std.specs.Option.{option_to_list}
-use Rattle.iv_bytes.specs.Sinks.{SinkState}
+use Rattle.std.specs.Prelude.{Bool, true, MatchResult, OnOk, is_ok, ◌==◌, if◌then◌else◌}
+use Rattle.iv_bytes.specs.Sinks.{SinkState, Puts, Takes, FailsIn, waiting}
 use Rattle.iv_bytes.specs.Sources.{SourceState}
+use Rattle.iv_text.specs.Fault.{code_of}
 use Rattle.iv_text.specs.declared.fault.Fault.{Fault}
 use Rattle.iv_text.specs.declared.fault.Fault.TheVariants as refused
 use Rattle.iv_workspace.specs.States.{State}
@@ -16,8 +19,10 @@ use Rattle.iv_session.specs.declared.script.RunFault.{RunFault}
 use Rattle.iv_session.specs.declared.script.Summary.{Summary}
 use Rattle.iv_args.specs.InfoRequests.{notice_of}
 use Rattle.iv_args.specs.Texts.{notice_text}
-use Rattle.iv_args.specs.Words.{RunPlan, IsPlan, file_of}
+use Rattle.iv_args.specs.Words.{RunPlan, IsPlan, file_of, is_session}
 use Rattle.iv_args.specs.declared.info_request.InfoRequest.{InfoRequest}
+use Rattle.iv_args.specs.declared.subcommand.Subcommand.{Subcommand}
+use Rattle.iv_args.specs.declared.subcommand.Subcommand.TheVariants as kind
 use Rattle.iv_args.specs.declared.plan.Slot.{Slot}
 use Rattle.iv_args.specs.declared.plan.Slot.TheVariants.{Sizes, First, Other, Bases}
 use Rattle.iv_run.specs.Loading.{IsReport}
@@ -25,14 +30,17 @@ use Rattle.iv_cli.specs.Loading.{loaded}
 use Rattle.iv_run.specs.SoFar.{SaysSecond, SoFar}
 use Rattle.iv_run.specs.declared.fault.CliFault.{CliFault}
 use Rattle.iv_run.specs.declared.fault.FileFault.{FileFault}
-use Rattle.iv_cli.specs.ExitReasons.{ending_of_words, name_meant}
+use Rattle.iv_run.specs.declared.fault.FileFault.TheVariants as file
+use Rattle.iv_cli.specs.ExitReasons.{ending_after, ending_of_cause, ending_of_file, ending_of_run, ending_of_words, is_through, line_of, name_meant}
 use Rattle.iv_cli.specs.declared.exit_reason.ExitReason.{ExitReason}
-use Rattle.iv_program.specs.Files.{FilesState, IsText, StopsFile, after_one, after_reading}
+use Rattle.iv_cli.specs.declared.exit_reason.ExitReason.TheVariants as exit_reason
+use Rattle.iv_program.specs.Files.{FilesState, IsText, after_one, after_reading}
 use Rattle.iv_program.specs.Limits.{most_file_bytes}
-use Rattle.iv_program.specs.Program.{Shown, Planned, Wrong, Ask, Finishes, PutsNotice, Runs, world}
-use Rattle.iv_program.specs.Runs.{RunsPlan}
-use Rattle.iv_program.specs.Inside.Runs.{Says}
-use Rattle.iv_program.specs.Texts.{Texts, AreTexts, HasText, IsTextIfNamed, StopsAt, names_before, names_of}
+use Rattle.iv_program.specs.Program.{Finishes, Runs, Serves, world}
+use Rattle.iv_program.specs.Runs.{World, DoesWith, HasNotRead}
+use Rattle.iv_program.specs.Inside.Files.{HasText, IsWhy, StopsAt, StopsFile, names_of}
+use Rattle.iv_program.specs.Inside.Runs.{PrintsView, RunsPlan, RunsScript, Says}
+use Rattle.iv_program.specs.Texts.{Texts, AreTexts, IsTextIfNamed, names_before}
 use Rattle.iv_program.specs.declared.program.Ended.{Ended}
 
 -- ---- files that were read
@@ -55,8 +63,7 @@ text-back names a b name text is has =
     (subst (λ (c : List ℕ → Option (List ℕ)). IfSome (c name) (λ known. known ≡ text)) (contents-back names a b is) has.0, has.1)
 
 named-back : (names : List (List ℕ)) (a b : FilesState) (name text : Option (List ℕ)) → b ≡ after_reading names a → IsTextIfNamed b name text → IsTextIfNamed a name text
-named-back names a b None None is has = tt
-named-back names a b None (Some text) is has = absurd has
+named-back names a b None text is has = has
 named-back names a b (Some name) None is has = absurd has
 named-back names a b (Some name) (Some text) is has = text-back names a b name text is has
 
@@ -140,7 +147,7 @@ short-other files plan texts are = by plan.other texts.other are.other
   where
     by : (name text : Option (List ℕ)) → IsTextIfNamed files name text → IfSome text (λ t. length t < 2 ^ 32)
     by None None is = tt
-    by None (Some text) is = absurd is
+    by None (Some text) is = absurd (cc is)
     by (Some name) None is = absurd is
     by (Some name) (Some text) is = short (length text) is.1
 
@@ -163,18 +170,99 @@ pub ran-of : (old new : State) (before after : Streams) (lines most : ℕ) (r : 
 ran-of old new before after lines most (Ok summary) done stopped = done
 ran-of old new before after lines most (Err why) done stopped = stopped
 
+-- how a script that was run ends
+pub ends-of : (run : Result Summary RunFault) (ended : ExitReason) (line : ℕ) → ended ≡ ending_of_run run
+    → MatchResult run (λ summary. line ≡ 0) (λ stopped. line ≡ stopped.line)
+    → MatchResult run (λ summary. (ended ≡ (if summary.refused == 0 then exit_reason.Done else exit_reason.Refused)) × (line ≡ 0))
+    (λ stopped. (ended ≡ ending_of_cause stopped.cause) × (line ≡ stopped.line))
+ends-of (Ok summary) ended line is at = (is, at)
+ends-of (Err stopped) ended line is at = (is, at)
+
+-- ---- plans
+
+-- a session runs its script
+does-script : (run : Subcommand) (plan : RunPlan) (texts : Texts) (before after : Streams) (ended : ExitReason) (line : ℕ) → is_session run ≡ true
+    → RunsScript plan texts before after ended line → DoesWith run plan texts before after ended line
+does-script kind.Session plan texts before after ended line session does = does
+does-script run plan texts before after ended line session does = absurd (false≢true session)
+
+-- a subcommand prints its view
+does-view : (run : Subcommand) (plan : RunPlan) (texts : Texts) (before after : Streams) (ended : ExitReason) (line : ℕ) → is_session run ≡ false
+    → PrintsView plan texts before.output after.output ended → after ≡ record before { output = after.output } → line ≡ 0 → DoesWith run plan texts before after ended line
+does-view kind.Session plan texts before after ended line view prints only no_line = absurd (true≢false view)
+does-view run plan texts before after ended line view prints only no_line = (prints, only, no_line)
+
+module _ (plan : RunPlan) (before after : World) (ended : ExitReason) (line : ℕ) where
+  -- all files were read
+  read-plan : (texts : Texts) → AreTexts before.files plan texts → after.files ≡ after_reading (names_of plan) before.files
+      → DoesWith plan.run plan texts before.streams after.streams ended line → RunsPlan plan before after ended line
+  read-plan texts are read does =
+      inl (record { texts = texts; sizes = are.sizes; first = are.first; other = are.other; bases = are.bases; files = read; does = does })
+
+  pub script-plan : (texts : Texts) → AreTexts before.files plan texts → after.files ≡ after_reading (names_of plan) before.files → is_session plan.run ≡ true
+      → RunsScript plan texts before.streams after.streams ended line → RunsPlan plan before after ended line
+  script-plan texts are read session does = read-plan texts are read (does-script plan.run plan texts before.streams after.streams ended line session does)
+
+  pub view-plan : (texts : Texts) → AreTexts before.files plan texts → after.files ≡ after_reading (names_of plan) before.files → is_session plan.run ≡ false
+      → PrintsView plan texts before.streams.output after.streams.output ended → after.streams ≡ record before.streams { output = after.streams.output } → line ≡ 0
+      → RunsPlan plan before after ended line
+  view-plan texts are read view prints only no_line =
+      read-plan texts are read (does-view plan.run plan texts before.streams after.streams ended line view prints only no_line)
+
+  -- one was not
+  pub stopped-plan : (slot : Slot) (fault : FileFault) → StopsAt plan before.files after.files slot fault → after.streams ≡ before.streams
+      → ended ≡ ending_of_file slot fault → line ≡ 0 → RunsPlan plan before after ended line
+  stopped-plan slot fault at same is no_line = inr (by fault at.stops is)
+    where
+      earlier : FilesState
+      earlier = after_reading (names_before plan slot) before.files
+
+      made : (failed : Bool) → after.files ≡ after_one failed at.name earlier → IsWhy before.files at.name slot failed ended → HasNotRead plan before after ended line
+      made failed files why = record {
+        slot = slot;
+        name = at.name;
+        named = at.named;
+        earlier = at.before;
+        failed = failed;
+        files = files;
+        why = why;
+        nothing = (same, no_line);
+      }
+
+      by : (why : FileFault) → StopsFile earlier at.name why after.files → ended ≡ ending_of_file slot why → HasNotRead plan before after ended line
+      by file.Input stops e = made true stops (inl (refl, e))
+      by file.Memory stops e = made false stops (inr (inl (refl, e)))
+      by file.TooLong stops e = made false stops.1 (inr (inr (
+        refl,
+        subst (λ (c : List ℕ → Option (List ℕ)). IfSome (c at.name) (λ known. most_file_bytes < length known)) (reading-contents (names_before plan slot) before.files) stops.0,
+        e,
+      )))
+
 -- ---- the program
+
+same-both : (b : Bool) (ended : ExitReason) → (if b then ended else ended) ≡ ended
+same-both true ended = refl
+same-both false ended = refl
+
+-- a run is finished once the output was flushed, or failed in it, and its ending was reported
+pub finished-by : {E : Type 0} (flushed : Result (Unit {0}) E) (ended : ExitReason) (name : List ℕ) (out0 out1 said0 said1 : SinkState) (reported : ExitReason)
+    → Puts out0 out1 flushed [] → OnOk flushed (waiting out1 ≡ []) → reported ≡ ending_after (is_ok flushed) ended
+    → Takes said0 said1 (line_of name reported) ⊎ FailsIn said0 said1 (line_of name reported) → (is_through reported ≡ true → said1 ≡ said0)
+    → Finishes ended name out0 out1 said0 said1 reported
+finished-by (Ok done) ended name out0 out1 said0 said1 reported puts empty is told quiet =
+    record { flushed = inl (puts, empty, is ∙ same-both (is_through ended) ended); told = told; quiet = quiet }
+finished-by (Err e) ended name out0 out1 said0 said1 reported puts empty is told quiet = record { flushed = inr (puts, is); told = told; quiet = quiet }
 
 module _ (words : List (List ℕ)) (answer : Ended) where
   pub gave-info_request : (info_request : InfoRequest) (files : FilesState) (input : SourceState) (o0 o1 o2 s0 s1 : SinkState) (ended : ExitReason) → notice_of words ≡ Some info_request
-      → PutsNotice o0 o1 (notice_text info_request) ended → Finishes ended [] o1 o2 s0 s1 answer.exit_reason → answer.line ≡ 0
+      → ((ended ≡ exit_reason.Done) × Takes o0 o1 (notice_text info_request)) ⊎ ((ended ≡ exit_reason.Output) × FailsIn o0 o1 (notice_text info_request))
+      → Finishes ended [] o1 o2 s0 s1 answer.exit_reason → answer.line ≡ 0
       → Runs words (world files input o0 s0) (world files input o2 s1) answer
   gave-info_request info_request files input o0 o1 o2 s0 s1 ended is gives finishes no_line = record {
-    asked = Shown info_request;
-    ask = is;
     reached = world files input o1 s0;
     ended = ended;
-    serves = (gives, refl, no_line);
+    name = [];
+    serves = subst (λ (o : Option InfoRequest). Serves o words (world files input o0 s0) (world files input o1 s0) ended [] answer.line) (sym is) (gives, refl, no_line);
     finishes = finishes;
     files = refl;
     input = refl;
@@ -185,12 +273,12 @@ module _ (words : List (List ℕ)) (answer : Ended) where
       → Finishes ended name o1 o2 s1 s2 answer.exit_reason → answer.line ≡ line
       → Runs words (world f0 i0 o0 s0) (world f1 i1 o2 s2) answer
   ran-plan plan f0 f1 i0 i1 o0 o1 o2 s0 s1 s2 ended line name none is runs named finishes same_line = record {
-    asked = Planned plan;
-    ask = (none, is);
     reached = world f1 i1 o1 s1;
     ended = ended;
-    serves = subst (λ (n : ℕ). RunsPlan plan (world f0 i0 o0 s0) (world f1 i1 o1 s1) ended n) (sym same_line) runs;
-    finishes = subst (λ (n : List ℕ). Finishes ended n o1 o2 s1 s2 answer.exit_reason) named finishes;
+    name = name;
+    serves = subst (λ (o : Option InfoRequest). Serves o words (world f0 i0 o0 s0) (world f1 i1 o1 s1) ended name answer.line) (sym none)
+        (inl (plan, is, named, subst (λ (n : ℕ). RunsPlan plan (world f0 i0 o0 s0) (world f1 i1 o1 s1) ended n) (sym same_line) runs));
+    finishes = finishes;
     files = refl;
     input = refl;
   }
@@ -199,16 +287,16 @@ module _ (words : List (List ℕ)) (answer : Ended) where
       → (why ≡ refused.NoMemory) ⊎ ((why ≡ refused.Words) × ((plan : RunPlan) → ¬ IsPlan words plan)) → ended ≡ ending_of_words why
       → Finishes ended [] o0 o1 s0 s1 answer.exit_reason → answer.line ≡ 0 → Runs words (world files input o0 s0) (world files input o1 s1) answer
   had-no-plan why files input o0 o1 s0 s1 ended none is ended_is finishes no_line = record {
-    asked = Wrong why;
-    ask = by why is;
     reached = world files input o0 s0;
     ended = ended;
-    serves = (refl, ended_is, no_line);
+    name = [];
+    serves = subst (λ (o : Option InfoRequest). Serves o words (world files input o0 s0) (world files input o0 s0) ended [] answer.line) (sym none) (inr (by is, refl, no_line));
     finishes = finishes;
     files = refl;
     input = refl;
   }
     where
-      by : (why : Fault) → (why ≡ refused.NoMemory) ⊎ ((why ≡ refused.Words) × ((plan : RunPlan) → ¬ IsPlan words plan)) → Ask words (Wrong why)
-      by why (inl memory) = subst (λ (f : Fault). Ask words (Wrong f)) (sym memory) none
-      by why (inr is) = subst (λ (f : Fault). Ask words (Wrong f)) (sym is.0) (none, is.1)
+      by : (why ≡ refused.NoMemory) ⊎ ((why ≡ refused.Words) × ((plan : RunPlan) → ¬ IsPlan words plan))
+          → (ended ≡ exit_reason.Memory) ⊎ ((ended ≡ exit_reason.Words (code_of refused.Words)) × ((plan : RunPlan) → ¬ IsPlan words plan))
+      by (inl memory) = inl (ended_is ∙ ap ending_of_words memory)
+      by (inr wrong) = inr (ended_is ∙ ap ending_of_words wrong.0, wrong.1)

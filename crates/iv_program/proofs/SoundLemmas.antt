@@ -1,36 +1,37 @@
 -- A run of one subcommand that nothing hinders.
-use Rattle.std.proofs.Common.{◌≡◌, ◌<◌, inl, inr, ℕ, Bool, true, false, true≢false, List, [], length, Option, None, Some, Result, Ok, Err, IfSome, refl, sym, ap, ◌∙◌, subst, arith}
-use Rattle.iv_bytes.specs.Sinks.{SinkState, Takes}
-use Rattle.iv_text.specs.declared.fault.Fault.TheVariants as refused
+use Rattle.std.specs.Prelude.{MatchResult}
+use Rattle.std.proofs.Common.{◌≡◌, ◌⊎◌, ◌<◌, inl, inr, ℕ, Bool, true, false, true≢false, List, [], length, Option, None, Some, Result, Ok, Err, IfSome, sym, ap, ◌∙◌, subst, arith}
+use Rattle.iv_bytes.specs.Sinks.{SinkState, Takes, FailsIn}
 use Rattle.iv_session.specs.Streams.{Streams}
 use Rattle.iv_args.specs.InfoRequests.{notice_of}
+use Rattle.iv_args.specs.declared.info_request.InfoRequest.{InfoRequest}
 use Rattle.iv_args.specs.Words.{RunPlan, IsPlan, file_of, is_session}
+use Rattle.iv_args.specs.declared.subcommand.Subcommand.{Subcommand}
+use Rattle.iv_args.specs.declared.subcommand.Subcommand.TheVariants as kind
 use Rattle.iv_args.specs.declared.plan.Slot.{Slot}
 use Rattle.iv_args.specs.declared.plan.Slot.TheVariants.{Sizes, First, Other, Bases}
 use Rattle.iv_run.specs.Shots.{Shows, shown}
 use Rattle.iv_run.specs.declared.fault.CliFault.{CliFault}
 use Rattle.iv_run.specs.declared.fault.CliFault.TheVariants as fault
-use Rattle.iv_run.specs.declared.fault.FileFault.{FileFault}
-use Rattle.iv_run.specs.declared.fault.FileFault.TheVariants as file
-use Rattle.iv_cli.specs.ExitReasons.{ending_after, ending_of, ending_of_file, is_through, line_of, name_meant, status_of}
+use Rattle.iv_cli.specs.ExitReasons.{ending_of, is_through, line_of, name_meant, status_of}
 use Rattle.iv_cli.specs.declared.exit_reason.ExitReason.{ExitReason}
 use Rattle.iv_cli.specs.declared.exit_reason.ExitReason.TheVariants as exit_reason
-use Rattle.iv_program.specs.Files.{FilesState, StopsFile, after_reading}
+use Rattle.iv_program.specs.Files.{FilesState, after_one, after_reading}
 use Rattle.iv_program.specs.Limits.{most_file_bytes}
 use Rattle.iv_program.specs.Outcomes.{AreSound, HasBytes, Hold, PrintsJust}
-use Rattle.iv_program.specs.Program.{Asked, Shown, Planned, Wrong, Ask, Finishes, Flushes, Runs, Serves, Tells, name_reported}
-use Rattle.iv_program.specs.Runs.{DoesWith, RunsPlan, World, ending_of_shot}
+use Rattle.iv_program.specs.Program.{Finishes, Runs, Serves}
+use Rattle.iv_program.specs.Runs.{DoesWith, World}
+use Rattle.iv_program.specs.Inside.Files.{IsWhy}
+use Rattle.iv_program.specs.Inside.Runs.{PrintsView, RunsPlan}
 use Rattle.iv_program.specs.Texts.{Texts, AreTexts, IsTextIfNamed, names_before}
 use Rattle.iv_program.specs.declared.program.Ended.{Ended}
 use Rattle.iv_program.proofs.DoneLemmas.{one-plan, then-flushed}
-use Rattle.iv_program.proofs.RunLemmas.{reading-contents}
 
 -- ---- files
 
 -- a file has one text
 text-known : (files : FilesState) (name : Option (List ℕ)) (text bytes : Option (List ℕ)) → IsTextIfNamed files name text → HasBytes files name bytes → text ≡ bytes
-text-known files None None bytes is has = sym has
-text-known files None (Some text) bytes is has = absurd is
+text-known files None text bytes is has = is ∙ sym has
 text-known files (Some name) None bytes is has = absurd is
 text-known files (Some name) (Some text) bytes is has =
     let known : has.0 ≡ text = subst (λ (o : Option (List ℕ)). IfSome o (λ known. known ≡ text)) has.1 is.0 in
@@ -66,31 +67,18 @@ sound-failed b t f = true≢false (sym t ∙ f)
 
 module _ (ended : ExitReason) (name : List ℕ) (out0 out1 said0 said1 : SinkState) (reported : ExitReason) (finishes : Finishes ended name out0 out1 said0 said1 reported)
     (sound : out1.failed ≡ false) (heard : said1.failed ≡ false) where
-  flushed-true : finishes.flushed ≡ true
-  flushed-true = by finishes.flushed finishes.flush
-    where
-      by : (b : Bool) → Flushes b out0 out1 → b ≡ true
-      by true flush = refl
-      by false flush = absurd (sound-failed out1.failed flush.failed sound)
+  flushed-well : Takes out0 out1 [] × (reported ≡ ended)
+  flushed-well = elim finishes.flushed [
+    | inl well ↦ (well.0, well.2)
+    | inr lost ↦ absurd (sound-failed out1.failed lost.0.failed sound)
+  ]
 
   -- the output was flushed
   flushed : Takes out0 out1 []
-  flushed = (subst (λ (b : Bool). Flushes b out0 out1) flushed-true finishes.flush).0
-
-  same-exit_reason : (e : ExitReason) → ending_after true e ≡ e
-  same-exit_reason exit_reason.Done = refl
-  same-exit_reason exit_reason.Refused = refl
-  same-exit_reason (exit_reason.Words code) = refl
-  same-exit_reason (exit_reason.Damaged slot damage) = refl
-  same-exit_reason (exit_reason.Unreadable slot) = refl
-  same-exit_reason (exit_reason.TooLong slot) = refl
-  same-exit_reason exit_reason.InputUnreadable = refl
-  same-exit_reason exit_reason.InputTooLong = refl
-  same-exit_reason exit_reason.Output = refl
-  same-exit_reason exit_reason.Memory = refl
+  flushed = flushed-well.0
 
   exit_reason-is : reported ≡ ended
-  exit_reason-is = finishes.reported_is ∙ ap (λ (b : Bool). ending_after b ended) flushed-true ∙ same-exit_reason ended
+  exit_reason-is = flushed-well.1
 
   status-of : status_of reported ≡ status_of ended
   status-of = ap status_of exit_reason-is
@@ -99,7 +87,7 @@ module _ (ended : ExitReason) (name : List ℕ) (out0 out1 said0 said1 : SinkSta
   told : Takes said0 said1 (line_of name ended)
   told = subst (λ (e : ExitReason). Takes said0 said1 (line_of name e)) exit_reason-is (by finishes.told)
     where
-      by : Tells said0 said1 (line_of name reported) → Takes said0 said1 (line_of name reported)
+      by : Takes said0 said1 (line_of name reported) ⊎ FailsIn said0 said1 (line_of name reported) → Takes said0 said1 (line_of name reported)
       by (inl took) = took
       by (inr failed) = absurd (sound-failed said1.failed failed.failed heard)
 
@@ -137,8 +125,8 @@ module _ (plan : RunPlan) (before reached after : Streams) (reported : ExitReaso
     is-status ∙ ap status_of is,
   )
 
-  pub shows-just : (done : Result (Unit {0}) CliFault) (said : Result (List ℕ) CliFault) → Shows before.output reached.output done said → ended ≡ ending_of_shot done
-      → PrintsJust plan said before after (status_of reported)
+  pub shows-just : (done : Result (Unit {0}) CliFault) (said : Result (List ℕ) CliFault) → Shows before.output reached.output done said
+      → MatchResult done (λ _. ended ≡ exit_reason.Done) (λ fault. ended ≡ ending_of fault) → PrintsJust plan said before after (status_of reported)
   shows-just (Ok done) said shows is = subst (λ (r : Result (List ℕ) CliFault). PrintsJust plan r before after (status_of reported)) (sym shows.1) (
     then-flushed before.output reached.output after.output shows.0 shows.2 out,
     is-quiet is,
@@ -151,45 +139,51 @@ module _ (plan : RunPlan) (before reached after : Streams) (reported : ExitReaso
 
 -- ---- the program
 
+-- what a subcommand does: its view is printed
+view-done : (run : Subcommand) (plan : RunPlan) (texts : Texts) (before after : Streams) (ended : ExitReason) (line : ℕ) → is_session run ≡ false
+    → DoesWith run plan texts before after ended line → PrintsView plan texts before.output after.output ended × (after ≡ record before { output = after.output }) × (line ≡ 0)
+view-done kind.Session plan texts before after ended line view does = absurd (true≢false view)
+view-done run plan texts before after ended line view does = does
+
 pub prints-just : (words : List (List ℕ)) (before after : World) (plan : RunPlan) (texts : Texts) (answer : Ended) → notice_of words ≡ None → IsPlan words plan
     → is_session plan.run ≡ false → Hold before.files plan texts → Runs words before after answer → AreSound after → (status_of answer.exit_reason ≡ 5 → ⊥)
     → PrintsJust plan (shown plan texts.sizes texts.first texts.other texts.bases plan.limit) before.streams after.streams (status_of answer.exit_reason)
-prints-just words before after plan texts answer none is view hold ran sound had_memory = by ran.asked ran.ask ran.serves ran.finishes
+prints-just words before after plan texts answer none is view hold ran sound had_memory = by
+    (subst (λ (o : Option InfoRequest). Serves o words before ran.reached ran.ended ran.name answer.line) none ran.serves)
   where
     Goal : Type 0
     Goal = PrintsJust plan (shown plan texts.sizes texts.first texts.other texts.bases plan.limit) before.streams after.streams (status_of answer.exit_reason)
 
-    of_plan : (name : List ℕ) → name ≡ name_meant plan ran.ended → RunsPlan plan before ran.reached ran.ended answer.line
-        → Finishes ran.ended name ran.reached.streams.output after.streams.output ran.reached.streams.messages after.streams.messages answer.exit_reason → Goal
-    of_plan name named (inl read) finishes =
-        let same : read.texts ≡ texts = texts-known before.files plan read.texts texts read.are hold in
-        let does : DoesWith false plan read.texts before.streams ran.reached.streams ran.ended answer.line =
-        subst (λ (b : Bool). DoesWith b plan read.texts before.streams ran.reached.streams ran.ended answer.line) view read.does in
+    no-memory : ran.ended ≡ exit_reason.Memory → ⊥
+    no-memory e = had_memory
+        (status-of ran.ended ran.name ran.reached.streams.output after.streams.output ran.reached.streams.messages after.streams.messages answer.exit_reason ran.finishes sound.output sound.messages
+        ∙ ap status_of e)
+
+    of_plan : ran.name ≡ name_meant plan ran.ended → RunsPlan plan before ran.reached ran.ended answer.line → Goal
+    of_plan named (inl read) =
+        let are : AreTexts before.files plan read.texts = record { sizes = read.sizes; first = read.first; other = read.other; bases = read.bases } in
+        let same : read.texts ≡ texts = texts-known before.files plan read.texts texts are hold in
+        let does = view-done plan.run plan read.texts before.streams ran.reached.streams ran.ended answer.line view read.does in
         subst (λ (t : Texts). PrintsJust plan (shown plan t.sizes t.first t.other t.bases plan.limit) before.streams after.streams (status_of answer.exit_reason)) same
         (shows-just plan before.streams ran.reached.streams after.streams answer.exit_reason ran.ended
-        (subst (λ (n : List ℕ). Finishes ran.ended n ran.reached.streams.output after.streams.output ran.reached.streams.messages after.streams.messages answer.exit_reason) named finishes)
+        (subst (λ (n : List ℕ). Finishes ran.ended n ran.reached.streams.output after.streams.output ran.reached.streams.messages after.streams.messages answer.exit_reason) named ran.finishes)
         sound.output sound.messages had_memory does.1 does.0.0
         (shown plan read.texts.sizes read.texts.first read.texts.other read.texts.bases plan.limit) does.0.1 does.0.2)
-    of_plan name named (inr stopped) finishes = absurd (never stopped.fault stopped.stops.stops stopped.ended_is)
+    of_plan named (inr stopped) = never stopped.failed stopped.files stopped.why
       where
         -- no file failed, none is too long, and there was memory
-        never : (why : FileFault) → StopsFile (after_reading (names_before plan stopped.slot) before.files) stopped.stops.name why ran.reached.files → ran.ended ≡ ending_of_file stopped.slot why → ⊥
-        never file.Input stops e = sound-failed after.files.failed (ap (λ (f : FilesState). f.failed) (ran.files ∙ stops)) sound.files
-        never file.TooLong stops e =
-            let has = slot-known before.files plan texts stopped.slot stopped.stops.name hold stopped.stops.named in
-            not-long before.files stopped.stops.name has.0 has.1
-            (subst (λ (c : List ℕ → Option (List ℕ)). IfSome (c stopped.stops.name) (λ known. most_file_bytes < length known))
-            (reading-contents (names_before plan stopped.slot) before.files) stops.0)
-        never file.Memory stops e = had_memory
-            (status-of ran.ended name ran.reached.streams.output after.streams.output ran.reached.streams.messages after.streams.messages answer.exit_reason finishes sound.output sound.messages ∙ ap status_of e)
+        never : (failed : Bool) → ran.reached.files ≡ after_one failed stopped.name (after_reading (names_before plan stopped.slot) before.files)
+            → IsWhy before.files stopped.name stopped.slot failed ran.ended → Goal
+        never true files why = absurd (sound-failed after.files.failed (ap (λ (f : FilesState). f.failed) (ran.files ∙ files)) sound.files)
+        never false files (inl unreadable) = absurd (true≢false (sym unreadable.0))
+        never false files (inr (inl memory)) = absurd (no-memory memory.1)
+        never false files (inr (inr long)) =
+            let has = slot-known before.files plan texts stopped.slot stopped.name hold stopped.named in
+            absurd (not-long before.files stopped.name has.0 has.1 long.1)
 
-    by : (asked : Asked) → Ask words asked → Serves asked before ran.reached ran.ended answer.line
-        → Finishes ran.ended (name_reported asked ran.ended) ran.reached.streams.output after.streams.output ran.reached.streams.messages after.streams.messages answer.exit_reason → Goal
-    by (Shown info_request) ask serves finishes = absurd (cc (sym none ∙ ask))
-    by (Planned other) ask serves finishes =
-        let same : other ≡ plan = one-plan words other plan ask.1 is in
-        of_plan (name_meant other ran.ended) (ap (λ (p : RunPlan). name_meant p ran.ended) same) (subst (λ (p : RunPlan). RunsPlan p before ran.reached ran.ended answer.line) same serves) finishes
-    by (Wrong refused.Words) ask serves finishes = absurd (ask.1 plan is)
-    by (Wrong refused.NoMemory) ask serves finishes = absurd (had_memory
-        (status-of ran.ended [] ran.reached.streams.output after.streams.output ran.reached.streams.messages after.streams.messages answer.exit_reason finishes sound.output sound.messages ∙ ap status_of serves.1))
-    by (Wrong why) ask serves finishes = absurd ask
+    by : Serves None words before ran.reached ran.ended ran.name answer.line → Goal
+    by (inl planned) =
+        let same : planned.0 ≡ plan = one-plan words planned.0 plan planned.1 is in
+        of_plan (planned.2 ∙ ap (λ (p : RunPlan). name_meant p ran.ended) same) (subst (λ (p : RunPlan). RunsPlan p before ran.reached ran.ended answer.line) same planned.3)
+    by (inr (inl memory, same, no_line)) = absurd (no-memory memory)
+    by (inr (inr wrong, same, no_line)) = absurd (wrong.1 plan is)

@@ -1,9 +1,7 @@
 -- Files that are opened by their names.
-use Rattle.std.specs.Prelude.{◌≡◌, ℕ, ◌≤◌, ◌<◌, ◌||◌, List, [], ◌∷◌, ◌++◌, Bool, true, false, Option, IfSome, length}
+use Rattle.std.specs.Prelude.{◌≡◌, ℕ, ◌≤◌, ◌||◌, List, [], ◌∷◌, ◌++◌, Bool, false, Option, IfSome, length}
 use Rattle.std.specs.Option.{option_map}
 use Rattle.iv_bytes.specs.Sources.{SourceState}
-use Rattle.iv_run.specs.declared.fault.FileFault.{FileFault}
-use Rattle.iv_run.specs.declared.fault.FileFault.TheVariants.{Input, TooLong, Memory}
 use Rattle.iv_program.specs.Limits.{most_file_bytes}
 
 -- what happens to files: one of this name is opened; one is closed, which failed or not
@@ -42,10 +40,3 @@ after_reading (name ∷ names) files = after_reading names (after_one false name
 -- the file of this name has this text, and it is not too long
 abbrev pub IsText : FilesState → List ℕ → List ℕ → Type 0
 IsText files name text = IfSome (files.contents name) (λ known. known ≡ text) × (length text ≤ most_file_bytes)
-
--- why the file of this name was not read to its end, and the files afterwards: just this one was opened and closed, and it failed; or it
--- has too many bytes; or an allocation failed
-abbrev pub StopsFile : FilesState → List ℕ → FileFault → FilesState → Type 0
-StopsFile old name Input new = new ≡ after_one true name old
-StopsFile old name TooLong new = IfSome (old.contents name) (λ known. most_file_bytes < length known) × (new ≡ after_one false name old)
-StopsFile old name Memory new = new ≡ after_one false name old

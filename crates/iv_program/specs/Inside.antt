@@ -1,2 +1,3 @@
 -- Definitions that only lemmas and private functions cite. No public contract reaches one.
+pub mod Files
 pub mod Runs

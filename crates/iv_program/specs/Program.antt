@@ -1,83 +1,49 @@
 -- What the program does.
-use Rattle.std.specs.Prelude.{◌≡◌, ℕ, ◌⊎◌, List, [], Bool, true, false, None, Some}
+use Rattle.std.specs.Prelude.{◌≡◌, ℕ, ◌⊎◌, if◌then◌else◌, List, [], true, Option, None, Some}
 use Rattle.iv_bytes.specs.Sinks.{SinkState, Takes, FailsIn, waiting}
 use Rattle.iv_bytes.specs.Sources.{SourceState}
-use Rattle.iv_text.specs.declared.fault.Fault.{Fault}
+use Rattle.iv_text.specs.Fault.{code_of}
 use Rattle.iv_text.specs.declared.fault.Fault.TheVariants as refused
-use Rattle.iv_session.specs.Streams.{streams}
 use Rattle.iv_args.specs.InfoRequests.{notice_of}
 use Rattle.iv_args.specs.Texts.{notice_text}
 use Rattle.iv_args.specs.Words.{RunPlan, IsPlan}
 use Rattle.iv_args.specs.declared.info_request.InfoRequest.{InfoRequest}
-use Rattle.iv_cli.specs.ExitReasons.{ending_after, ending_of_words, is_through, line_of, name_meant}
+use Rattle.iv_cli.specs.ExitReasons.{is_through, line_of, name_meant}
 use Rattle.iv_cli.specs.declared.exit_reason.ExitReason.{ExitReason}
 use Rattle.iv_cli.specs.declared.exit_reason.ExitReason.TheVariants as exit_reason
 use Rattle.iv_program.specs.Files.{FilesState}
-use Rattle.iv_program.specs.Runs.{World, RunsPlan}
+use Rattle.iv_program.specs.Runs.{World, HasRead, HasNotRead}
 use Rattle.iv_program.specs.declared.program.Ended.{Ended}
 
 -- all that a run uses: these files, this input, this output and these messages
 abbrev pub world : FilesState → SourceState → SinkState → SinkState → World
-world files input output messages = record { files = files; streams = streams input output messages }
+world files input output messages = record { files = files; streams = record { input = input; output = output; messages = messages } }
 
--- what words ask for: a notice; a run of a plan; or neither, for bad options or out of memory
-pub data Asked : Type 0 where
-  Shown : InfoRequest → Asked
-  Planned : RunPlan → Asked
-  Wrong : Fault → Asked
+-- what words ask for was done, and ended so, at this line of its script if it ended early at one. If they ask for a notice, its text was
+-- put, or the output failed in it. Otherwise they are those of a plan, which was run, and the name is that of the file that the ending
+-- speaks of; or nothing was done, as they are those of no plan, or memory ran out
+abbrev pub Serves : Option InfoRequest → List (List ℕ) → World → World → ExitReason → List ℕ → ℕ → Type 0
+Serves (Some info_request) words before after ended name line =
+    (((ended ≡ exit_reason.Done) × Takes before.streams.output after.streams.output (notice_text info_request))
+    ⊎ ((ended ≡ exit_reason.Output) × FailsIn before.streams.output after.streams.output (notice_text info_request)))
+    × (after ≡ record before { streams = record before.streams { output = after.streams.output } }) × (line ≡ 0)
+Serves None words before after ended name line =
+    ((plan : RunPlan) × IsPlan words plan × (name ≡ name_meant plan ended) × (HasRead plan before after ended line ⊎ HasNotRead plan before after ended line))
+    ⊎ (((ended ≡ exit_reason.Memory) ⊎ ((ended ≡ exit_reason.Words (code_of refused.Words)) × ((plan : RunPlan) → ¬ IsPlan words plan))) × (after ≡ before) × (line ≡ 0))
 
--- these words ask for it: words that ask for a notice ask for no plan
-abbrev pub Ask : List (List ℕ) → Asked → Type 0
-Ask words (Shown info_request) = notice_of words ≡ Some info_request
-Ask words (Planned plan) = (notice_of words ≡ None) × IsPlan words plan
-Ask words (Wrong refused.Words) = (notice_of words ≡ None) × ((plan : RunPlan) → ¬ IsPlan words plan)
-Ask words (Wrong refused.NoMemory) = notice_of words ≡ None
-Ask words (Wrong other) = ⊥
-
--- a text was put, or the output failed in it
-abbrev pub PutsNotice : SinkState → SinkState → List ℕ → ExitReason → Type 0
-PutsNotice old new text ended = ((ended ≡ exit_reason.Done) × Takes old new text) ⊎ ((ended ≡ exit_reason.Output) × FailsIn old new text)
-
--- what was asked for was done, and ended so, at this line of its script if it ended early at one
-abbrev pub Serves : Asked → World → World → ExitReason → ℕ → Type 0
-Serves (Shown info_request) before after ended line =
-    PutsNotice before.streams.output after.streams.output (notice_text info_request) ended
-    × (after ≡ record before { streams = record before.streams { output = after.streams.output } })
-    × (line ≡ 0)
-Serves (Planned plan) before after ended line = RunsPlan plan before after ended line
-Serves (Wrong fault) before after ended line = (after ≡ before) × (ended ≡ ending_of_words fault) × (line ≡ 0)
-
--- the name of the file that an ending speaks of
-abbrev pub name_reported : Asked → ExitReason → List ℕ
-name_reported (Shown info_request) ended = []
-name_reported (Planned plan) ended = name_meant plan ended
-name_reported (Wrong fault) ended = []
-
--- all that was held was handed on, so that nothing waits; or that failed
-abbrev pub Flushes : Bool → SinkState → SinkState → Type 0
-Flushes true old new = Takes old new [] × (waiting new ≡ [])
-Flushes false old new = FailsIn old new []
-
--- a text was reported: all of it, or the messages failed in it
-abbrev pub Tells : SinkState → SinkState → List ℕ → Type 0
-Tells old new text = Takes old new text ⊎ FailsIn old new text
-
--- the end of a run: the output is flushed, and the messages get the line of the ending that this leads to
+-- the end of a run: the output hands on all that it held, so that nothing waits, or fails in it, which is its ending if all was carried out
+-- before; and the messages get the line of its ending, or fail in it
 pub record Finishes (ended : ExitReason) (name : List ℕ) (out0 out1 said0 said1 : SinkState) (reported : ExitReason) : Type 0 where
-  pub flushed : Bool
-  pub flush : Flushes flushed out0 out1
-  pub reported_is : reported ≡ ending_after flushed ended
-  pub told : Tells said0 said1 (line_of name reported)
+  pub flushed : (Takes out0 out1 [] × (waiting out1 ≡ []) × (reported ≡ ended)) ⊎ (FailsIn out0 out1 [] × (reported ≡ (if is_through ended then exit_reason.Output else ended)))
+  pub told : Takes said0 said1 (line_of name reported) ⊎ FailsIn said0 said1 (line_of name reported)
   pub quiet : is_through reported ≡ true → said1 ≡ said0
 
 -- the program was run with these words, and ended so
 pub record Runs (words : List (List ℕ)) (before after : World) (answer : Ended) : Type 0 where
-  pub asked : Asked
-  pub ask : Ask words asked
   pub reached : World
   pub ended : ExitReason
-  pub serves : Serves asked before reached ended answer.line
-  pub finishes : Finishes ended (name_reported asked ended) reached.streams.output after.streams.output
-      reached.streams.messages after.streams.messages answer.exit_reason
+  pub name : List ℕ
+  pub serves : Serves (notice_of words) words before reached ended name answer.line
+  pub finishes : Finishes ended name reached.streams.output after.streams.output reached.streams.messages after.streams.messages answer.exit_reason
   pub files : after.files ≡ reached.files
   pub input : after.streams.input ≡ reached.streams.input

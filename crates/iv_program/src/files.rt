@@ -4,9 +4,10 @@ ghost use Rattle.std.specs.Option.{option_copied, option_map, option_to_list};
 ghost use Rattle.iv_args.specs.Words.{file_of};
 ghost use Rattle.iv_run.specs.SoFar.{AreProjected, IsOfOneRun, IsSaid, SaysSecond};
 ghost use Rattle.iv_run.specs.Inside.SoFar.{SaysFirst};
-ghost use Rattle.iv_program.specs.Files.{FilesState, IsText, StopsFile, opened, after_opening, after_closing, after_one, after_reading};
+ghost use Rattle.iv_program.specs.Files.{FilesState, IsText, opened, after_opening, after_closing, after_one, after_reading};
+ghost use Rattle.iv_program.specs.Inside.Files.{StopsAt, StopsFile, names_of};
 ghost use Rattle.iv_program.specs.Inside.Runs.{Says};
-ghost use Rattle.iv_program.specs.Texts.{Texts, AreTexts, IsTextIfNamed, StopsAt, names_of};
+ghost use Rattle.iv_program.specs.Texts.{Texts, AreTexts, IsTextIfNamed};
 
 use iv_args::{Plan, Slot};
 use iv_bytes::{ReadFault, Source};

@@ -1,7 +1,7 @@
 //! The whole program: what the arguments ask for, the run of one subcommand, and how each run ends.
-ghost use Rattle.std.specs.Prelude.{◌≡◌, ◌≢◌, ◌<◌, ◌^◌, ℕ, List, [], Some, None, IfOk, IfErr, IfSome, OnOk, OnErr, length, map, true, false};
+ghost use Rattle.std.specs.Prelude.{◌≡◌, ◌≢◌, ◌<◌, ◌^◌, ◌⊎◌, ℕ, List, [], Some, None, IfOk, IfErr, IfSome, MatchResult, OnOk, OnErr, length, map, true, false};
 ghost use Rattle.std.specs.Option.{option_map};
-ghost use Rattle.iv_bytes.specs.Sinks.{Takes, waiting};
+ghost use Rattle.iv_bytes.specs.Sinks.{FailsIn, Takes, waiting};
 ghost use Rattle.iv_index.specs.Locators.{bare};
 ghost use Rattle.iv_args.specs.InfoRequests.{notice_of};
 ghost use Rattle.iv_args.specs.Texts.{notice_text};
@@ -10,13 +10,14 @@ ghost use Rattle.iv_args.specs.declared.info_request.InfoRequest.{InfoRequest};
 ghost use Rattle.iv_run.specs.IntervalsViews.{AskForIntervals};
 ghost use Rattle.iv_run.specs.Inside.IntervalsViews.{AskForColumns};
 ghost use Rattle.iv_run.specs.Shots.{shown};
-ghost use Rattle.iv_cli.specs.ExitReasons.{is_through, line_of, status_of};
+ghost use Rattle.iv_cli.specs.ExitReasons.{ending_of as ending_of_fault, is_through, line_of, status_of};
 ghost use Rattle.iv_program.specs.Files.{after_reading};
 ghost use Rattle.iv_program.specs.Outcomes.{AreSound, DoesAll, Hold, PrintsJust};
-ghost use Rattle.iv_program.specs.Program.{Finishes, PutsNotice, Runs, Tells, world};
-ghost use Rattle.iv_program.specs.Runs.{PrintsView, RunsPlan, World, ending_of_shot};
-ghost use Rattle.iv_program.specs.Inside.Runs.{Says};
-ghost use Rattle.iv_program.specs.Texts.{Texts, AreTexts, StopsAt, names_of};
+ghost use Rattle.iv_program.specs.Program.{Finishes, Runs, world};
+ghost use Rattle.iv_program.specs.Runs.{World};
+ghost use Rattle.iv_program.specs.Inside.Files.{StopsAt, names_of};
+ghost use Rattle.iv_program.specs.Inside.Runs.{PrintsView, RunsPlan, Says};
+ghost use Rattle.iv_program.specs.Texts.{Texts, AreTexts};
 ghost use Rattle.iv_program.specs.declared.program.Ended.{Ended};
 
 use crate::files::{FileTexts, InputFiles, ReadFiles, SlotFault};
@@ -57,7 +58,8 @@ impl Ended {
 
 /// Prints a notice.
 fn print_notice<W: Sink>(info_request: InfoRequest, output: &mut W) -> ExitReason
-    ensures { PutsNotice (W.state output.old) (W.state output.new) (notice_text info_request) result }
+    ensures { ((result ≡ ExitReason.Done) × Takes (W.state output.old) (W.state output.new) (notice_text info_request))
+        ⊎ ((result ≡ ExitReason.Output) × FailsIn (W.state output.old) (W.state output.new) (notice_text info_request)) }
 {
     match put_all(output, info_request.text()) {
         Ok(()) => ExitReason::Done,
@@ -67,7 +69,7 @@ fn print_notice<W: Sink>(info_request: InfoRequest, output: &mut W) -> ExitReaso
 
 /// How a run of one subcommand ends that has read its files.
 fn ending_of(done: Result<(), CliFault>) -> ExitReason
-    ensures { result ≡ ending_of_shot done }
+    ensures { MatchResult done (λ _. result ≡ ExitReason.Done) (λ fault. result ≡ ending_of_fault fault) }
 {
     match done {
         Ok(()) => ExitReason::Done,
@@ -152,7 +154,8 @@ fn run_plan<A: Allocator + Copy, F: InputFiles, R: Source, W: Sink, E: Sink>(
 
 /// Reports an ending, with the name of the file that is meant, and gives its status.
 pub fn tell<E: Sink>(exit_reason: ExitReason, name: &[u8], messages: &mut E) -> u8
-    ensures told { Tells (E.state messages.old) (E.state messages.new) (line_of name.now exit_reason) }
+    ensures told { Takes (E.state messages.old) (E.state messages.new) (line_of name.now exit_reason)
+        ⊎ FailsIn (E.state messages.old) (E.state messages.new) (line_of name.now exit_reason) }
     ensures quiet { is_through exit_reason ≡ true → messages.new ≡ messages.old }
     ensures status { result ≡ status_of exit_reason }
 {

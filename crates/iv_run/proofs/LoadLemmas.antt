@@ -13,7 +13,8 @@ use Rattle.iv_args.specs.declared.plan.Slot.{Slot}
 use Rattle.iv_args.specs.declared.plan.Slot.TheVariants.{Sizes, First, Other, Bases}
 use Rattle.iv_fasta.specs.Fasta as Fasta
 use Rattle.iv_text.specs.Chains.{if_ok, map_fault}
-use Rattle.iv_run.specs.Loading.{IsAnswer, Parsed, parsed, bases_said, second_of, fault_of, damage_of}
+use Rattle.iv_run.specs.Inside.Shots.{bases_said}
+use Rattle.iv_run.specs.Loading.{IsAnswer, Parsed, parsed, second_of, fault_of, damage_of}
 use Rattle.std.specs.Option.{option_map, option_transpose}
 use Rattle.iv_text.specs.BedReading.{projected_bed, projected_or_fault}
 use Rattle.iv_text.specs.Read.{Fits}

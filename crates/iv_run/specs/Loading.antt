@@ -51,10 +51,6 @@ pub record Parsed : Type 0 where
 abbrev pub second_of : Sequences → ℕ → ℕ → Option (List ℕ) → Result (Option Bed) LoadFault
 second_of g width limit text = option_transpose (option_map (bed_of g width limit) text)
 
--- a FASTA file that may be left out, or its first fault
-abbrev pub bases_said : Sequences → Option (List ℕ) → Result (Option fasta.Bases) LoadFault
-bases_said g text = option_transpose (option_map (fasta.fasta_of g) text)
-
 -- the files of these bytes: the genome file, the first file, and the second and the FASTA file, if there are any. A
 -- BED file without a record has this width, and a track holds at most as many records as the limit; or the fault of the first
 -- damaged file
@@ -62,6 +58,6 @@ abbrev pub parsed : ℕ → List ℕ → List ℕ → Option (List ℕ) → Opti
 parsed width sizes first other bases limit =
     if_ok (map_fault (Damaged Sizes) (genome_of sizes)) (λ g.
     if_ok (map_fault (Damaged First) (bed_of g width limit first)) (λ records.
-    if_ok (map_fault (Damaged Other) (second_of g width limit other)) (λ second.
-    if_ok (map_fault (Damaged Bases) (bases_said g bases)) (λ found.
+    if_ok (map_fault (Damaged Other) (option_transpose (option_map (bed_of g width limit) other))) (λ second.
+    if_ok (map_fault (Damaged Bases) (option_transpose (option_map (fasta.fasta_of g) bases))) (λ found.
     Ok (record { genome = g; first = records; second = second; bases = found; limit = limit })))))

@@ -2,42 +2,27 @@
 use Rattle.std.specs.Prelude.{◌≡◌, ℕ, List, [], Option, None, Result, Ok, Err}
 use Rattle.std.specs.Option.{is_some, option_map, unwrap_or}
 use Rattle.iv_bytes.specs.Sinks.{SinkState, Takes, FailsIn}
-use Rattle.iv_text.specs.BedFile.{Bed}
 use Rattle.iv_text.specs.Ordered.{ordered}
-use Rattle.iv_text.specs.RecordValue.{RecordValue}
-use Rattle.iv_text.specs.declared.fault.Fault.{Fault}
 use Rattle.iv_text.specs.Chains.{if_ok, map_fault}
 use Rattle.iv_view.specs.Views.{read_words, shown_text}
-use Rattle.iv_view.specs.declared.view.View.{View}
 use Rattle.iv_run.specs.declared.fault.CliFault.{CliFault}
 use Rattle.iv_run.specs.declared.fault.CliFault.TheVariants as fault
-use Rattle.iv_run.specs.Loading.{Parsed, parsed}
+use Rattle.iv_run.specs.Loading.{parsed}
 use Rattle.iv_args.specs.Words.{RunPlan}
 
--- the records of a second file in track order, none without one
-abbrev pub ordered_other : Option Bed → List RecordValue
-ordered_other second = unwrap_or (option_map (λ file. ordered file.rows) second) []
-
--- the view that words ask for beside these files, at the width of the records
-abbrev pub view_beside : Parsed → List (List ℕ) → Result View Fault
-view_beside files words = read_words files.first.width (is_some files.second) (is_some files.bases) words
-
--- what the view prints for the files: its text for their records in track order
-abbrev pub text_beside : Parsed → View → List ℕ
-text_beside files view = shown_text None view files.genome (ordered files.first.rows) (ordered_other files.second) (unwrap_or files.bases [])
-
 -- what a run of the plan prints for the bytes of the genome file, of the first file, and of the second and the FASTA file, if
--- there are any; or its first fault: that of a damaged file, and then that of the words of the view
+-- there are any: the text of its view for their records in track order; or its first fault: that of a damaged file, and then that of
+-- the words of the view, at the width of the records and beside these files
 abbrev pub shown : RunPlan → List ℕ → List ℕ → Option (List ℕ) → Option (List ℕ) → ℕ → Result (List ℕ) CliFault
 shown plan sizes first other bases limit =
     if_ok (parsed plan.width sizes first other bases limit) (λ files.
-    if_ok (map_fault fault.Words (view_beside files plan.view)) (λ view. Ok (text_beside files view)))
+    if_ok (map_fault fault.Words (read_words files.first.width (is_some files.second) (is_some files.bases) plan.view)) (λ view.
+    Ok (shown_text None view files.genome (ordered files.first.rows) (unwrap_or (option_map (λ file. ordered file.rows) files.second) []) (unwrap_or files.bases []))))
 
 -- what a run leaves of its output, if this is what it is to print: all of the text; or a prefix of it, the output failed;
--- or nothing, for a fault that it is to report, or for out of memory
+-- or nothing, for out of memory, or for a fault that it is to report
 abbrev pub Shows : SinkState → SinkState → Result (Unit {0}) CliFault → Result (List ℕ) CliFault → Type 0
 Shows old new (Ok done) said = (text : List ℕ) × (said ≡ Ok text) × Takes old new text
 Shows old new (Err fault.Output) said = (text : List ℕ) × (said ≡ Ok text) × FailsIn old new text
 Shows old new (Err fault.Memory) said = new ≡ old
-Shows old new (Err (fault.Words code)) said = (said ≡ Err (fault.Words code)) × (new ≡ old)
-Shows old new (Err (fault.Damaged slot damage)) said = (said ≡ Err (fault.Damaged slot damage)) × (new ≡ old)
+Shows old new (Err reported) said = (said ≡ Err reported) × (new ≡ old)

@@ -16,7 +16,8 @@ ghost use Rattle.iv_view.specs.Views.{kept_text};
 ghost use Rattle.iv_run.specs.Loading.{parsed, second_of};
 ghost use Rattle.iv_run.specs.Inside.IntervalsViews.{AskForColumns, NeedsColumns};
 ghost use Rattle.iv_run.specs.Inside.Prints.{Prints};
-ghost use Rattle.iv_run.specs.Shots.{Shows, ordered_other, shown, text_beside, view_beside};
+ghost use Rattle.iv_run.specs.Inside.Shots.{ordered_other, text_beside, view_beside};
+ghost use Rattle.iv_run.specs.Shots.{Shows, shown};
 ghost use Rattle.iv_text.specs.Widths.{IsWidth};
 
 use crate::fault::CliFault;

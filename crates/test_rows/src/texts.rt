@@ -34,7 +34,8 @@ fn texts_of_script_faults(rt: HostRuntime) {
         (Fault::Fixed, b"length fixed by the sequence file"),
     ] {
         number = number.saturating_add(1);
-        assert!(rt; fault_text(fault) == text);
+        assert!(rt; fault.text() == text);
+        assert!(rt; fault_text(fault.code()) == text);
         assert!(rt; fault.code() == number);
     }
     assert!(rt; number == 24);

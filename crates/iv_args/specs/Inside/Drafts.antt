@@ -1,15 +1,18 @@
 -- What is read of the words of a run so far. This is the state of their reader, as seen by its proof.
-use Rattle.std.specs.Prelude.{◌≡◌, ℕ, Bool, true, false, ◌++◌, List, [], ◌∷◌, Option, None, Some, Result, Ok, Err}
-use Rattle.std.specs.Option.{option_and_then, option_to_list}
+use Rattle.std.specs.Prelude.{◌≡◌, ◌≢◌, ℕ, nat_le, ◌&&◌, if◌then◌else◌, Bool, true, false, ◌++◌, List, [], ◌∷◌, Option, None, Some, Result, Ok, Err, codes}
+use Rattle.std.specs.Map.{lookup}
+use Rattle.std.specs.Option.{is_some, option_and_then, option_to_list}
+use Rattle.std.specs.Str.{bytes_eq}
 use Rattle.iv_args.specs.declared.subcommand.Subcommand.{Subcommand}
 use Rattle.iv_args.specs.declared.subcommand.RunOption.{RunOption}
 use Rattle.iv_args.specs.declared.subcommand.RunOption.TheVariants as option
 use Rattle.iv_text.specs.declared.fault.Fault.{Fault}
 use Rattle.iv_text.specs.declared.fault.Fault.TheVariants as fault
+use Rattle.iv_text.specs.Number.{number}
 use Rattle.iv_view.specs.Views.{read_words}
 use Rattle.iv_view.specs.declared.view.View.{View}
 use Rattle.iv_args.specs.declared.subcommand.Subcommand.TheVariants as kind
-use Rattle.iv_args.specs.Words.{RunPlan, option_of, takes_value, limit_said, width_said, has_needed_files}
+use Rattle.iv_args.specs.Words.{RunPlan, most_limit, option_of, said_once, takes_value}
 
 -- what is read of the words so far
 pub record PartialPlan : Type 0 where
@@ -77,6 +80,27 @@ abbrev pub are_view_words : Subcommand → List (List ℕ) → Bool
 are_view_words kind.Session [] = true
 are_view_words kind.Session (word ∷ words) = false
 are_view_words run words = are_understood (read_words 6 true true words)
+
+-- the words of the view are accepted, for records of six columns and beside both files; a fault that only the files can show is
+-- none here, and a session has no such words
+abbrev pub AreViewWords : Subcommand → List (List ℕ) → Type 0
+AreViewWords kind.Session words = words ≡ []
+AreViewWords run words = read_words 6 true true words ≢ Err fault.Words
+
+-- whether the files are named that a kind of run needs beside the genome and the records: the second file and the FASTA file
+abbrev pub has_needed_files : Subcommand → Option (List ℕ) → Option (List ℕ) → Bool
+has_needed_files kind.Intersect other bases = is_some other
+has_needed_files kind.Subtract other bases = is_some other
+has_needed_files kind.Getfasta other bases = is_some bases
+has_needed_files run other bases = true
+
+-- the width of the values that are given for it: one of these digits, and 3 if there is none
+abbrev pub width_said : List (List ℕ) → Option ℕ
+width_said values = said_once 3 (λ value. lookup (bytes_eq value) ((codes "3", 3) ∷ (codes "4", 4) ∷ (codes "5", 5) ∷ (codes "6", 6) ∷ [])) values
+
+-- the limit of the values that are given for it: a number from 1 to the greatest, and 4,000,000 if there is none
+abbrev pub limit_said : List (List ℕ) → Option ℕ
+limit_said values = said_once 4000000 (λ value. option_and_then (λ n. if nat_le 1 n && nat_le n most_limit then Some n else None) (number value)) values
 
 -- what is read of words makes a plan of this kind
 pub record Makes (run : Subcommand) (said : PartialPlan) (plan : RunPlan) : Type 0 where

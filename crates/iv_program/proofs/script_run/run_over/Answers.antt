@@ -1,26 +1,28 @@
-use Rattle.std.proofs.Common.{ℕ, Ok, Err, refl, sym, subst, ◌∙◌}
+use Rattle.std.proofs.Common.{ℕ, Ok, Err, inl, inr, refl, sym, subst, ◌∙◌}
 use Rattle.std.specs.Option.{option_map}
 use Rattle.iv_session.specs.Streams.{streams}
 use Rattle.iv_session.specs.Endings.{Ran}
 use Rattle.iv_program.specs.Limits.{most_line_bytes}
-use Rattle.iv_program.proofs.RunLemmas.{ran-of, report-of}
+use Rattle.iv_program.proofs.RunLemmas.{ends-of, ran-of, report-of}
 use Rattle.iv_program.proofs.script_run.run_over.Goals as goal
 
 pub returns-in-Err : goal.returns-in-Err
-returns-in-Err g c = λ plan texts says. (
-  Err c.in-Err.fault,
+returns-in-Err g c = λ plan texts says. inr (
+  c.in-Err.fault,
   report-of plan texts c.args.read.loading (option_map (λ bytes. bytes.items) c.args.read.bases) (Err c.in-Err.fault) says c.in-Err.ensures,
-  (refl, c.at_no_line.ensures.0 ∙ c.from.ensures, c.at_no_line.ensures.1),
+  refl,
+  c.at_no_line.ensures.0 ∙ c.from.ensures,
+  c.at_no_line.ensures.1,
 )
 
 pub returns : goal.returns
-returns g c = λ plan texts says. (
-  Ok c.in-Ok.session,
+returns g c = λ plan texts says. inl (
+  c.in-Ok.session,
   report-of plan texts c.args.read.loading (option_map (λ bytes. bytes.items) c.args.read.bases) (Ok c.in-Ok.session) says c.in-Ok.ensures,
-  (
-    c.run_script-done.new.session,
-    c.run_script-done.result,
-    subst (λ (lines : ℕ). Ran c.in-Ok.session c.run_script-done.new.session
+  record {
+    new = c.run_script-done.new.session;
+    run = c.run_script-done.result;
+    ran = subst (λ (lines : ℕ). Ran c.in-Ok.session c.run_script-done.new.session
         (streams (g.R.Source.state c.args.input.now) (g.W.Sink.state c.args.output.now) (g.E.Sink.state c.args.messages.now))
         (streams (g.R.Source.state c.run_script-done.new.input) (g.W.Sink.state c.run_script-done.new.output) (g.E.Sink.state c.run_script-done.new.messages))
         lines most_line_bytes c.run_script-done.result)
@@ -28,8 +30,7 @@ returns g c = λ plan texts says. (
         (ran-of c.in-Ok.session c.run_script-done.new.session
         (streams (g.R.Source.state c.args.input.now) (g.W.Sink.state c.args.output.now) (g.E.Sink.state c.args.messages.now))
         (streams (g.R.Source.state c.run_script-done.new.input) (g.W.Sink.state c.run_script-done.new.output) (g.E.Sink.state c.run_script-done.new.messages))
-        c.args.limit most_line_bytes c.run_script-done.result c.run_script-done.ensures.done c.run_script-done.ensures.stopped),
-    c.of_run.ensures,
-    c.line_of_stop.ensures,
-  ),
+        c.args.limit most_line_bytes c.run_script-done.result c.run_script-done.ensures.done c.run_script-done.ensures.stopped);
+    ends = ends-of c.run_script-done.result c.of_run.result c.line_of_stop.result c.of_run.ensures c.line_of_stop.ensures;
+  },
 )

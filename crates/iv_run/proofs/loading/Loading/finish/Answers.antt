@@ -2,7 +2,8 @@ use Rattle.std.proofs.Common.{◌≡◌, Option, Result, Ok, IfOk, sym, subst}
 use Rattle.std.specs.Option.{option_map}
 use Rattle.iv_text.specs.declared.fault.LoadFault.{LoadFault}
 use Rattle.iv_fasta.specs.Fasta.{Bases}
-use Rattle.iv_run.specs.Loading.{Parsed, bases_said, parsed}
+use Rattle.iv_run.specs.Inside.Shots.{bases_said}
+use Rattle.iv_run.specs.Loading.{Parsed, parsed}
 use Rattle.iv_run.specs.SoFar.{ReportsProjected, SaysSecond, SoFar}
 use Rattle.iv_run.proofs.LoadLemmas.{reports-all}
 use Rattle.iv_run.proofs.loading.Loading.finish.Goals as goal
