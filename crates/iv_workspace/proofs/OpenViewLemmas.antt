@@ -8,7 +8,7 @@ use Rattle.std.specs.Str.{bytes_eq}
 use Rattle.std.proofs.lemmas.List.{length-append, map-append}
 use Rattle.iv_text.proofs.NamedLemmas.{set_value_at}
 use Rattle.iv_text.specs.RecordValue.{RecordValue}
-use Rattle.iv_view.specs.KeptStates.{state_key_of, repair_steps_of}
+use Rattle.iv_view.specs.KeptStates.{repair_steps_of}
 use Rattle.iv_view.specs.declared.view.View.{View}
 use Rattle.iv_workspace.specs.Inside.ViewStates.{all_seen, seen}
 use Rattle.iv_workspace.specs.OpenViews.{Shown, Stales, Freshens, current, all_current, with_current, stale_count, all_steps, view_steps}
@@ -129,7 +129,7 @@ stales-trans (v ∷ old) (m ∷ mid) (w ∷ new) first second = (
   second.0 ∙ first.0,
   second.1 ∙ first.1,
   λ stale. second.2 (first.2 stale),
-  λ none. second.3 (ap state_key_of first.1 ∙ none) ∙ first.3 none,
+  λ written is. second.3 written (first.1 ∙ is) ∙ first.3 written is,
   stales-trans old mid new first.4 second.4,
 )
 
@@ -170,7 +170,7 @@ midway-at {V} Done P old es place v mid found all =
 
 pub stales-same : (views : List (List ℕ × Shown)) → Stales views views
 stales-same [] = tt
-stales-same (v ∷ views) = (refl, refl, λ stale. stale, λ none. refl, stales-same views)
+stales-same (v ∷ views) = (refl, refl, λ stale. stale, λ written is. refl, stales-same views)
 
 pub stales-append : (old new old2 new2 : List (List ℕ × Shown)) → Stales old new → Stales old2 new2 → Stales (old ++ old2) (new ++ new2)
 stales-append [] [] old2 new2 a b = b
