@@ -121,10 +121,10 @@ script-steps = (
   inl (((plain_merge, refl, refl), refl), refl),
   (
     with_one,
-    inl (((omega arith, refl, ((refl, refl, (λ stale. stale), (λ none. refl)), tt)), refl), refl),
+    inl (((omega arith, refl, ((refl, refl, (λ stale. stale), (λ rows is. refl)), tt)), refl), refl),
     (
       with_two,
-      inl (((omega arith, refl, ((refl, refl, (λ stale. stale), (λ none. refl)), tt)), refl), refl),
+      inl (((omega arith, refl, ((refl, refl, (λ stale. stale), (λ rows is. refl)), tt)), refl), refl),
       (
         with_two,
         inl ((merging, refl, refl, refl), refl),
@@ -139,7 +139,7 @@ abbrev with_stale : State
 with_stale = record with_one { views = (codes "m", record { view = plain_merge; stale = true }) ∷ [] }
 
 pub edits-may_leave_a_view_stale : RunsLine with_a_view (codes "add" ++ tab ++ codes "chr1" ++ tab ++ codes "10" ++ tab ++ codes "20") with_stale silent
-edits-may_leave_a_view_stale = inl (((omega arith, refl, ((refl, refl, (λ stale. refl), (λ none. absurd (cc (none)))), tt)), refl), refl)
+edits-may_leave_a_view_stale = inl (((omega arith, refl, ((refl, refl, (λ stale. refl), (λ rows is. absurd (cc is))), tt)), refl), refl)
 
 pub prints-may_want_memory : RunsLine with_stale (codes "print" ++ tab ++ codes "m") with_stale (refused_by fault.NoMemory)
 prints-may_want_memory = inr (fault.NoMemory, (record { view = plain_merge; stale = true }, refl, refl), refl, refl)

@@ -1,5 +1,6 @@
 mod CuttingLemmas
 mod FlagLemmas
+mod KeptTexts
 mod ListLemmas
 mod OptionLemmas
 mod RegionLemmas

@@ -11,7 +11,8 @@ use Rattle.iv_cover.specs.Columns.{column_numbered}
 use Rattle.iv_cover.specs.declared.column.Column.{Column}
 use Rattle.iv_cover.specs.declared.column.ColumnSummary.{ColumnSummary}
 use Rattle.iv_cover.specs.declared.op.Op.{Op}
-use Rattle.iv_blocks.specs.Groups.{filled, listed, unused}
+use Rattle.iv_blocks.specs.Groups.{filled, listed}
+use Rattle.iv_blocks.specs.Inside.Groups.{unused}
 use Rattle.iv_blocks.specs.declared.options.BlockOptions.{BlockOptions}
 use Rattle.iv_blocks.specs.declared.options.Summaries.{Summaries}
 use Rattle.iv_depth.specs.declared.depth_rows.DepthRows.{DepthRows}

@@ -83,8 +83,8 @@ abbrev pub second_records : Option Tracked → List RecordValue
 second_records None = []
 second_records (Some second) = second.rows
 
--- what is printed of a view of which a state is kept, all of it or a region: of `cluster`, whose rows are records, those of such
--- records, with the numbers that they have among all
+-- what is printed of a view of which a state is kept: all of its text, or its rows whose interval shares a position with a region; of
+-- `cluster`, whose rows are records, those of such records, with the numbers that they have among all
 abbrev pub kept_text : Option Region → KeptView → Sequences → List RecordValue → List ℕ
 kept_text part (kept.Merge options) g rows = sequences_in part g (merge_rows part options g rows)
 kept_text part (kept.Cluster distance) g rows = flat_map (cluster_row distance g rows) (records_in part rows)
@@ -98,8 +98,9 @@ written_rows (written.Paired shown) g second bases r = pair_rows shown g r secon
 written_rows (written.Getfasta shown) g second bases r = fasta_rows shown g bases r
 written_rows written.Records g second bases r = record_line g r
 
--- what is printed of a view on this genome for these records, all of it or a region, beside the records of the second file and the
--- bases of the FASTA file, of each none if there is no such file; of a view that is written from records, the rows of those in the part
+-- what is printed of a view on this genome for these records, beside the records of the second file and the bases of the FASTA file, of
+-- each none if there is no such file: all of its text, or that of a region; if it is written from records, the rows of all, or of those
+-- that share a position with the region
 abbrev pub shown_text : Option Region → View → Sequences → List RecordValue → List RecordValue → Bases → List ℕ
 shown_text part (view.Kept v) g rows second bases = kept_text part v g rows
 shown_text part (view.Written v) g rows second bases = flat_map (written_rows v g second bases) (records_in part rows)

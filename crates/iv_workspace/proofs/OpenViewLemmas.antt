@@ -8,7 +8,7 @@ use Rattle.std.specs.Str.{bytes_eq}
 use Rattle.std.proofs.lemmas.List.{length-append, map-append}
 use Rattle.iv_text.proofs.NamedLemmas.{set_value_at}
 use Rattle.iv_text.specs.RecordValue.{RecordValue}
-use Rattle.iv_view.specs.KeptStates.{state_key_of, repair_steps_of}
+use Rattle.iv_view.specs.KeptStates.{repair_steps_of}
 use Rattle.iv_view.specs.declared.view.View.{View}
 use Rattle.iv_workspace.specs.Inside.ViewStates.{all_seen, seen}
 use Rattle.iv_workspace.specs.OpenViews.{Shown, Stales, Freshens, current, all_current, with_current, stale_count, all_steps, view_steps}
@@ -130,7 +130,7 @@ stales-trans (v ∷ old) (m ∷ mid) (w ∷ new) first second = (
     second.0.0 ∙ first.0.0,
     second.0.1 ∙ first.0.1,
     λ stale. second.0.2 (first.0.2 stale),
-    λ none. second.0.3 (ap state_key_of first.0.1 ∙ none) ∙ first.0.3 none,
+    λ written is. second.0.3 written (first.0.1 ∙ is) ∙ first.0.3 written is,
   ),
   stales-trans old mid new first.1 second.1,
 )
@@ -172,7 +172,7 @@ midway-at {V} Done P old es place v mid found all =
 
 pub stales-same : (views : List (List ℕ × Shown)) → Stales views views
 stales-same [] = tt
-stales-same (v ∷ views) = ((refl, refl, λ stale. stale, λ none. refl), stales-same views)
+stales-same (v ∷ views) = ((refl, refl, λ stale. stale, λ written is. refl), stales-same views)
 
 pub stales-append : (old new old2 new2 : List (List ℕ × Shown)) → Stales old new → Stales old2 new2 → Stales (old ++ old2) (new ++ new2)
 stales-append [] [] old2 new2 a b = b

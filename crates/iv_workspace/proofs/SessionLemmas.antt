@@ -17,6 +17,8 @@ use Rattle.iv_track.proofs.Counts.{length-removed, removed-added}
 use Rattle.iv_track.proofs.Edits.{All-added, All-removed, added-removed}
 use Rattle.iv_view.specs.declared.kept_state.StateKey.{StateKey}
 use Rattle.iv_view.specs.declared.view.View.{View}
+use Rattle.iv_view.specs.declared.view.View.TheVariants as view
+use Rattle.iv_view.specs.declared.written_view.WrittenView.{WrittenView}
 use Rattle.iv_view.specs.KeptStates.{state_key_of}
 use Rattle.iv_view.specs.Views.{read_words}
 use Rattle.iv_workspace.specs.OpenViews.{Shown, Stales, Freshens, all_current, with_current}
@@ -138,6 +140,11 @@ served-current second name old new are served = subst (AreServed second) (sym ar
 
 -- ---- written views
 
+-- a view of which nothing is kept is written from the records
+none-written : (v : View) → state_key_of v ≡ None → (rows : WrittenView) × (v ≡ view.Written rows)
+none-written (view.Kept v) none = absurd (cc (none))
+none-written (view.Written rows) none = (rows, refl)
+
 fresh-stales : (old new : List (List ℕ × Shown)) → Stales old new → AreWrittenFresh old → AreWrittenFresh new
 fresh-stales [] [] less fresh = tt
 fresh-stales [] (w ∷ new) less fresh = absurd less
@@ -145,7 +152,8 @@ fresh-stales (v ∷ old) [] less fresh = absurd less
 fresh-stales (v ∷ old) (w ∷ new) less fresh = (
   λ none.
       let was : state_key_of v.1.view ≡ None = ap state_key_of (sym less.0.1) ∙ none in
-      less.0.3 was ∙ fresh.0 was,
+      let written = none-written v.1.view was in
+      less.0.3 written.0 written.1 ∙ fresh.0 was,
   fresh-stales old new less.1 fresh.1,
 )
 

@@ -115,7 +115,7 @@ module _ {A : Type 0} (names : List (List ℕ)) (rows with_r : List RecordValue)
               seen_new ∙ ap₂ (λ (l : List (List ℕ × Shown)) (s : Shown). l ++ (n, s) ∷ []) before.0 shown ∙ sym seen_old,
               owned-append new ((n, w) ∷ []) ∙ ap₂ (λ (l : List (Option StateKey)) (o : Option StateKey). l ++ o ∷ []) before.1 here.1 ∙ sym (owned-append old ((n, v) ∷ [])),
             );
-        stales = rw (seen_old, seen_new) (stales-append (all_seen old) (all_seen new) ((n, seen v) ∷ []) ((n, seen w) ∷ []) all.stales ((refl, one.same, one.stays, one.written), tt));
+        stales = rw (seen_old, seen_new) (stales-append (all_seen old) (all_seen new) ((n, seen v) ∷ []) ((n, seen w) ∷ []) all.stales ((refl, one.same, one.stays, (λ written is. one.written (ap state_key_of is))), tt));
         right = all-append (λ e. IsOwnRight e.1 names rows) new ((n, w) ∷ []) all.right (one.right, tt);
         steps = record { no_less = omega (arith, all.steps.no_less, one.steps.no_less); at_most = omega (arith, all.steps.at_most, one.steps.at_most, steps_are) };
       }
@@ -197,7 +197,7 @@ module _ {A : Type 0} (states : List (Option StateKey)) (v : OpenView A) (b : Bo
             let front = all.right names rows (all-front (λ e. IsOwnRight e.1 names rows) old ((n, v) ∷ []) right) in
             let here = (all-back (λ e. IsOwnRight e.1 names rows) old ((n, v) ∷ []) right).0 in
             all-append (λ e. IsOwnRight e.1 names rows) new ((n, w) ∷ []) front (marked-right keeps among names rows here, tt);
-        stales = rw (seen_old, seen_new) (stales-append (all_seen old) (all_seen new) ((n, seen v) ∷ []) ((n, seen w) ∷ []) all.stales ((refl, refl, stays, λ none. keeps (kept-none states v.view none)), tt));
+        stales = rw (seen_old, seen_new) (stales-append (all_seen old) (all_seen new) ((n, seen v) ∷ []) ((n, seen w) ∷ []) all.stales ((refl, refl, stays, (λ written is. keeps (kept-none states v.view (ap state_key_of is)))), tt));
         have = rw seen_new (all-append (λ e. e.1.stale ≡ false → IsKept states e.1.view) (all_seen new) ((n, seen w) ∷ []) all.have (lost, tt));
       }
 

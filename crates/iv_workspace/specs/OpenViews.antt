@@ -1,10 +1,12 @@
 -- The open views as contracts see them, and what edits and prints leave of them.
-use Rattle.std.specs.Prelude.{◌≡◌, ℕ, ◌+◌, Bool, true, false, if◌then◌else◌, List, [], ◌∷◌, None, map}
+use Rattle.std.specs.Prelude.{◌≡◌, ℕ, ◌+◌, Bool, true, false, if◌then◌else◌, List, [], ◌∷◌, map}
 use Rattle.std.specs.List.{AllZip}
 use Rattle.std.specs.Str.{bytes_eq}
 use Rattle.iv_text.specs.RecordValue.{RecordValue}
-use Rattle.iv_view.specs.KeptStates.{state_key_of, repair_steps_of}
+use Rattle.iv_view.specs.KeptStates.{repair_steps_of}
 use Rattle.iv_view.specs.declared.view.View.{View}
+use Rattle.iv_view.specs.declared.view.View.TheVariants as view
+use Rattle.iv_view.specs.declared.written_view.WrittenView.{WrittenView}
 
 -- an open view: which one it is, and whether it must be rebuilt before it is printed
 pub record Shown : Type 0 where
@@ -26,8 +28,8 @@ with_current (v ∷ views) name = if bytes_eq name v.0 then (v.0, current v.1) �
 
 -- the views are the same, except that some kept views may have become stale
 abbrev pub Stales : List (List ℕ × Shown) → List (List ℕ × Shown) → Type 0
-Stales old new = AllZip (λ v w. (w.0 ≡ v.0) × (w.1.view ≡ v.1.view)
-    × (v.1.stale ≡ true → w.1.stale ≡ true) × (state_key_of v.1.view ≡ None → w.1.stale ≡ v.1.stale)) old new
+Stales old new = AllZip (λ v w. (w.0 ≡ v.0) × (w.1.view ≡ v.1.view) × (v.1.stale ≡ true → w.1.stale ≡ true)
+    × ((rows : WrittenView) → v.1.view ≡ view.Written rows → w.1.stale ≡ v.1.stale)) old new
 
 -- the views are the same, except that some that were stale may have become current
 abbrev pub Freshens : List (List ℕ × Shown) → List (List ℕ × Shown) → Type 0
