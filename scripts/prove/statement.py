@@ -30,7 +30,7 @@ GLOSSARY = {
         "×": "`P × Q`: P and Q; `(x : A) × P`: there is an x of A with P. Between types, `A × B` are pairs, whose parts are `p.0` and `p.1`",
         "⊎": "`P ⊎ Q`: P or Q",
         "¬": "`¬ P`: not P",
-        "⊤ Unit tt": "`⊤`, `Unit {0}`: the statement that always holds, and the type with the one value `tt`",
+        "⊤ Unit": "`⊤`, `Unit {0}`: the statement that always holds, and the type with one value",
         "⊥": "`⊥`: the statement that never holds",
         "IsTrue": "`IsTrue b`: b is true",
     },

@@ -7,9 +7,9 @@ ghost use Rattle.iv_text.specs.Genome.{most_length};
 ghost use Rattle.iv_text.specs.Read.{Fits, read_columns};
 ghost use Rattle.iv_workspace.specs.Edits.{EditFits};
 ghost use Rattle.iv_workspace.specs.States.{State};
-ghost use Rattle.iv_session.specs.EditLines.{edit_said};
+ghost use Rattle.iv_session.specs.EditLines.{edit_said, read_two};
 ghost use Rattle.iv_session.specs.Requests.{asked, asked_by, edit_asked, length_said, only_field, show_all_asked, show_asked, two_fields as two_of};
-ghost use Rattle.iv_session.specs.Inside.Requests.{RequestFits, both, read_two};
+ghost use Rattle.iv_session.specs.Inside.Requests.{RequestFits, both};
 ghost use Rattle.iv_session.specs.declared.request.Request.TheVariants as request;
 ghost use Rattle.iv_text.specs.Widths.{IsWidth};
 

@@ -1,11 +1,9 @@
 -- Requests that fit their session, and the two records of one line.
-use Rattle.std.specs.Prelude.{◌≤◌, ◌+◌, ◌==◌, ℕ, IfSome, List, Result, Ok, Err, if◌then◌else◌, length, take, drop}
+use Rattle.std.specs.Prelude.{◌≤◌, IfSome, Result, Ok}
 use Rattle.iv_text.specs.Chains.{if_ok}
-use Rattle.iv_text.specs.Genome.{Sequences, most_length}
-use Rattle.iv_text.specs.Read.{read_columns}
+use Rattle.iv_text.specs.Genome.{most_length}
 use Rattle.iv_text.specs.RecordValue.{RecordValue}
 use Rattle.iv_text.specs.declared.fault.Fault.{Fault}
-use Rattle.iv_text.specs.declared.fault.Fault.TheVariants as fault
 use Rattle.iv_view.specs.RegionText.{IsWithin}
 use Rattle.iv_workspace.specs.States.{State}
 use Rattle.iv_workspace.specs.Edits.{EditFits, FitsIn}
@@ -26,10 +24,3 @@ RequestFits s (request.PrintAll part) = IfSome part (IsWithin s.genome)
 -- two records, or the fault of the first, or else that of the second
 abbrev pub both : Result RecordValue Fault → Result RecordValue Fault → Result (RecordValue × RecordValue) Fault
 both first second = if_ok first (λ r. if_ok second (λ q. Ok (r, q)))
-
--- the records of twice as many columns as the width: one of the first half, and one of the other
-abbrev pub read_two : Sequences → ℕ → List (List ℕ) → Result (RecordValue × RecordValue) Fault
-read_two g width cs =
-    if length cs == width + width
-    then both (read_columns g width (take width cs)) (read_columns g width (drop width cs))
-    else Err fault.Columns
