@@ -10,7 +10,8 @@ use Rattle.std.specs.declared.cmp.Ordering.{Ordering}
 use Rattle.std.specs.declared.cmp.Ordering.TheVariants.{Less, Equal, Greater}
 use Rattle.std.proofs.lemmas.Bool.{false≢true}
 use Rattle.std.proofs.lemmas.List.{drop_more}
-use Rattle.iv_text.specs.Inside.Batches.{items_of, HasItem, is_refused, comes_below, ascends, last_of}
+use Rattle.iv_text.specs.Ascending.{is_refused, comes_below, ascends}
+use Rattle.iv_text.specs.Inside.Batches.{items_of, HasItem, last_of}
 
 -- ---- order
 

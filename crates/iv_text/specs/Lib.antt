@@ -16,6 +16,7 @@ pub mod FileMeaning
 pub mod FastLine
 pub mod BedReading
 pub mod Ordered
+pub mod Ascending
 pub mod CoveredPositions
 pub mod RecordText
 pub mod NameHash

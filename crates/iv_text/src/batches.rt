@@ -4,7 +4,8 @@ ghost use Rattle.std.specs.Iterator.{YieldsFirst, item_count};
 ghost use Rattle.std.specs.List.Sorted.{IsSorted};
 ghost use Rattle.std.specs.Option.{option_copied, option_to_list};
 ghost use Rattle.std.specs.Vec.Iter.{into_iter_items, into_iter_len};
-ghost use Rattle.iv_text.specs.Inside.Batches.{HasItem, TakesVector, ascends, comes_below as is_below, items_of};
+ghost use Rattle.iv_text.specs.Ascending.{ascends, comes_below as is_below};
+ghost use Rattle.iv_text.specs.Inside.Batches.{HasItem, TakesVector, items_of};
 
 use std::alloc::{AllocError, Allocator, Global};
 use std::cmp::Ordering;

@@ -4,7 +4,7 @@ use Rattle.std.specs.Prelude.{◌≡◌, ℕ, ◌+◌, true, List, [], ◌∷◌
 use Rattle.std.specs.Iterator.{YieldsFirst}
 use Rattle.std.specs.declared.cmp.Ordering.{Ordering}
 use Rattle.std.specs.Ordering.{is_eq}
-use Rattle.iv_text.specs.Inside.Batches.{ascends}
+use Rattle.iv_text.specs.Ascending.{ascends}
 use Rattle.iv_text.specs.RecordValue.{RecordValue, IsPlaced, record_cmp}
 
 module _ {K : Type 0} (cmp : K → K → Ordering) where

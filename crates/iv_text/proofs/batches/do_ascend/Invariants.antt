@@ -1,6 +1,6 @@
 use Rattle.std.proofs.Common.{◌≡◌, drop}
 use Rattle.std.specs.Option.{option_copied}
-use Rattle.iv_text.specs.Inside.Batches.{ascends}
+use Rattle.iv_text.specs.Ascending.{ascends}
 use Rattle.iv_text.proofs.batches.do_ascend.Given as goal
 
 abbrev pub invariant-loop-item : goal.invariant-loop-item

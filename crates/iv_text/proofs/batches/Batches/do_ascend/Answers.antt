@@ -1,7 +1,8 @@
 use Rattle.std.proofs.Common.{◌≡◌, ◌∙◌, ◌+◌, ◌<◌, ◌++◌, true, false, [], None, length, drop, slice_index_or, sym, ap, rules, arith}
 use Rattle.std.specs.Option.{option_copied}
 use Rattle.std.proofs.lemmas.List.{drop_all}
-use Rattle.iv_text.specs.Inside.Batches.{items_of, ascends, last_of}
+use Rattle.iv_text.specs.Ascending.{ascends}
+use Rattle.iv_text.specs.Inside.Batches.{items_of, last_of}
 use Rattle.iv_text.proofs.BatchLemmas.{last-get, vector-up, vector-not, has-item}
 use Rattle.iv_text.proofs.batches.Batches.do_ascend.Goals as goal
 

@@ -1,6 +1,7 @@
 use Rattle.std.proofs.Common.{◌≡◌, ◌++◌, None, drop}
 use Rattle.std.specs.Option.{option_copied}
-use Rattle.iv_text.specs.Inside.Batches.{items_of, ascends}
+use Rattle.iv_text.specs.Ascending.{ascends}
+use Rattle.iv_text.specs.Inside.Batches.{items_of}
 use Rattle.iv_text.proofs.batches.Batches.do_ascend.Given as goal
 
 abbrev pub invariant-loop-vector : goal.invariant-loop-vector
