@@ -1,11 +1,10 @@
 -- Files that were read, and what a run does with them.
-use Rattle.std.proofs.Common.{◌≡◌, ◌⊎◌, inl, inr, ◌<◌, ◌≤◌, ◌^◌, ℕ, List, [], ◌∷◌, ◌++◌, length, false, true≢false, Option, None, Some, Result, Ok, Err, IfOk, IfErr, IfSome, refl, sym, ap, ◌∙◌, subst, arith}
-use Rattle.std.proofs.lemmas.Bool.{false≢true}
+use Rattle.std.proofs.Common.{◌≡◌, ◌⊎◌, inl, inr, ◌<◌, ◌≤◌, ◌^◌, ℕ, List, [], ◌∷◌, ◌++◌, length, false, Option, None, Some, Result, Ok, Err, IfOk, IfErr, IfSome, refl, sym, ap, ◌∙◌, subst, arith}
 use Rattle.std.proofs.lemmas.List.Elements.{All-nil, All-cons}
 use Rattle.std.specs.List.{All}
 use Rattle.std.specs.Option.{option_to_list}
-use Rattle.std.specs.Prelude.{Bool, true, MatchResult, OnOk, is_ok, ◌==◌, if◌then◌else◌}
-use Rattle.iv_bytes.specs.Sinks.{SinkState, Puts, Takes, FailsIn, waiting}
+use Rattle.std.specs.Prelude.{Bool, true, MatchResult, ◌==◌, if◌then◌else◌}
+use Rattle.iv_bytes.specs.Sinks.{SinkState, Takes, FailsIn, waiting}
 use Rattle.iv_bytes.specs.Sources.{SourceState}
 use Rattle.iv_text.specs.Fault.{code_of}
 use Rattle.iv_text.specs.declared.fault.Fault.{Fault}
@@ -31,15 +30,15 @@ use Rattle.iv_run.specs.SoFar.{SaysSecond, SoFar}
 use Rattle.iv_run.specs.declared.fault.CliFault.{CliFault}
 use Rattle.iv_run.specs.declared.fault.FileFault.{FileFault}
 use Rattle.iv_run.specs.declared.fault.FileFault.TheVariants as file
-use Rattle.iv_cli.specs.ExitReasons.{ending_after, ending_of_cause, ending_of_file, ending_of_run, ending_of_words, is_through, line_of, name_meant}
+use Rattle.iv_cli.specs.ExitReasons.{ending_after, ending_of_cause, ending_of_file, ending_of_run, ending_of_words, is_through, name_meant}
 use Rattle.iv_cli.specs.declared.exit_reason.ExitReason.{ExitReason}
 use Rattle.iv_cli.specs.declared.exit_reason.ExitReason.TheVariants as exit_reason
 use Rattle.iv_program.specs.Files.{FilesState, IsText, after_one, after_reading}
 use Rattle.iv_program.specs.Limits.{most_file_bytes}
 use Rattle.iv_program.specs.Program.{Finishes, Runs, Serves, world}
-use Rattle.iv_program.specs.Runs.{World, DoesWith, HasNotRead}
+use Rattle.iv_program.specs.Runs.{World, DoesWith, HasRead, HasNotRead}
 use Rattle.iv_program.specs.Inside.Files.{HasText, IsWhy, StopsAt, StopsFile, names_of}
-use Rattle.iv_program.specs.Inside.Runs.{PrintsView, RunsPlan, RunsScript, Says}
+use Rattle.iv_program.specs.Inside.Runs.{DoesOne, EndsRun, Flushes, ReadsAll, RunsPlan, Says, StopsPlan, stopped_at}
 use Rattle.iv_program.specs.Texts.{Texts, AreTexts, IsTextIfNamed, names_before}
 use Rattle.iv_program.specs.declared.program.Ended.{Ended}
 
@@ -171,8 +170,7 @@ ran-of old new before after lines most (Ok summary) done stopped = done
 ran-of old new before after lines most (Err why) done stopped = stopped
 
 -- how a script that was run ends
-pub ends-of : (run : Result Summary RunFault) (ended : ExitReason) (line : ℕ) → ended ≡ ending_of_run run
-    → MatchResult run (λ summary. line ≡ 0) (λ stopped. line ≡ stopped.line)
+pub ends-of : (run : Result Summary RunFault) (ended : ExitReason) (line : ℕ) → ended ≡ ending_of_run run → line ≡ stopped_at run
     → MatchResult run (λ summary. (ended ≡ (if summary.refused == 0 then exit_reason.Done else exit_reason.Refused)) × (line ≡ 0))
     (λ stopped. (ended ≡ ending_of_cause stopped.cause) × (line ≡ stopped.line))
 ends-of (Ok summary) ended line is at = (is, at)
@@ -180,61 +178,50 @@ ends-of (Err stopped) ended line is at = (is, at)
 
 -- ---- plans
 
--- a session runs its script
-does-script : (run : Subcommand) (plan : RunPlan) (texts : Texts) (before after : Streams) (ended : ExitReason) (line : ℕ) → is_session run ≡ true
-    → RunsScript plan texts before after ended line → DoesWith run plan texts before after ended line
-does-script kind.Session plan texts before after ended line session does = does
-does-script run plan texts before after ended line session does = absurd (false≢true session)
-
--- a subcommand prints its view
-does-view : (run : Subcommand) (plan : RunPlan) (texts : Texts) (before after : Streams) (ended : ExitReason) (line : ℕ) → is_session run ≡ false
-    → PrintsView plan texts before.output after.output ended → after ≡ record before { output = after.output } → line ≡ 0 → DoesWith run plan texts before after ended line
-does-view kind.Session plan texts before after ended line view prints only no_line = absurd (true≢false view)
-does-view run plan texts before after ended line view prints only no_line = (prints, only, no_line)
+-- what is done with the texts of a plan, by its kind
+does-by : (run : Subcommand) (plan : RunPlan) (texts : Texts) (before after : Streams) (ended : ExitReason) (line : ℕ)
+    → DoesOne (is_session run) plan texts before after ended line → DoesWith run plan texts before after ended line
+does-by kind.Session plan texts before after ended line does = does
+does-by run plan texts before after ended line does = does
 
 module _ (plan : RunPlan) (before after : World) (ended : ExitReason) (line : ℕ) where
   -- all files were read
-  read-plan : (texts : Texts) → AreTexts before.files plan texts → after.files ≡ after_reading (names_of plan) before.files
-      → DoesWith plan.run plan texts before.streams after.streams ended line → RunsPlan plan before after ended line
-  read-plan texts are read does =
-      inl (record { texts = texts; sizes = are.sizes; first = are.first; other = are.other; bases = are.bases; files = read; does = does })
-
-  pub script-plan : (texts : Texts) → AreTexts before.files plan texts → after.files ≡ after_reading (names_of plan) before.files → is_session plan.run ≡ true
-      → RunsScript plan texts before.streams after.streams ended line → RunsPlan plan before after ended line
-  script-plan texts are read session does = read-plan texts are read (does-script plan.run plan texts before.streams after.streams ended line session does)
-
-  pub view-plan : (texts : Texts) → AreTexts before.files plan texts → after.files ≡ after_reading (names_of plan) before.files → is_session plan.run ≡ false
-      → PrintsView plan texts before.streams.output after.streams.output ended → after.streams ≡ record before.streams { output = after.streams.output } → line ≡ 0
-      → RunsPlan plan before after ended line
-  view-plan texts are read view prints only no_line =
-      read-plan texts are read (does-view plan.run plan texts before.streams after.streams ended line view prints only no_line)
+  read-plan : ReadsAll plan before after ended line → HasRead plan before after ended line
+  read-plan read = record {
+    texts = read.texts;
+    sizes = read.are.sizes;
+    first = read.are.first;
+    other = read.are.other;
+    bases = read.are.bases;
+    files = read.files;
+    does = does-by plan.run plan read.texts before.streams after.streams ended line read.does;
+  }
 
   -- one was not
-  pub stopped-plan : (slot : Slot) (fault : FileFault) → StopsAt plan before.files after.files slot fault → after.streams ≡ before.streams
-      → ended ≡ ending_of_file slot fault → line ≡ 0 → RunsPlan plan before after ended line
-  stopped-plan slot fault at same is no_line = inr (by fault at.stops is)
+  stopped-plan : StopsPlan plan before after ended line → HasNotRead plan before after ended line
+  stopped-plan stopped = by stopped.fault stopped.stops.stops stopped.ended_is
     where
-      earlier : FilesState
-      earlier = after_reading (names_before plan slot) before.files
-
-      made : (failed : Bool) → after.files ≡ after_one failed at.name earlier → IsWhy before.files at.name slot failed ended → HasNotRead plan before after ended line
+      made : (failed : Bool) → after.files ≡ after_one failed stopped.stops.name (after_reading (names_before plan stopped.slot) before.files)
+          → IsWhy before.files stopped.stops.name stopped.slot failed ended → HasNotRead plan before after ended line
       made failed files why = record {
-        slot = slot;
-        name = at.name;
-        named = at.named;
-        earlier = at.before;
+        slot = stopped.slot;
+        name = stopped.stops.name;
+        named = stopped.stops.named;
+        earlier = stopped.stops.before;
         failed = failed;
         files = files;
         why = why;
-        nothing = (same, no_line);
+        nothing = (stopped.same, stopped.no_line);
       }
 
-      by : (why : FileFault) → StopsFile earlier at.name why after.files → ended ≡ ending_of_file slot why → HasNotRead plan before after ended line
+      by : (why : FileFault) → StopsFile (after_reading (names_before plan stopped.slot) before.files) stopped.stops.name why after.files
+          → ended ≡ ending_of_file stopped.slot why → HasNotRead plan before after ended line
       by file.Input stops e = made true stops (inl (refl, e))
       by file.Memory stops e = made false stops (inr (inl (refl, e)))
       by file.TooLong stops e = made false stops.1 (inr (inr (
         refl,
-        subst (λ (c : List ℕ → Option (List ℕ)). IfSome (c at.name) (λ known. most_file_bytes < length known)) (reading-contents (names_before plan slot) before.files) stops.0,
+        subst (λ (c : List ℕ → Option (List ℕ)). IfSome (c stopped.stops.name) (λ known. most_file_bytes < length known))
+            (reading-contents (names_before plan stopped.slot) before.files) stops.0,
         e,
       )))
 
@@ -244,54 +231,60 @@ same-both : (b : Bool) (ended : ExitReason) → (if b then ended else ended) ≡
 same-both true ended = refl
 same-both false ended = refl
 
--- a run is finished once the output was flushed, or failed in it, and its ending was reported
-pub finished-by : {E : Type 0} (flushed : Result (Unit {0}) E) (ended : ExitReason) (name : List ℕ) (out0 out1 said0 said1 : SinkState) (reported : ExitReason)
-    → Puts out0 out1 flushed [] → OnOk flushed (waiting out1 ≡ []) → reported ≡ ending_after (is_ok flushed) ended
-    → Takes said0 said1 (line_of name reported) ⊎ FailsIn said0 said1 (line_of name reported) → (is_through reported ≡ true → said1 ≡ said0)
+-- how a run ends, by what its flush left
+pub finished : (ended : ExitReason) (name : List ℕ) (out0 out1 said0 said1 : SinkState) (reported : ExitReason) → EndsRun ended name out0 out1 said0 said1 reported
     → Finishes ended name out0 out1 said0 said1 reported
-finished-by (Ok done) ended name out0 out1 said0 said1 reported puts empty is told quiet =
-    record { flushed = inl (puts, empty, is ∙ same-both (is_through ended) ended); told = told; quiet = quiet }
-finished-by (Err e) ended name out0 out1 said0 said1 reported puts empty is told quiet = record { flushed = inr (puts, is); told = told; quiet = quiet }
+finished ended name out0 out1 said0 said1 reported ends = record { flushed = by ends.flushed ends.flush ends.reported_is; told = ends.told; quiet = ends.quiet }
+  where
+    by : (flushed : Bool) → Flushes flushed out0 out1 → reported ≡ ending_after flushed ended
+        → (Takes out0 out1 [] × (waiting out1 ≡ []) × (reported ≡ ended)) ⊎ (FailsIn out0 out1 [] × (reported ≡ (if is_through ended then exit_reason.Output else ended)))
+    by true flush is = inl (flush.0, flush.1, is ∙ same-both (is_through ended) ended)
+    by false flush is = inr (flush, is)
 
 module _ (words : List (List ℕ)) (answer : Ended) where
   pub gave-info_request : (info_request : InfoRequest) (files : FilesState) (input : SourceState) (o0 o1 o2 s0 s1 : SinkState) (ended : ExitReason) → notice_of words ≡ Some info_request
       → ((ended ≡ exit_reason.Done) × Takes o0 o1 (notice_text info_request)) ⊎ ((ended ≡ exit_reason.Output) × FailsIn o0 o1 (notice_text info_request))
-      → Finishes ended [] o1 o2 s0 s1 answer.exit_reason → answer.line ≡ 0
+      → EndsRun ended [] o1 o2 s0 s1 answer.exit_reason → answer.line ≡ 0
       → Runs words (world files input o0 s0) (world files input o2 s1) answer
   gave-info_request info_request files input o0 o1 o2 s0 s1 ended is gives finishes no_line = record {
     reached = world files input o1 s0;
     ended = ended;
     name = [];
     serves = subst (λ (o : Option InfoRequest). Serves o words (world files input o0 s0) (world files input o1 s0) ended [] answer.line) (sym is) (gives, refl, no_line);
-    finishes = finishes;
+    finishes = finished ended [] o1 o2 s0 s1 answer.exit_reason finishes;
     files = refl;
     input = refl;
   }
 
   pub ran-plan : (plan : RunPlan) (f0 f1 : FilesState) (i0 i1 : SourceState) (o0 o1 o2 s0 s1 s2 : SinkState) (ended : ExitReason) (line : ℕ) (name : List ℕ) → notice_of words ≡ None
-      → IsPlan words plan → RunsPlan plan (world f0 i0 o0 s0) (world f1 i1 o1 s1) ended line → name ≡ name_meant plan ended
-      → Finishes ended name o1 o2 s1 s2 answer.exit_reason → answer.line ≡ line
+      → IsPlan words plan → ReadsAll plan (world f0 i0 o0 s0) (world f1 i1 o1 s1) ended line ⊎ StopsPlan plan (world f0 i0 o0 s0) (world f1 i1 o1 s1) ended line
+      → name ≡ name_meant plan ended → EndsRun ended name o1 o2 s1 s2 answer.exit_reason → answer.line ≡ line
       → Runs words (world f0 i0 o0 s0) (world f1 i1 o2 s2) answer
   ran-plan plan f0 f1 i0 i1 o0 o1 o2 s0 s1 s2 ended line name none is runs named finishes same_line = record {
     reached = world f1 i1 o1 s1;
     ended = ended;
     name = name;
     serves = subst (λ (o : Option InfoRequest). Serves o words (world f0 i0 o0 s0) (world f1 i1 o1 s1) ended name answer.line) (sym none)
-        (inl (plan, is, named, subst (λ (n : ℕ). RunsPlan plan (world f0 i0 o0 s0) (world f1 i1 o1 s1) ended n) (sym same_line) runs));
-    finishes = finishes;
+        (inl (plan, is, named, subst (λ (n : ℕ). RunsPlan plan (world f0 i0 o0 s0) (world f1 i1 o1 s1) ended n) (sym same_line) (by runs)));
+    finishes = finished ended name o1 o2 s1 s2 answer.exit_reason finishes;
     files = refl;
     input = refl;
   }
+    where
+      by : ReadsAll plan (world f0 i0 o0 s0) (world f1 i1 o1 s1) ended line ⊎ StopsPlan plan (world f0 i0 o0 s0) (world f1 i1 o1 s1) ended line
+          → RunsPlan plan (world f0 i0 o0 s0) (world f1 i1 o1 s1) ended line
+      by (inl read) = inl (read-plan plan (world f0 i0 o0 s0) (world f1 i1 o1 s1) ended line read)
+      by (inr stopped) = inr (stopped-plan plan (world f0 i0 o0 s0) (world f1 i1 o1 s1) ended line stopped)
 
   pub had-no-plan : (why : Fault) (files : FilesState) (input : SourceState) (o0 o1 s0 s1 : SinkState) (ended : ExitReason) → notice_of words ≡ None
       → (why ≡ refused.NoMemory) ⊎ ((why ≡ refused.Words) × ((plan : RunPlan) → ¬ IsPlan words plan)) → ended ≡ ending_of_words why
-      → Finishes ended [] o0 o1 s0 s1 answer.exit_reason → answer.line ≡ 0 → Runs words (world files input o0 s0) (world files input o1 s1) answer
+      → EndsRun ended [] o0 o1 s0 s1 answer.exit_reason → answer.line ≡ 0 → Runs words (world files input o0 s0) (world files input o1 s1) answer
   had-no-plan why files input o0 o1 s0 s1 ended none is ended_is finishes no_line = record {
     reached = world files input o0 s0;
     ended = ended;
     name = [];
     serves = subst (λ (o : Option InfoRequest). Serves o words (world files input o0 s0) (world files input o0 s0) ended [] answer.line) (sym none) (inr (by is, refl, no_line));
-    finishes = finishes;
+    finishes = finished ended [] o0 o1 s0 s1 answer.exit_reason finishes;
     files = refl;
     input = refl;
   }

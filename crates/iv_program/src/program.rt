@@ -13,10 +13,10 @@ ghost use Rattle.iv_run.specs.Shots.{shown};
 ghost use Rattle.iv_cli.specs.ExitReasons.{ending_of as ending_of_fault, is_through, line_of, status_of};
 ghost use Rattle.iv_program.specs.Files.{after_reading};
 ghost use Rattle.iv_program.specs.Outcomes.{AreSound, DoesAll, Hold, PrintsJust};
-ghost use Rattle.iv_program.specs.Program.{Finishes, Runs, world};
+ghost use Rattle.iv_program.specs.Program.{Runs, world};
 ghost use Rattle.iv_program.specs.Runs.{World};
 ghost use Rattle.iv_program.specs.Inside.Files.{StopsAt, names_of};
-ghost use Rattle.iv_program.specs.Inside.Runs.{PrintsView, RunsPlan, Says};
+ghost use Rattle.iv_program.specs.Inside.Runs.{EndsRun, PrintsView, ReadsAll, Says, StopsPlan};
 ghost use Rattle.iv_program.specs.Texts.{Texts, AreTexts};
 ghost use Rattle.iv_program.specs.declared.program.Ended.{Ended};
 
@@ -136,7 +136,10 @@ fn run_plan<A: Allocator + Copy, F: InputFiles, R: Source, W: Sink, E: Sink>(
     output: &mut W,
     messages: &mut E,
 ) -> Ended
-    ensures { RunsPlan plan.now
+    ensures { ReadsAll plan.now
+        (world (F.state files.old) (R.state input.old) (W.state output.old) (E.state messages.old))
+        (world (F.state files.new) (R.state input.new) (W.state output.new) (E.state messages.new)) result.exit_reason result.line
+        ⊎ StopsPlan plan.now
         (world (F.state files.old) (R.state input.old) (W.state output.old) (E.state messages.old))
         (world (F.state files.new) (R.state input.new) (W.state output.new) (E.state messages.new)) result.exit_reason result.line }
 {
@@ -166,7 +169,7 @@ pub fn tell<E: Sink>(exit_reason: ExitReason, name: &[u8], messages: &mut E) -> 
 
 /// Ends a run: the output hands on all that it holds, and the ending is reported.
 fn finish<W: Flush, E: Sink>(ended: Ended, name: &[u8], output: &mut W, messages: &mut E) -> Ended
-    ensures exit_reason { Finishes ended.exit_reason name.now (W.state output.old) (W.state output.new) (E.state messages.old) (E.state messages.new) result.exit_reason }
+    ensures exit_reason { EndsRun ended.exit_reason name.now (W.state output.old) (W.state output.new) (E.state messages.old) (E.state messages.new) result.exit_reason }
     ensures line { result.line ≡ ended.line }
 {
     let flushed = output.flush().is_ok();

@@ -1,11 +1,11 @@
 //! A run of a script over the session that the files of a plan begin.
-ghost use Rattle.std.specs.Prelude.{◌≡◌, ◌≤◌, IfOk, IfErr, MatchResult, OnOk, OnErr};
+ghost use Rattle.std.specs.Prelude.{◌≡◌, ◌≤◌, IfOk, IfErr, OnOk, OnErr};
 ghost use Rattle.std.specs.Option.{option_map};
 ghost use Rattle.iv_session.specs.Streams.{streams};
 ghost use Rattle.iv_args.specs.Words.{RunPlan, most_limit};
 ghost use Rattle.iv_program.specs.Files.{after_reading};
 ghost use Rattle.iv_program.specs.Inside.Files.{StopsAt, names_of};
-ghost use Rattle.iv_program.specs.Inside.Runs.{RunsScript, Says};
+ghost use Rattle.iv_program.specs.Inside.Runs.{RunsScript, Says, stopped_at};
 ghost use Rattle.iv_program.specs.Texts.{Texts, AreTexts};
 
 use crate::files::{InputFiles, ReadFiles, SlotFault};
@@ -23,7 +23,7 @@ const MOST_LINE_BYTES: u32 = 1_048_576;
 
 /// The line at which a script stopped, counted from 1; 0 if it was run to its end.
 fn line_of_stop(done: &Result<Summary, RunFault>) -> u64
-    ensures { MatchResult done.now (λ summary. result ≡ 0) (λ stopped. result ≡ stopped.line) }
+    ensures { result ≡ stopped_at done.now }
 {
     match done {
         Ok(_) => 0,

@@ -1,18 +1,24 @@
 -- What is known of the files of a plan, what their texts mean, and what a run of it does.
-use Rattle.std.specs.Prelude.{◌≡◌, ◌⊎◌, ℕ, List, Option, Result, MatchResult}
-use Rattle.iv_bytes.specs.Sinks.{SinkState}
+use Rattle.std.specs.Prelude.{◌≡◌, ◌⊎◌, ℕ, Bool, true, false, List, [], Option, Result, Ok, Err, MatchResult}
+use Rattle.iv_bytes.specs.Sinks.{SinkState, Takes, FailsIn, waiting}
 use Rattle.iv_text.specs.RecordValue.{RecordValue}
 use Rattle.iv_session.specs.Streams.{Streams}
-use Rattle.iv_args.specs.Words.{RunPlan}
+use Rattle.iv_session.specs.declared.script.RunFault.{RunFault}
+use Rattle.iv_session.specs.declared.script.Summary.{Summary}
+use Rattle.iv_args.specs.Words.{RunPlan, is_session}
+use Rattle.iv_args.specs.declared.plan.Slot.{Slot}
 use Rattle.iv_args.specs.declared.subcommand.Subcommand.TheVariants as kind
 use Rattle.iv_run.specs.Shots.{Shows, shown}
 use Rattle.iv_run.specs.SoFar.{SaysSecond, SoFar}
 use Rattle.iv_run.specs.declared.fault.CliFault.{CliFault}
-use Rattle.iv_cli.specs.ExitReasons.{ending_of}
+use Rattle.iv_run.specs.declared.fault.FileFault.{FileFault}
+use Rattle.iv_cli.specs.ExitReasons.{ending_after, ending_of, ending_of_file, is_through, line_of}
 use Rattle.iv_cli.specs.declared.exit_reason.ExitReason.{ExitReason}
 use Rattle.iv_cli.specs.declared.exit_reason.ExitReason.TheVariants as exit_reason
+use Rattle.iv_program.specs.Files.{after_reading}
+use Rattle.iv_program.specs.Inside.Files.{StopsAt, names_of}
 use Rattle.iv_program.specs.Runs.{World, DoesWith, HasRead, HasNotRead}
-use Rattle.iv_program.specs.Texts.{Texts}
+use Rattle.iv_program.specs.Texts.{Texts, AreTexts}
 
 -- what is known of the files of a plan is the value of these texts, and the bytes of its FASTA file are those of its text
 pub record Says (projected : RecordValue → RecordValue) (plan : RunPlan) (texts : Texts) (known : SoFar) (bases : Option (List ℕ)) : Type 0 where
@@ -31,6 +37,45 @@ PrintsView plan texts old new ended =
 -- the script of a plan was run, or the fault of the first damaged file is reported, or out of memory
 abbrev pub RunsScript : RunPlan → Texts → Streams → Streams → ExitReason → ℕ → Type 0
 RunsScript plan texts before after ended line = DoesWith kind.Session plan texts before after ended line
+
+-- the line at which a script stopped; 0 if it was run to its end
+abbrev pub stopped_at : Result Summary RunFault → ℕ
+stopped_at (Ok summary) = 0
+stopped_at (Err stopped) = stopped.line
+
+-- what is done with the texts of a plan: its script is run, or its view is printed
+abbrev pub DoesOne : Bool → RunPlan → Texts → Streams → Streams → ExitReason → ℕ → Type 0
+DoesOne true plan texts before after ended line = RunsScript plan texts before after ended line
+DoesOne false plan texts before after ended line =
+    PrintsView plan texts before.output after.output ended × (after ≡ record before { output = after.output }) × (line ≡ 0)
+
+-- all files of a plan were read, and this was done with their texts
+pub record ReadsAll (plan : RunPlan) (before after : World) (ended : ExitReason) (line : ℕ) : Type 0 where
+  pub texts : Texts
+  pub are : AreTexts before.files plan texts
+  pub files : after.files ≡ after_reading (names_of plan) before.files
+  pub does : DoesOne (is_session plan.run) plan texts before.streams after.streams ended line
+
+-- a file of a plan was not read to its end, and nothing was read or written
+pub record StopsPlan (plan : RunPlan) (before after : World) (ended : ExitReason) (line : ℕ) : Type 0 where
+  pub slot : Slot
+  pub fault : FileFault
+  pub stops : StopsAt plan before.files after.files slot fault
+  pub same : after.streams ≡ before.streams
+  pub ended_is : ended ≡ ending_of_file slot fault
+  pub no_line : line ≡ 0
+
+-- the end of a run, by whether its output was flushed
+abbrev pub Flushes : Bool → SinkState → SinkState → Type 0
+Flushes true old new = Takes old new [] × (waiting new ≡ [])
+Flushes false old new = FailsIn old new []
+
+pub record EndsRun (ended : ExitReason) (name : List ℕ) (out0 out1 said0 said1 : SinkState) (reported : ExitReason) : Type 0 where
+  pub flushed : Bool
+  pub flush : Flushes flushed out0 out1
+  pub reported_is : reported ≡ ending_after flushed ended
+  pub told : Takes said0 said1 (line_of name reported) ⊎ FailsIn said0 said1 (line_of name reported)
+  pub quiet : is_through reported ≡ true → said1 ≡ said0
 
 -- a run of a plan ended so, at this line of its script if it ended early at one
 abbrev pub RunsPlan : RunPlan → World → World → ExitReason → ℕ → Type 0

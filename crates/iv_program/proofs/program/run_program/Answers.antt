@@ -1,6 +1,6 @@
 use Rattle.std.proofs.Common.{[], map, subst, sym, ◌∙◌}
 use Rattle.iv_cli.specs.declared.exit_reason.ExitReason.{ExitReason}
-use Rattle.iv_program.specs.Program.{Finishes}
+use Rattle.iv_program.specs.Inside.Runs.{EndsRun}
 use Rattle.iv_program.proofs.RunLemmas.{gave-info_request, had-no-plan, ran-plan}
 use Rattle.iv_program.proofs.program.run_program.Goals as goal
 
@@ -9,7 +9,7 @@ returns-in-Some g c =
     gave-info_request (map (λ word. word.now) c.args.words.now) c.finish.result c.in-Some.info_request (g.F.InputFiles.state c.args.files.now) (g.R.Source.state c.args.input.now)
     (g.W.Sink.state c.args.output.now) (g.W.Sink.state c.print_notice.new.output) (g.W.Sink.state c.finish.new.output)
     (g.E.Sink.state c.args.messages.now) (g.E.Sink.state c.finish.new.messages) c.print_notice.result (sym c.in-Some.ensures) c.print_notice.ensures
-    (subst (λ (e : ExitReason). Finishes e [] (g.W.Sink.state c.print_notice.new.output) (g.W.Sink.state c.finish.new.output) (g.E.Sink.state c.args.messages.now) (g.E.Sink.state c.finish.new.messages) c.finish.result.exit_reason)
+    (subst (λ (e : ExitReason). EndsRun e [] (g.W.Sink.state c.print_notice.new.output) (g.W.Sink.state c.finish.new.output) (g.E.Sink.state c.args.messages.now) (g.E.Sink.state c.finish.new.messages) c.finish.result.exit_reason)
     c.at_no_line-ended.ensures.0 c.finish.ensures.exit_reason) (c.finish.ensures.line ∙ c.at_no_line-ended.ensures.1)
 
 pub returns-in-Ok : goal.returns-in-Ok
@@ -26,5 +26,5 @@ returns-in-Err g c =
     had-no-plan (map (λ word. word.now) c.args.words.now) c.finish-in-Err.result c.in-Err.fault (g.F.InputFiles.state c.args.files.now) (g.R.Source.state c.args.input.now)
     (g.W.Sink.state c.args.output.now) (g.W.Sink.state c.finish-in-Err.new.output) (g.E.Sink.state c.args.messages.now) (g.E.Sink.state c.finish-in-Err.new.messages)
     c.from.result (sym c.of.ensures ∙ c.in_default.is) c.in-Err.ensures.err c.from.ensures
-    (subst (λ (e : ExitReason). Finishes e [] (g.W.Sink.state c.args.output.now) (g.W.Sink.state c.finish-in-Err.new.output) (g.E.Sink.state c.args.messages.now) (g.E.Sink.state c.finish-in-Err.new.messages) c.finish-in-Err.result.exit_reason)
+    (subst (λ (e : ExitReason). EndsRun e [] (g.W.Sink.state c.args.output.now) (g.W.Sink.state c.finish-in-Err.new.output) (g.E.Sink.state c.args.messages.now) (g.E.Sink.state c.finish-in-Err.new.messages) c.finish-in-Err.result.exit_reason)
     c.at_no_line-ended-in-Err.ensures.0 c.finish-in-Err.ensures.exit_reason) (c.finish-in-Err.ensures.line ∙ c.at_no_line-ended-in-Err.ensures.1)
