@@ -20,9 +20,12 @@ use Rattle.iv_blocks.specs.MergeRows.{block_row}
 use Rattle.iv_blocks.specs.declared.options.BlockOptions.{BlockOptions}
 use Rattle.iv_depth.specs.Inside.Texts.{depth_text, text_by}
 use Rattle.iv_depth.specs.declared.depth_rows.DepthRows.{DepthRows}
+use Rattle.iv_depth.specs.declared.depth_rows.DepthRows.TheVariants.{Covered, All, EachPosition}
 use Rattle.iv_index.specs.Locators.{bare}
 use Rattle.iv_index.proofs.BareLemmas.{count-bare}
 use Rattle.iv_blocks.specs.IntervalOptions.{IsByIntervals}
+use Rattle.iv_view.specs.Views.{kept_text}
+use Rattle.iv_view.specs.declared.view.KeptView.TheVariants as projected
 
 -- ---- tests of bare records
 
@@ -44,6 +47,12 @@ filter-bare p (r ∷ rows) = by (p (bare r)) (filter-bare p rows)
 -- bare records cover what the records do
 depth-bare : (rows : List RecordValue) → depth (map bare rows) ≡ depth rows
 depth-bare rows = λ i sequence p. count-bare (covers sequence p) rows i
+
+-- the text of depth is that of the view
+pub genomecov-text : (shown : DepthRows) (g : Sequences) (rows : List RecordValue) → depth_text shown g rows ≡ kept_text None (projected.Genomecov shown) g rows
+genomecov-text Covered g rows = refl
+genomecov-text All g rows = refl
+genomecov-text EachPosition g rows = refl
 
 pub genomecov-bare : (shown : DepthRows) (g : Sequences) (rows : List RecordValue) → depth_text shown g (map bare rows) ≡ depth_text shown g rows
 genomecov-bare shown g rows = ap (text_by shown g) (depth-bare rows)

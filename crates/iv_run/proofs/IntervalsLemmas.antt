@@ -1,6 +1,6 @@
 -- A run whose rows depend on nothing of a record except its interval.
 use Rattle.std.proofs.Common.{◌≡◌, ◌↔◌, ℕ, Bool, true, false, true≢false, not, ◌&&◌, List, Option, None, Some, Result, Ok, Err, IfSome, if◌then◌else◌, refl, sym, ap, ◌∙◌, subst}
-use Rattle.std.specs.Prelude.{nat_lt}
+use Rattle.std.specs.Prelude.{map, nat_lt}
 use Rattle.std.specs.Bool.{then_some}
 use Rattle.std.specs.Option.{is_some}
 use Rattle.iv_bytes.specs.Sinks.{SinkState}
@@ -34,7 +34,7 @@ use Rattle.iv_run.specs.SoFar.{ReportsProjected}
 use Rattle.iv_run.specs.declared.fault.CliFault.{CliFault}
 use Rattle.iv_run.specs.declared.intervals_view.IntervalsView.{IntervalsView}
 use Rattle.iv_run.specs.declared.intervals_view.IntervalsView.TheVariants as places
-use Rattle.iv_run.proofs.IntervalsAlone.{complement-bare, genomecov-bare, merge-bare}
+use Rattle.iv_run.proofs.IntervalsAlone.{complement-bare, genomecov-bare, genomecov-text, merge-bare}
 use Rattle.iv_run.proofs.ShotLemmas.{shows-text}
 
 -- ---- views
@@ -62,7 +62,8 @@ of-genomecov rows P one (projected.Genomecov asked) is = subst (λ (d : DepthRow
 needs-places : (v : IntervalsView) (asked : KeptView) → IsViewOf v asked → NeedsIntervalsAlone asked
 needs-places (places.Merge distance) = of-merge distance NeedsIntervalsAlone (λ o plain g rows. merge-bare distance o g rows plain)
 needs-places (places.Complement limited) = of-complement limited NeedsIntervalsAlone (λ g rows. complement-bare limited g rows)
-needs-places (places.Genomecov asked) = of-genomecov asked NeedsIntervalsAlone (λ g rows. genomecov-bare asked g rows)
+needs-places (places.Genomecov asked) = of-genomecov asked NeedsIntervalsAlone (λ g rows.
+    sym (genomecov-text asked g (map bare rows)) ∙ genomecov-bare asked g rows ∙ genomecov-text asked g rows)
 
 -- a merge is a view of intervals if it is plain
 module _ (b : Bool) (o : BlockOptions) (plain : (b ≡ true) ↔ IsByIntervals o.distance o) where

@@ -7,7 +7,6 @@ use Rattle.iv_track.specs.declared.region.Region.{Region}
 use Rattle.iv_blocks.specs.declared.options.BlockOptions.{BlockOptions}
 use Rattle.iv_view.specs.KeptStates.{state_key}
 use Rattle.iv_view.specs.Views.{kept_text}
-use Rattle.iv_view.specs.declared.kept_state.StateKey.{StateKey}
 use Rattle.iv_view.specs.declared.kept_state.StateKey.TheVariants as keep
 use Rattle.iv_view.specs.declared.view.KeptView.{KeptView}
 use Rattle.iv_view.specs.declared.view.KeptView.TheVariants as kept

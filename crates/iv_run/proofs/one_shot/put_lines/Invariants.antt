@@ -1,6 +1,4 @@
-use Rattle.std.specs.List.{flat_map}
 use Rattle.iv_bytes.proofs.PutLemmas.{Underway}
-use Rattle.iv_pair.specs.IntersectRows.{record_line}
 use Rattle.iv_view.specs.Inside.Texts.{records_text}
 use Rattle.iv_run.proofs.one_shot.put_lines.Given as goal
 

@@ -1,8 +1,7 @@
-use Rattle.std.proofs.Common.{◌≡◌, ◌∙◌, ◌∷◌, List, [], ap, arith}
+use Rattle.std.proofs.Common.{◌≡◌, ◌∙◌, ◌∷◌, [], ap, arith}
 use Rattle.std.specs.List.{flat_map}
 use Rattle.std.specs.Option.{option_copied, unwrap_or}
 use Rattle.iv_bytes.proofs.PutLemmas.{Underway-begin, Underway-more, Underway-fails, Puts-err}
-use Rattle.iv_text.specs.RecordValue.{RecordValue}
 use Rattle.iv_view.specs.Views.{second_records, written_rows}
 use Rattle.iv_view.proofs.RegionLemmas.{first-rows}
 use Rattle.iv_view.proofs.written_view.WrittenView.print_in.Goals as goal
