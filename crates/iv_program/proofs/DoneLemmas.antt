@@ -12,9 +12,7 @@ use Rattle.iv_session.specs.declared.script.RunFault.{RunFault}
 use Rattle.iv_session.specs.declared.script.Summary.{Summary}
 use Rattle.iv_args.specs.InfoRequests.{notice_of}
 use Rattle.iv_args.specs.Texts.{notice_text}
-use Rattle.iv_args.specs.Words.{RunPlan, IsPlan, SplitWords, is_session, run_of, values_of}
-use Rattle.iv_args.specs.Inside.Drafts.{limit_said, width_said}
-use Rattle.iv_args.specs.declared.subcommand.RunOption.TheVariants as option
+use Rattle.iv_args.specs.Words.{RunPlan, IsPlan, is_session, run_of}
 use Rattle.iv_args.proofs.WordLemmas.{for-kind}
 use Rattle.iv_args.specs.declared.subcommand.Subcommand.{Subcommand}
 use Rattle.iv_args.specs.declared.subcommand.Subcommand.TheVariants as kind
@@ -195,9 +193,9 @@ one-plan words p q a b =
     let basess : option_to_list p.bases ≡ option_to_list q.bases = cc (a.bases, b.bases, parts) in
     let other : p.other ≡ q.other = same-option p.other q.other others in
     let bases : p.bases ≡ q.bases = same-option p.bases q.bases basess in
-    let some_width : Some p.width ≡ Some q.width = sym a.width ∙ ap (λ (s : SplitWords). width_said (values_of option.Width s.settings)) parts ∙ b.width in
+    let some_width : Some p.width ≡ Some q.width = cc (a.width, b.width, parts) in
     let width : p.width ≡ q.width = cc some_width in
-    let some_limit : Some p.limit ≡ Some q.limit = sym a.limit ∙ ap (λ (s : SplitWords). limit_said (values_of option.Limit s.settings)) parts ∙ b.limit in
+    let some_limit : Some p.limit ≡ Some q.limit = cc (a.limit, b.limit, parts) in
     let limit : p.limit ≡ q.limit = cc some_limit in
     let one = (for-kind p.run a.word a.parts p.view p.other p.bases a.other a.bases a.kind).view_is in
     let two = (for-kind q.run b.word b.parts q.view q.other q.bases b.other b.bases b.kind).view_is in
