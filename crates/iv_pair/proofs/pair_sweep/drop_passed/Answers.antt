@@ -1,4 +1,4 @@
-use Rattle.std.proofs.Common.{◌≡◌, ◌==◌, List, length, rules, ap, sym, ◌∙◌}
+use Rattle.std.proofs.Common.{◌==◌, List, length, rules, ap, sym, ◌∙◌}
 use Rattle.std.specs.Prelude.{filter}
 use Rattle.std.proofs.lemmas.Fn.{filter_same}
 use Rattle.iv_text.specs.RecordValue.{RecordValue}

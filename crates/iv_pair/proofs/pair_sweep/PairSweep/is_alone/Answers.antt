@@ -1,4 +1,4 @@
-use Rattle.std.proofs.Common.{◌≡◌, ◌==◌, [], ◌++◌, List, length, ap, sym, ◌∙◌}
+use Rattle.std.proofs.Common.{◌==◌, ◌++◌, List, length, ap, sym, ◌∙◌}
 use Rattle.iv_text.specs.RecordValue.{RecordValue}
 use Rattle.iv_track.specs.Regions.{hits}
 use Rattle.iv_pair.proofs.HitsLemmas.{none-active, none-from}
