@@ -1,5 +1,5 @@
 -- Where the records are that share a position with an interval.
-use Rattle.std.proofs.Common.{◌≡◌, ℕ, ◌+◌, ◌-◌, ◌<◌, ◌≤◌, ◌↔◌, Bool, true, false, cond, List, [], ◌∷◌, max, refl, sym, ap, ◌∙◌, subst, arith, length, eq-eqb}
+use Rattle.std.proofs.Common.{◌≡◌, ◌==◌, ℕ, ◌+◌, ◌-◌, ◌<◌, ◌≤◌, ◌↔◌, Bool, true, false, cond, List, [], ◌∷◌, ◌++◌, max, refl, sym, ap, ◌∙◌, subst, arith, length, eq-eqb}
 use Rattle.std.specs.Prelude.{filter}
 use Rattle.std.proofs.lemmas.Bool.{and_parts, lt-ltb, ltb-true, le-leb, leb-true}
 use Rattle.std.proofs.lemmas.List.Sums.{length-filter, count_by-le-length}
@@ -13,8 +13,8 @@ use Rattle.iv_track.specs.Regions.{overlaps, hits}
 use Rattle.iv_pair.specs.Hits.{hits_of}
 use Rattle.iv_pair.specs.Inside.Lengths.{AreUpTo}
 use Rattle.iv_pair.specs.Inside.HitLines.{AllOverlap}
-use Rattle.iv_track.proofs.PlaceLemmas.{pair_le, filter-implied, from_whole}
-use Rattle.iv_track.proofs.RegionLemmas.{overlaps_parts, overlaps_from}
+use Rattle.iv_track.proofs.PlaceLemmas.{pair_le, le_pair, filter-implied, from_whole}
+use Rattle.iv_track.proofs.RegionLemmas.{overlaps_parts, overlaps_from, hit_not, hits_beyond}
 
 pub covers_parts : (seq p : ℕ) (q : RecordValue) → covers seq p q ≡ true → (q.seq ≡ seq) × (q.start ≤ p) × (p < q.stop)
 covers_parts seq p q h =
@@ -79,3 +79,23 @@ hits-overlap (q ∷ rows) a = go (hits-overlap rows a) (overlaps a.seq a.start a
     go : AllOverlap a (hits_of rows a) → (b : Bool) → overlaps a.seq a.start a.stop q ≡ b → AllOverlap a (cond b (q ∷ hits_of rows a) (hits_of rows a))
     go rest true is = (is, rest)
     go rest false is = rest
+
+pub none-active : (xs : List RecordValue) → (length xs == 0) ≡ true → xs ≡ []
+none-active [] h = refl
+none-active (x ∷ xs) h = let none : length (x ∷ xs) ≡ 0 = exact_unsigned_eq (length (x ∷ xs)) 0 h in absurd (omega (arith, none))
+
+-- if nothing is active, and a record that begins at the stop or past it is the first that is left, there is no hit
+pub none-from : (seq start stop : ℕ) (active rows rest : List RecordValue) (r : RecordValue) → (length active == 0) ≡ true → rows ≡ r ∷ rest → AreInOrder rows → is_from seq stop r ≡ true
+    → active ++ hits rows seq start stop ≡ []
+none-from seq start stop active rows rest r none is order far =
+    ap (λ (l : List RecordValue). l ++ hits rows seq start stop) (none-active active none)
+    ∙ hit_not rows rest r seq start stop is (apart (overlaps seq start stop r) refl)
+    ∙ hits_beyond seq start stop r rest (subst AreInOrder is order) far
+  where
+    apart : (b : Bool) → overlaps seq start stop r ≡ b → b ≡ false
+    apart false e = refl
+    apart true e =
+        let parts = overlaps_parts seq start stop r e in
+        let up : stop ≤ r.start = (le_pair seq r.seq stop r.start far).1 (sym parts.0) in
+        let low : r.start < stop = parts.1 in
+        absurd (omega arith)

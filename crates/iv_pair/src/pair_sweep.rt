@@ -1,9 +1,10 @@
 //! The rows of an intersect or a subtract, in one sweep over the records of two texts.
-ghost use Rattle.std.specs.Prelude.{◌≡◌, ◌+◌, ◌<◌, ◌≤◌, ◌^◌, ◌++◌, length, filter, All, IfOk, vec_len, vec_capacity};
+ghost use Rattle.std.specs.Prelude.{◌≡◌, ◌+◌, ◌<◌, ◌≤◌, ◌^◌, ◌++◌, [], true, length, filter, All, IfOk, vec_len, vec_capacity};
 ghost use Rattle.std.specs.Iterator.{YieldsFirst, item_count};
 ghost use Rattle.iv_bytes.specs.Sinks.{Puts};
 ghost use Rattle.iv_text.specs.Ordered.{AreInOrder};
-ghost use Rattle.iv_pair.specs.PairRows.{pair_text};
+ghost use Rattle.iv_pair.specs.Hits.{hits_of};
+ghost use Rattle.iv_pair.specs.PairRows.{pair_rows, pair_text};
 ghost use Rattle.iv_pair.specs.Inside.Pairs.{Gives};
 ghost use Rattle.iv_pair.specs.Inside.PairSweeps.{Covers, HitAlike, is_past, reaches};
 
@@ -84,11 +85,30 @@ impl<'t, A: Allocator + Copy> PairSweep<'t, A> {
     {
         self.lemma_of_order();
         while let Some(row) = self.next() {
-            let hits = self.hits();
-            hits.lemma_of_few();
-            put_pair_rows(rows, genome, &row, hits, sink)?;
+            self.put_rows(rows, genome, &row, sink)?;
         }
         Ok(())
+    }
+
+    /// Puts the rows of the record that was given last.
+    fn put_rows<S: Sink>(
+        &self,
+        rows: PairRows,
+        genome: &Genome<A>,
+        row: &TextRecord<'t>,
+        sink: &mut S,
+    ) -> Result<(), WriteFault>
+        requires ordered { AreInOrder self.now.second }
+        requires found { self.now.found ≡ hits_of self.now.second row.now }
+        ensures { Puts (S.state sink.old) (S.state sink.new) result (pair_rows rows genome.now row.now self.now.second) }
+    {
+        if self.is_alone() {
+            let (none, _) = self.second.split_at(0);
+            return put_pair_rows(rows, genome, row, none, sink);
+        }
+        let hits = self.hits();
+        hits.lemma_of_few();
+        put_pair_rows(rows, genome, row, hits, sink)
     }
 
     /// A lemma for callers' proofs: the second list is in order. The call does nothing.
@@ -112,6 +132,20 @@ impl<'t, A: Allocator + Copy> PairSweep<'t, A> {
         self.start = row.start();
         self.stop = row.stop();
         Some(row)
+    }
+
+    /// Whether no hit of the record that was given last is to be looked for: none is active, and the next of the second list starts
+    /// at its stop or past it.
+    fn is_alone(&self) -> bool
+        ensures { result ≡ true → self.now.found ≡ [] }
+    {
+        if !self.active.as_slice().is_empty() {
+            return false;
+        }
+        match self.rest.split_first() {
+            Some((next, _)) => is_from(&next, self.seq, self.stop),
+            None => true,
+        }
     }
 
     /// The hits of the record that was given last, in the order of the second list.
@@ -195,6 +229,9 @@ fn drop_passed<A: Allocator>(active: &mut Vec<TextRecord<'_>, A>, row: &TextReco
     ensures len { vec_len active.new ≤ vec_len active.old }
     ensures capacity { vec_capacity active.new ≡ vec_capacity active.old }
 {
+    if active.as_slice().is_empty() {
+        return;
+    }
     active.retain(|other| reaches(row, other));
 }
 
