@@ -1,5 +1,5 @@
 -- The views whose rows depend on nothing of a record except its interval.
-use Rattle.std.proofs.Common.{◌≡◌, ℕ, ◌++◌, ◌==◌, ◌&&◌, ◌||◌, Bool, true, false, not, cond, List, [], ◌∷◌, map, Option, Some, None, if◌then◌else◌, refl, sym, ap, ◌∙◌}
+use Rattle.std.proofs.Common.{◌≡◌, ℕ, ◌-◌, ◌++◌, ◌==◌, ◌&&◌, ◌||◌, Bool, true, false, not, cond, List, [], ◌∷◌, map, Option, Some, None, if◌then◌else◌, refl, sym, ap, ◌∙◌, arith}
 use Rattle.std.specs.Prelude.{filter, max}
 use Rattle.std.specs.List.{cons_option, filter_map, flat_map, list_any, range_with_len}
 use Rattle.std.specs.Option.{option_map}
@@ -18,6 +18,7 @@ use Rattle.iv_blocks.specs.Groups.{group, sides}
 use Rattle.iv_blocks.specs.Inside.Groups.{is_in_group}
 use Rattle.iv_blocks.specs.MergeRows.{block_row}
 use Rattle.iv_blocks.specs.declared.options.BlockOptions.{BlockOptions}
+use Rattle.iv_depth.specs.DepthRows.{position_row}
 use Rattle.iv_depth.specs.Inside.Texts.{depth_text, text_by}
 use Rattle.iv_depth.specs.declared.depth_rows.DepthRows.{DepthRows}
 use Rattle.iv_depth.specs.declared.depth_rows.DepthRows.TheVariants.{Covered, All, EachPosition}
@@ -52,7 +53,12 @@ depth-bare rows = λ i sequence p. count-bare (covers sequence p) rows i
 pub genomecov-text : (shown : DepthRows) (g : Sequences) (rows : List RecordValue) → depth_text shown g rows ≡ kept_text None (projected.Genomecov shown) g rows
 genomecov-text Covered g rows = refl
 genomecov-text All g rows = refl
-genomecov-text EachPosition g rows = refl
+genomecov-text EachPosition g rows = λ i. flat_map
+    (λ rank. flat_map (λ p. position_row (sequence_name g rank) p (depth rows rank p)) (range_with_len 0 (less-none (sequence_length g rank) i)))
+    (range_with_len 0 (seq_count g))
+  where
+    less-none : (n : ℕ) → n - 0 ≡ n
+    less-none n = omega arith
 
 pub genomecov-bare : (shown : DepthRows) (g : Sequences) (rows : List RecordValue) → depth_text shown g (map bare rows) ≡ depth_text shown g rows
 genomecov-bare shown g rows = ap (text_by shown g) (depth-bare rows)
