@@ -1,5 +1,5 @@
 -- Parts of what a run of one subcommand prints.
-use Rattle.std.specs.Prelude.{ℕ, List, [], Option, Result}
+use Rattle.std.specs.Prelude.{ℕ, List, [], None, Option, Result}
 use Rattle.std.specs.Option.{is_some, option_map, option_transpose, unwrap_or}
 use Rattle.iv_text.specs.BedFile.{Bed}
 use Rattle.iv_text.specs.Genome.{Sequences}
