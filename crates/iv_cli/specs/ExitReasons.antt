@@ -26,7 +26,7 @@ pub record Report : Type 0 where
   pub slot : Option Slot
   pub text : List ℕ
 
--- the report of an ending; a number of bad options that the table of faults lacks is reported as theirs
+-- the report of an ending
 abbrev pub report_of : ExitReason → Report
 report_of exit_reason.Done = record { status = 0; slot = None; text = [] }
 report_of exit_reason.Refused = record { status = 1; slot = None; text = [] }

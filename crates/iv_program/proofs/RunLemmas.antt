@@ -6,7 +6,6 @@ use Rattle.std.specs.Option.{option_to_list}
 use Rattle.std.specs.Prelude.{Bool, true, MatchResult, ◌==◌, if◌then◌else◌}
 use Rattle.iv_bytes.specs.Sinks.{SinkState, Takes, FailsIn, waiting}
 use Rattle.iv_bytes.specs.Sources.{SourceState}
-use Rattle.iv_text.specs.Fault.{code_of}
 use Rattle.iv_text.specs.declared.fault.Fault.{Fault}
 use Rattle.iv_text.specs.declared.fault.Fault.TheVariants as refused
 use Rattle.iv_workspace.specs.States.{State}
@@ -290,6 +289,6 @@ module _ (words : List (List ℕ)) (answer : Ended) where
   }
     where
       by : (why ≡ refused.NoMemory) ⊎ ((why ≡ refused.Words) × ((plan : RunPlan) → ¬ IsPlan words plan))
-          → (ended ≡ exit_reason.Memory) ⊎ ((ended ≡ exit_reason.Words (code_of refused.Words)) × ((plan : RunPlan) → ¬ IsPlan words plan))
+          → (ended ≡ exit_reason.Memory) ⊎ ((ended ≡ exit_reason.Words refused.Words) × ((plan : RunPlan) → ¬ IsPlan words plan))
       by (inl memory) = inl (ended_is ∙ ap ending_of_words memory)
       by (inr wrong) = inr (ended_is ∙ ap ending_of_words wrong.0, wrong.1)

@@ -2,7 +2,6 @@
 use Rattle.std.specs.Prelude.{◌≡◌, ℕ, ◌⊎◌, if◌then◌else◌, List, [], true, Option, None, Some}
 use Rattle.iv_bytes.specs.Sinks.{SinkState, Takes, FailsIn, waiting}
 use Rattle.iv_bytes.specs.Sources.{SourceState}
-use Rattle.iv_text.specs.Fault.{code_of}
 use Rattle.iv_text.specs.declared.fault.Fault.TheVariants as refused
 use Rattle.iv_args.specs.InfoRequests.{notice_of}
 use Rattle.iv_args.specs.Texts.{notice_text}
@@ -29,7 +28,7 @@ Serves (Some info_request) words before after ended name line =
     × (after ≡ record before { streams = record before.streams { output = after.streams.output } }) × (line ≡ 0)
 Serves None words before after ended name line =
     ((plan : RunPlan) × IsPlan words plan × (name ≡ name_meant plan ended) × (HasRead plan before after ended line ⊎ HasNotRead plan before after ended line))
-    ⊎ (((ended ≡ exit_reason.Memory) ⊎ ((ended ≡ exit_reason.Words (code_of refused.Words)) × ((plan : RunPlan) → ¬ IsPlan words plan))) × (after ≡ before) × (line ≡ 0))
+    ⊎ (((ended ≡ exit_reason.Memory) ⊎ ((ended ≡ exit_reason.Words refused.Words) × ((plan : RunPlan) → ¬ IsPlan words plan))) × (after ≡ before) × (line ≡ 0))
 
 -- the end of a run: the output hands on all that it held, so that nothing waits, or fails in it, which is its ending if all was carried out
 -- before; and the messages get the line of its ending, or fail in it
