@@ -1,7 +1,7 @@
 //! A queue of bytes in a fixed array.
-ghost use Rattle.std.specs.Prelude.{◌≡◌, ◌↔◌, false, [], ℕ, ◌-◌, ◌++◌, ◌<◌, ◌≤◌, List, length, take, drop, slice_range, true, IfOk, OnErr, IsTrue};
+ghost use Rattle.std.specs.Prelude.{◌≡◌, ◌↔◌, false, MatchResult, if◌then◌else◌, [], ℕ, ◌-◌, ◌++◌, ◌<◌, ◌≤◌, List, length, take, drop, slice_range, true, IfOk, OnErr, IsTrue};
 ghost use Rattle.std.specs.Io.KnownBytes.{IsAtEnd};
-ghost use Rattle.iv_bytes.specs.Sources.{SourceState, Gives, Reads};
+ghost use Rattle.iv_bytes.specs.Sources.{SourceState, Gives, Reads, answered};
 
 use crate::source::{ReadFault, Source};
 use std::marker::Model;
@@ -77,6 +77,8 @@ impl ByteQueue {
         ensures end { IfOk result (λ some. some ≡ false → IsAtEnd (S.state source.new).coming) }
         ensures reads { Reads self.old self.new (S.state source.old) (S.state source.new) [] }
         ensures failed { IfOk result (λ _. (S.state source.new).failed ≡ (S.state source.old).failed) }
+        ensures ends { MatchResult result (λ some. (S.state source.new).ends ≡ (if some then S.state source.old else answered 0 (S.state source.old)).ends)
+            (λ _. (S.state source.new).ends ≡ (S.state source.old).ends) }
         ensures err { OnErr result ((S.state source.new).failed ≡ true) }
         ensures none { OnErr result (self.new ≡ []) }
         ensures held { 0 < length self.old → (self.new ≡ self.old) × (S.state source.new ≡ S.state source.old) }
