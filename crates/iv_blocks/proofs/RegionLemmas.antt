@@ -1,13 +1,13 @@
 -- The entries of one group from a key on, and the rows of those that share a position with a region.
 use Rattle.std.proofs.Common.{◌≡◌, ◌⊎◌, ℕ, ◌+◌, ◌<◌, ◌≤◌, inl, inr, ◌&&◌, nat_lt, min, Bool, true, false, List, [], ◌∷◌, ◌++◌, filter, map, length, Option, Some, None, refl, sym, ◌∙◌, ap, ap₂, subst, arith, All, lt-ltb, ltb-true, append-nil, length-append}
-use Rattle.std.specs.declared.cmp.Ordering.TheVariants.{Less, Equal, Greater}
+use Rattle.std.specs.declared.cmp.Ordering.TheVariants.{Less, Greater}
 use Rattle.std.specs.Prelude.{codes, decimal}
 use Rattle.std.specs.Cmp.{Equal-is, ranked, tied_itself}
-use Rattle.std.specs.List.{flat_map, cons_option}
+use Rattle.std.specs.List.{flat_map}
 use Rattle.std.specs.List.Sorted.{IsStrictlySortedBy}
 use Rattle.std.specs.BTreeMap.{is_at}
-use Rattle.std.specs.Option.{option_map}
-use Rattle.std.specs.Ordering.{nat_cmp, is_eq, is_le, is_lt, ordering_reverse}
+use Rattle.std.specs.Option.{option_map, unwrap_or}
+use Rattle.std.specs.Ordering.{nat_cmp, is_eq, is_le, ordering_reverse}
 use Rattle.std.proofs.lemmas.Bool.{and_parts, and_from, cases_Bool, cases_lt, cond-true, cond-false, false_from_ne_true}
 use Rattle.std.proofs.lemmas.List.{length-map}
 use Rattle.std.proofs.lemmas.List.Concat.{flat_map-append}
@@ -30,7 +30,7 @@ use Rattle.iv_blocks.specs.MergeRows.{block_row, side_blocks}
 use Rattle.iv_blocks.specs.RegionRows.{shares, side_blocks_in, blocks_in, merge_text_in}
 use Rattle.iv_blocks.specs.declared.options.BlockOptions.{BlockOptions}
 use Rattle.iv_blocks.proofs.ComplementLemmas.{mem-values}
-use Rattle.iv_blocks.proofs.EntryLemmas.{from, from-step, walked-on, later-keys, side_entries, none-past as no_entry}
+use Rattle.iv_blocks.proofs.EntryLemmas.{from, walked-on, later-keys, side_entries, none-past as no_entry}
 use Rattle.iv_blocks.proofs.JoinLemmas.{none-some}
 use Rattle.iv_blocks.proofs.KeptLemmas.{group-in, side-is, entry_of, none-past}
 use Rattle.iv_blocks.proofs.Keys.{keys_total, keys_exact}
@@ -176,7 +176,7 @@ module _ (s : ℕ) (t : Bool) (start stop : ℕ) where
   in-is_early : (e : Key × Kept) → (e.0 ≡ (s, t, e.0.2) → start < e.1.stop) → is_early s t stop e ≡ is_in e
   in-is_early e past = elim (cases_Bool (is_of s t e)) [
     | inl own ↦ ap (λ (b : Bool). is_of s t e && b) (sym (both-true (nat_lt e.0.2 stop) (nat_lt start e.1.stop) (lt-ltb _ _ (past (key-is s t e own)))))
-    | inr other ↦ cond-false (is_of s t e) _ _ other ∙ sym (cond-false (is_of s t e) _ _ other)
+    | inr other ↦ ap (λ (b : Bool). b && nat_lt e.0.2 stop) other ∙ sym (ap (λ (b : Bool). b && shares start stop e.0.2 e.1.stop) other)
   ]
 
 module _ (o : BlockOptions) (g : Sequences) (width : ℕ) (rows : List RecordValue) (entries : Entries) (right : AreBlocksOf o (names_of g) rows entries) (fit : All (Fits g width) rows) (s : ℕ) (t : Bool) where
@@ -198,10 +198,6 @@ module _ (o : BlockOptions) (g : Sequences) (width : ℕ) (rows : List RecordVal
 
   -- ---- where a walk begins
 
-  stop_or : Option Kept → ℕ
-  stop_or None = 0
-  stop_or (Some b) = b.stop
-
   module _ (position last : ℕ) (is : last ≡ min (sequence_length g s) position) where
     after-last : (x : ℕ) (b : Kept) → last ≤ x → look x ≡ Some b → position < b.stop
     after-last x b high e = omega (arith, is, starts-low x b e, (block-is x b e).long, high)
@@ -221,6 +217,10 @@ module _ (o : BlockOptions) (g : Sequences) (width : ℕ) (rows : List RecordVal
       ends_before start_of stop_of o.distance (group o.stranded s t rows) found.0 x b.stop (block-is found.0 _ entry.is).free (block-is x b e) low,
     )
 
+    same-stop : (found : ℕ × ℕ) → IsLastBlock look last found → (x : ℕ) (b : Kept) → x ≡ found.0 → look x ≡ Some b → b.stop ≡ found.1
+    same-stop found entry x b at e =
+        ap (λ (v : Option Kept). unwrap_or (option_map (λ (k : Kept). k.stop) v) 0) (sym e ∙ ap look at ∙ entry.is)
+
     -- the last block, if it stops past the position
     pub reaches-some : (found : ℕ × ℕ) → IsLastBlock look last found → position < found.1 → ReachesFrom look position found.0
     reaches-some found entry past = record {
@@ -229,9 +229,7 @@ module _ (o : BlockOptions) (g : Sequences) (width : ℕ) (rows : List RecordVal
         | inl late ↦ after-last x b (omega arith) e
         | inr until ↦ elim (cases_lt found.0 x) [
           | inl beyond ↦ absurd (none-some b (sym (entry.none x beyond until) ∙ e))
-          | inr here ↦
-              let at : x ≡ found.0 = omega arith in
-              omega (arith, past, ap (λ v. stop_or v) (sym e ∙ ap look at ∙ entry.is))
+          | inr here ↦ omega (arith, past, same-stop found entry x b (omega arith) e)
         ]
       ];
     }
@@ -241,11 +239,9 @@ module _ (o : BlockOptions) (g : Sequences) (width : ℕ) (rows : List RecordVal
     reaches-past found entry stops = record {
       before = λ x b low e. elim (cases_lt x found.0) [
         | inl before ↦ early found entry x b before e
-        | inr from ↦ elim (cases_lt found.0 x) [
+        | inr until ↦ elim (cases_lt found.0 x) [
           | inl beyond ↦ absurd (none-some b (sym (entry.none x beyond (omega arith)) ∙ e))
-          | inr here ↦
-              let at : x ≡ found.0 = omega arith in
-              omega (arith, stops, ap (λ v. stop_or v) (sym e ∙ ap look at ∙ entry.is))
+          | inr here ↦ omega (arith, stops, same-stop found entry x b (omega arith) e)
         ]
       ];
       after = after-last;

@@ -16,7 +16,6 @@ ghost use Rattle.iv_blocks.specs.RegionRows.{blocks_in, merge_text_in, side_bloc
 
 use crate::blocks::Blocks;
 use crate::group::{Group, Side};
-use crate::kept_block::KeptBlock;
 use crate::merge::put_block;
 use crate::repair::of_group;
 use iv_bytes::{Sink, WriteFault};

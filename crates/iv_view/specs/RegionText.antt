@@ -38,8 +38,9 @@ shown_text (Some at) (view.Kept v) g rows second bases = kept_text_in at v g row
 shown_text (Some at) (view.Written v) g rows second bases = written_text v g (hits rows at.seq at.start at.stop) second bases
 
 -- how many steps lie between two readings at most while such rows are printed from what is kept for a view: one for each row of
--- `merge` or `complement`, and three more for each side or two more; of depth two for each row above 0 and one for each record that may share a position
--- with the region, and five more; of `cluster` one for each record that may share a position with the region and each block up to its end, and four more
+-- `merge` or `complement`, and three more for each side, or two more; of depth two for each row above 0 and one for each record that
+-- may share a position with the region, and five more; of `cluster` one for each record that may share a position with the region and
+-- each block up to its end, and four more
 abbrev pub PrintsInWithin : Region → KeptView → Sequences → List RecordValue → ℕ → ℕ → Type 0
 PrintsInWithin at (kept.Merge options) g rows old new = TakesUpTo old new (3 * length (sides options.stranded) + length (blocks_in options g rows at.seq at.start at.stop))
 PrintsInWithin at (kept.Cluster distance) g rows old new = TakesUpTo old new (4 + length (near at rows) + blocks_until distance g rows at.seq at.stop)

@@ -91,8 +91,8 @@ impl KeptView {
     /// Prints the rows of the view that share a position with a region from what is kept for it. It takes no memory; on a fault the
     /// sink has taken a prefix of them.
     ///
-    /// It takes at most two steps, and one for each row (`complement`), or eight and one (`merge`); at most five, and one for each record
-    /// that may share a position with the region and two for each row of a depth above 0 (`genomecov`). `cluster`, which counts its
+    /// It takes at most two steps (`complement`) or three for each side (`merge`), and one for each row; at most five, and one for each
+    /// record that may share a position with the region and two for each row of a depth above 0 (`genomecov`). `cluster`, which counts its
     /// blocks from the first, takes at most four, and one for each such record and each block up to the region's end.
     pub fn print_in<A: Allocator + Copy, S: Sink>(
         self,
