@@ -86,7 +86,7 @@ pub struct MemSource<'a> {
     good: usize,
     piece: usize,
     failed: bool,
-    ends: u64,
+    ends: u8,
     ghost within: { at ≤ length bytes.now },
     ghost below: { at ≤ good },
     ghost some: { 0 < piece },

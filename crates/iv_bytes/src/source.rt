@@ -1,5 +1,5 @@
 //! Sources, which give bytes in pieces.
-ghost use Rattle.std.specs.Prelude.{◌≡◌, ◌==◌, ◌<◌, ◌≤◌, ◌+◌, ◌-◌, ◌^◌, length, take, min, true, [], if◌then◌else◌, IfOk, OnErr, IsErr, IsTrue};
+ghost use Rattle.std.specs.Prelude.{◌≡◌, ◌==◌, ◌<◌, ◌≤◌, ◌+◌, length, take, min, true, [], if◌then◌else◌, IfOk, OnErr, IsErr, IsTrue};
 ghost use Rattle.std.specs.Io.KnownBytes.{IsAtEnd};
 ghost use Rattle.iv_bytes.specs.Sources.{SourceState, Gives, answered};
 
@@ -29,9 +29,9 @@ pub trait Source {
         ensures { result ≡ (state self.now).failed };
 }
 
-/// How often a source has answered that no byte is left, once it has answered with so many. The count stays at the greatest `u64`.
-pub(crate) fn counted(ends: u64, count: usize) -> u64
-    ensures { result ≡ if count == 0 then min (ends + 1) (2 ^ 64 - 1) else ends }
+/// How often a source has answered that no byte is left, once it has answered with so many. The count stays at 255.
+pub(crate) fn counted(ends: u8, count: usize) -> u8
+    ensures { result ≡ if count == 0 then min (ends + 1) 255 else ends }
 {
     if count == 0 {
         ends.saturating_add(1)

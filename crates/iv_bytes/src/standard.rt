@@ -64,7 +64,7 @@ impl<W: Write> Flush for StdSink<W> {
 pub struct StdSource<R> {
     reader: R,
     failed: bool,
-    ends: u64,
+    ends: u8,
 }
 
 impl<R: Read> StdSource<R> {
