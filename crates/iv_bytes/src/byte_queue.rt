@@ -1,7 +1,7 @@
 //! A queue of bytes in a fixed array.
-ghost use Rattle.std.specs.Prelude.{◌≡◌, ◌↔◌, false, [], ℕ, ◌-◌, ◌++◌, ◌<◌, ◌≤◌, List, length, take, drop, slice_range, true, IfOk, OnErr, IsTrue};
+ghost use Rattle.std.specs.Prelude.{◌≡◌, ◌↔◌, false, if◌then◌else◌, [], ℕ, ◌-◌, ◌++◌, ◌<◌, ◌≤◌, List, length, take, drop, slice_range, true, IfOk, OnErr, IsTrue};
 ghost use Rattle.std.specs.Io.KnownBytes.{IsAtEnd};
-ghost use Rattle.iv_bytes.specs.Sources.{SourceState, Gives, Reads};
+ghost use Rattle.iv_bytes.specs.Sources.{SourceState, Gives, Reads, answered, answers};
 
 use crate::source::{ReadFault, Source};
 use std::marker::Model;
@@ -76,8 +76,8 @@ impl ByteQueue {
         ensures some { IfOk result (λ some. IsTrue some ↔ 0 < length self.new) }
         ensures end { IfOk result (λ some. some ≡ false → IsAtEnd (S.state source.new).coming) }
         ensures reads { Reads self.old self.new (S.state source.old) (S.state source.new) [] }
-        ensures failed { IfOk result (λ _. (S.state source.new).failed ≡ (S.state source.old).failed) }
-        ensures err { OnErr result ((S.state source.new).failed ≡ true) }
+        ensures ok { IfOk result (λ some. answers (S.state source.new) ≡ answers (if some then S.state source.old else answered 0 (S.state source.old))) }
+        ensures err { OnErr result (answers (S.state source.new) ≡ answers (record (S.state source.old) { failed = true })) }
         ensures none { OnErr result (self.new ≡ []) }
         ensures held { 0 < length self.old → (self.new ≡ self.old) × (S.state source.new ≡ S.state source.old) }
         ensures few { length self.new ≤ 8192 }

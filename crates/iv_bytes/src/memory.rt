@@ -2,10 +2,10 @@
 ghost use Rattle.std.specs.Prelude.{◌≡◌, ◌↔◌, false, true, [], ℕ, ◌<◌, ◌≤◌, length, take, vec_capacity, IfOk, OnErr, IsErr, IsTrue, ◌⊎◌};
 ghost use Rattle.std.specs.Io.KnownBytes.{IsAtEnd};
 ghost use Rattle.iv_bytes.specs.Sinks.{Takes, FailsIn, in_memory};
-ghost use Rattle.iv_bytes.specs.Sources.{Gives, from_memory};
+ghost use Rattle.iv_bytes.specs.Sources.{Gives, answered, from_memory};
 
 use crate::sink::{Flush, Sink, WriteFault};
-use crate::source::{ReadFault, Source};
+use crate::source::{ReadFault, Source, counted};
 use std::alloc::{AllocError, Allocator, Global};
 
 /// A sink in memory, for tests: it has room for `room` bytes, takes at most `piece` of them at a time, never grows,
@@ -86,6 +86,7 @@ pub struct MemSource<'a> {
     good: usize,
     piece: usize,
     failed: bool,
+    ends: u8,
     ghost within: { at ≤ length bytes.now },
     ghost below: { at ≤ good },
     ghost some: { 0 < piece },
@@ -95,7 +96,7 @@ impl<'a> MemSource<'a> {
     /// A piece is at least one byte.
     pub fn new(bytes: &'a [u8], good: usize, piece: usize) -> MemSource<'a>
         requires { 0 < piece }
-        ensures { (result.bytes.now ≡ bytes.now) × (result.at ≡ 0) × (result.good ≡ good) × (result.piece ≡ piece) × (result.failed ≡ false) }
+        ensures { (result.bytes.now ≡ bytes.now) × (result.at ≡ 0) × (result.good ≡ good) × (result.piece ≡ piece) × (result.failed ≡ false) × (result.ends ≡ 0) }
     {
         MemSource {
             bytes,
@@ -103,19 +104,20 @@ impl<'a> MemSource<'a> {
             good,
             piece,
             failed: false,
+            ends: 0,
         }
     }
 }
 
 impl Source for MemSource<'_> {
-    ghost state = { λ s. from_memory s.bytes.now s.at s.failed };
+    ghost state = { λ s. from_memory s.bytes.now s.at s.failed s.ends };
 
     fn pull(&mut self, into: &mut [u8]) -> Result<usize, ReadFault>
         requires { 0 < length into.old }
         ensures some { IfOk result (λ n. n ≤ length into.new) }
-        ensures ok { IfOk result (λ n. Gives (from_memory self.old.bytes.now self.old.at self.old.failed) (from_memory self.new.bytes.now self.new.at self.new.failed) (take n into.new)) }
-        ensures end { IfOk result (λ n. n ≡ 0 → IsAtEnd (from_memory self.new.bytes.now self.new.at self.new.failed).coming) }
-        ensures kept { OnErr result (Gives (from_memory self.old.bytes.now self.old.at true) (from_memory self.new.bytes.now self.new.at self.new.failed) []) }
+        ensures ok { IfOk result (λ n. Gives (answered n (from_memory self.old.bytes.now self.old.at self.old.failed self.old.ends)) (from_memory self.new.bytes.now self.new.at self.new.failed self.new.ends) (take n into.new)) }
+        ensures end { IfOk result (λ n. n ≡ 0 → IsAtEnd (from_memory self.new.bytes.now self.new.at self.new.failed self.new.ends).coming) }
+        ensures kept { OnErr result (Gives (from_memory self.old.bytes.now self.old.at true self.old.ends) (from_memory self.new.bytes.now self.new.at self.new.failed self.new.ends) []) }
         ensures failing { IsTrue self.old.failed → IsErr result }
         ensures spent { IsErr result ↔ (IsTrue self.old.failed ⊎ (self.old.at ≡ self.old.good)) }
         ensures piece { IfOk result (λ n. n ≤ self.old.piece) }
@@ -133,6 +135,7 @@ impl Source for MemSource<'_> {
             .min(into.len());
         into[..n].copy_from_slice(&rest[..n]);
         self.at += n;
+        self.ends = counted(self.ends, n);
         Ok(n)
     }
 

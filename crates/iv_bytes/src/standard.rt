@@ -4,7 +4,7 @@ ghost use Rattle.iv_bytes.specs.Sinks.{unbuffered};
 ghost use Rattle.iv_bytes.specs.Sources.{SourceState};
 
 use crate::sink::{Flush, Sink, WriteFault};
-use crate::source::{ReadFault, Source};
+use crate::source::{ReadFault, Source, counted};
 use std::io::{Read, Write};
 
 /// A sink over a writer. An error of its `write` or its `flush`, an interruption included, and an answer of 0 are failures.
@@ -64,29 +64,34 @@ impl<W: Write> Flush for StdSink<W> {
 pub struct StdSource<R> {
     reader: R,
     failed: bool,
+    ends: u8,
 }
 
 impl<R: Read> StdSource<R> {
-    /// It is not failed.
+    /// It is not failed, and hasn't met the end.
     pub fn new(reader: R) -> StdSource<R>
-        ensures { (result.reader ≡ reader) × (result.failed ≡ false) }
+        ensures { (result.reader ≡ reader) × (result.failed ≡ false) × (result.ends ≡ 0) }
     {
         StdSource {
             reader,
             failed: false,
+            ends: 0,
         }
     }
 }
 
 impl<R: Read> Source for StdSource<R> {
-    ghost state = { λ s. record { coming = R.remaining s.reader; failed = s.failed } };
+    ghost state = { λ s. record { coming = R.remaining s.reader; failed = s.failed; ends = s.ends } };
 
     fn pull(&mut self, into: &mut [u8]) -> Result<usize, ReadFault> {
         if self.failed {
             return Err(ReadFault);
         }
         match self.reader.read(into) {
-            Ok(n) => Ok(n),
+            Ok(n) => {
+                self.ends = counted(self.ends, n);
+                Ok(n)
+            }
             Err(_) => {
                 self.failed = true;
                 Err(ReadFault)

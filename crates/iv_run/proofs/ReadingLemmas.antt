@@ -2,27 +2,32 @@
 use Rattle.std.proofs.Common.{◌≡◌, ℕ, ◌+◌, ◌≤◌, ◌<◌, List, [], ◌++◌, length, refl, sym, ap, ◌∙◌, subst, append-nil, length-append, arith, true, false, true≢false, ◌≢◌, ◌↔◌, Option, Some, None, IfSome, Result, Ok, Err}
 use Rattle.std.specs.Io.KnownBytes.{Consumes, IsAtEnd}
 use Rattle.std.proofs.KnownBytes.{Consumes-nil, Consumes-trans, Consumes-whole}
-use Rattle.iv_bytes.specs.Sources.{SourceState, Gives}
+use Rattle.iv_bytes.specs.Sources.{SourceState, Gives, answered}
 use Rattle.iv_run.specs.Files.{ReadsWhole, StopsReading, IsFaultOf}
 use Rattle.iv_run.specs.Inside.Files.{EndsReading, HadMemory, IsTooLong, IsPieceFault}
 use Rattle.iv_run.specs.declared.fault.FileFault.{FileFault}
 use Rattle.iv_run.specs.declared.fault.FileFault.TheVariants.{Input, TooLong, Memory}
 
-pub Gives-begin : (s : SourceState) → Gives s s []
-Gives-begin s = record { from = Consumes-nil s.coming; failed = refl }
+-- the source has given these bytes, and is no more failed than before
+pub record HasGiven (old new : SourceState) (bytes : List ℕ) : Type 0 where
+  pub from : Consumes old.coming new.coming bytes
+  pub failed : new.failed ≡ old.failed
 
-pub Gives-more : (a b c : SourceState) (front piece : List ℕ) → Gives a b front → Gives b c piece → Gives a c (front ++ piece)
-Gives-more a b c front piece before after = record {
+pub HasGiven-begin : (s : SourceState) → HasGiven s s []
+HasGiven-begin s = record { from = Consumes-nil s.coming; failed = refl }
+
+pub HasGiven-more : (a b c : SourceState) (front piece : List ℕ) (n : ℕ) → HasGiven a b front → Gives (answered n b) c piece → HasGiven a c (front ++ piece)
+HasGiven-more a b c front piece n before after = record {
   from = Consumes-trans a.coming b.coming c.coming front piece before.from after.from;
   failed = after.failed ∙ before.failed;
 }
 
 -- the last pull gave nothing
-pub ReadsWhole-end : (a b c : SourceState) (limit : ℕ) (front piece : List ℕ) → Gives a b front → length front ≤ limit
-    → Gives b c piece → piece ≡ [] → IsAtEnd c.coming → ReadsWhole a c limit front
-ReadsWhole-end a b c limit front piece before few last none ended =
-    let empty = subst (λ (l : List ℕ). Gives b c l) none last in
-    let all = subst (λ (l : List ℕ). Gives a c l) (append-nil front) (Gives-more a b c front [] before empty) in
+pub ReadsWhole-end : (a b c : SourceState) (limit : ℕ) (front piece : List ℕ) (n : ℕ) → HasGiven a b front → length front ≤ limit
+    → Gives (answered n b) c piece → piece ≡ [] → IsAtEnd c.coming → ReadsWhole a c limit front
+ReadsWhole-end a b c limit front piece n before few last none ended =
+    let empty = subst (λ (l : List ℕ). Gives (answered n b) c l) none last in
+    let all = subst (λ (l : List ℕ). HasGiven a c l) (append-nil front) (HasGiven-more a b c front [] n before empty) in
     record {
       input = Consumes-whole a.coming c.coming front (λ xs. xs ≡ front) all.from ended refl;
       few = few;
@@ -31,7 +36,7 @@ ReadsWhole-end a b c limit front piece before few last none ended =
     }
 
 -- a pull failed
-pub StopsReading-input : (a b c : SourceState) (limit : ℕ) (front : List ℕ) → Gives a b front → length front ≤ limit
+pub StopsReading-input : (a b c : SourceState) (limit : ℕ) (front : List ℕ) → HasGiven a b front → length front ≤ limit
     → Gives (record b { failed = true }) c [] → StopsReading a c limit Input
 StopsReading-input a b c limit front before few fails = record {
   front = front;
@@ -41,10 +46,10 @@ StopsReading-input a b c limit front before few fails = record {
 }
 
 -- a piece was not taken
-pub StopsReading-piece : (a b c : SourceState) (limit : ℕ) (front piece : List ℕ) (fault : FileFault) → Gives a b front
-    → Gives b c piece → IsPieceFault fault limit (length front + length piece) → StopsReading a c limit fault
-StopsReading-piece a b c limit front piece fault before after why =
-    let all = Gives-more a b c front piece before after in
+pub StopsReading-piece : (a b c : SourceState) (limit : ℕ) (front piece : List ℕ) (n : ℕ) (fault : FileFault) → HasGiven a b front
+    → Gives (answered n b) c piece → IsPieceFault fault limit (length front + length piece) → StopsReading a c limit fault
+StopsReading-piece a b c limit front piece n fault before after why =
+    let all = HasGiven-more a b c front piece n before after in
     record {
       front = front ++ piece;
       given = all.from;

@@ -90,7 +90,7 @@ too_long-exact old new before after most_lines most n text (Err fault) known ran
         ∙ over-first most_lines most fault.line (line_sizes (u.at.given ++ u.at.more))
         (passes-more most_lines most fault.line u.at.given u.at.more u.why) in
         (λ at. first ∙ ap (λ (k : ℕ). Some k) at.0, λ is. (some-inj fault.line n (sym first ∙ is), refl))
-    go Input u memory = absurd (true≢false (sym u.source ∙ sound.0))
+    go Input u memory = absurd (true≢false (sym u.source.failed ∙ sound.0))
     go Output u memory = absurd (true≢false (sym u.last.texts.0.failed ∙ sound.1))
     go Messages u memory = absurd (true≢false (sym u.last.texts.1.failed ∙ sound.2))
     go Memory u memory = absurd (memory refl)

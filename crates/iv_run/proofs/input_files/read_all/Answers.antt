@@ -5,4 +5,4 @@ use Rattle.iv_run.proofs.input_files.read_all.Goals as goal
 pub returns-in_err-take_piece-clause-err : goal.returns-in_err-take_piece-clause-err
 returns-in_err-take_piece-clause-err g c =
     let p = err_from_is_err_and c.from_residual-in_err-take_piece.result c.from_residual-in_err-take_piece.ensures.1 in
-    rw (p.1, p.2) (StopsReading-piece _ _ _ _ _ _ _ c.pieces.invariant.0 c.in_ok-n.ensures.ok c.in_err-take_piece.ensures.err)
+    rw (p.1, p.2) (StopsReading-piece _ _ _ _ _ _ c.in_ok-n.n _ c.pieces.invariant.0 c.in_ok-n.ensures.ok c.in_err-take_piece.ensures.err)

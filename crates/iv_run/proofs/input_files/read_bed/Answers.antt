@@ -1,6 +1,6 @@
 use Rattle.std.proofs.Common.{◌≡◌, ◌+◌, ◌<◌, ◌≤◌, ◌^◌, ◌++◌, ℕ, List, [], length, take, refl, ap, arith, length-append, length-take}
 use Rattle.iv_run.specs.declared.fault.FileFault.TheVariants.{TooLong}
-use Rattle.iv_run.proofs.ReadingLemmas.{Gives-begin, Gives-more, ReadsWhole-end, StopsReading-piece}
+use Rattle.iv_run.proofs.ReadingLemmas.{HasGiven-begin, HasGiven-more, ReadsWhole-end, StopsReading-piece}
 use Rattle.iv_run.proofs.PieceLemmas.{says-begun, says-few, says-room, says-sound}
 use Rattle.iv_run.proofs.input_files.read_bed.Goals as goal
 
@@ -9,7 +9,7 @@ taken : (n : ℕ) (bytes : List ℕ) → n ≤ length bytes → length (take n b
 taken n bytes within = omega (arith, length-take n bytes)
 
 pub pieces-init : goal.pieces-init
-pieces-init g c = ([], Gives-begin _, refl, omega arith, says-begun g.K.FromRecord.projected c.args.genome.now c.args.limit c.new.result c.new.ensures)
+pieces-init g c = ([], HasGiven-begin _, refl, omega arith, says-begun g.K.FromRecord.projected c.args.genome.now c.args.limit c.new.result c.new.ensures)
 
 pub take_next-so_far-requires-clause-sound : goal.take_next-so_far-requires-clause-sound
 take_next-so_far-requires-clause-sound g c =
@@ -29,7 +29,7 @@ pieces-preserved g c =
     let piece = take c.in_ok-n.n c.pull.new.into in
     let size : length piece ≡ c.in_ok-n.n = taken c.in_ok-n.n c.pull.new.into c.in_ok-n.ensures.some in (
       front ++ piece,
-      Gives-more _ _ _ front piece c.pieces.invariant.1 c.in_ok-n.ensures.ok,
+      HasGiven-more _ _ _ front piece c.in_ok-n.n c.pieces.invariant.1 c.in_ok-n.ensures.ok,
       omega (arith, c.pieces.invariant.2, length-append front piece, size),
       omega (arith, c.pieces.invariant.3, c.if-n-most.false),
       c.take_next-so_far.ensures front c.pieces.invariant.4,
@@ -51,7 +51,7 @@ returns-then-n-eq0-clause-ok g c =
     let few : length front ≤ c.args.most = omega (arith, c.pieces.invariant.2, c.pieces.invariant.3) in
     let none : piece ≡ [] = ap (λ (n : ℕ). take n c.pull.new.into) c.if-n-eq0.true in (
       front,
-      ReadsWhole-end _ _ _ c.args.most front piece c.pieces.invariant.1 few c.in_ok-n.ensures.ok none (c.in_ok-n.ensures.end c.if-n-eq0.true),
+      ReadsWhole-end _ _ _ c.args.most front piece c.in_ok-n.n c.pieces.invariant.1 few c.in_ok-n.ensures.ok none (c.in_ok-n.ensures.end c.if-n-eq0.true),
       c.finish.ensures.says front c.pieces.invariant.4,
     )
 
@@ -61,4 +61,4 @@ returns-then-n-most-clause-err g c =
     let piece = take c.in_ok-n.n c.pull.new.into in
     let size : length piece ≡ c.in_ok-n.n = taken c.in_ok-n.n c.pull.new.into c.in_ok-n.ensures.some in
     let over : c.args.most < length front + length piece = omega (arith, c.pieces.invariant.2, c.pieces.invariant.3, c.if-n-most.true, size) in
-    StopsReading-piece _ _ _ c.args.most front piece TooLong c.pieces.invariant.1 c.in_ok-n.ensures.ok over
+    StopsReading-piece _ _ _ c.args.most front piece c.in_ok-n.n TooLong c.pieces.invariant.1 c.in_ok-n.ensures.ok over
