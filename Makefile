@@ -26,7 +26,7 @@ DOCUMENTS = README.md CHANGELOG.md LICENSE CITATION.cff $(addprefix docs/,GUIDE.
 		! \( -path '*/workflows/*/*' ! -name '*.cwl' ! -name '*.yaml' \) | LC_ALL=C sort)
 
 .DEFAULT_GOAL := help
-.PHONY: help try check build demo install uninstall dist test wrong-bodies clean
+.PHONY: help try check build demo install uninstall dist test mutants clean
 
 help:
 	@echo 'make try     in a minute, without a proof: the first session of the README, or a run of your own as in make try ARGS="merge -g sizes -i genes.bed"; it leaves $(UNPROVED)'
@@ -37,7 +37,7 @@ help:
 	@echo 'make uninstall   take them away again'
 	@echo 'make dist    build it, then leave an archive, a Debian package and a wheel of a release in build/'
 	@echo 'make test    all proofs from nothing, the mutants of must-fail/, and all tests; about an hour'
-	@echo 'make wrong-bodies   the mutants that make test leaves out, an hour or more'
+	@echo 'make mutants   the mutants that make test leaves out, an hour or more'
 	@echo 'make clean   remove all that builds and proofs left behind'
 	@echo 'make help    this list'
 
@@ -113,7 +113,7 @@ test:
 	python3 scripts/test/pages.py $(PROGRAM)
 	python3 scripts/test/fuzz.py $(PROGRAM) --seed 1 --seconds 20
 
-wrong-bodies:
+mutants:
 	RT=$(RT) python3 scripts/prove/mutants.py
 
 clean:

@@ -1,5 +1,5 @@
 #!/usr/bin/env python3
-"""Tries the mutants that `make test` leaves out, those of the folders wrong-bodies/: the prover must refuse each.
+"""Tries the mutants that `make test` leaves out, those of the folders mutants/: the prover must refuse each.
 
     scripts/prove/mutants.py              those of all crates
     scripts/prove/mutants.py iv_text ..   those of these crates
@@ -32,7 +32,7 @@ MOST = 40
 
 
 class Mutant:
-    """A file of a folder wrong-bodies: the texts that it changes, and the function that they are in, if they are in one."""
+    """A file of a folder mutants: the texts that it changes, and the function that they are in, if they are in one."""
 
     def __init__(self, path, crate):
         self.name, self.changes = path.stem, []
@@ -99,7 +99,7 @@ def is_refused(mutant, said):
 def mutants_of(crate):
     """The mutants of a crate, with the texts of its sources, and what is wrong with those that can't be planted."""
     texts = {path.relative_to(crate).as_posix(): path.read_text() for path in crate.glob("src/**/*.rt")}
-    mutants = [Mutant(path, crate) for path in sorted((TOP / "crates" / crate.name / "wrong-bodies").glob("*.edit"))]
+    mutants = [Mutant(path, crate) for path in sorted((TOP / "crates" / crate.name / "mutants").glob("*.edit"))]
     return mutants, texts, [f"{mutant.name}: an old text isn't there once" for mutant in mutants if not mutant.plant(texts)]
 
 
@@ -124,7 +124,7 @@ def try_crate(crate):
 
 
 def main():
-    everywhere = sorted(path.parent.name for path in TOP.glob("crates/*/wrong-bodies"))
+    everywhere = sorted(path.parent.name for path in TOP.glob("crates/*/mutants"))
     if sys.argv[1:] == ["--applies"]:
         sys.exit("\n".join(f"{name}/{line}" for name in everywhere for line in mutants_of(TOP / "crates" / name)[2]) or 0)
     if not RT:

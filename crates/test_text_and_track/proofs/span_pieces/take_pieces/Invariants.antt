@@ -1,6 +1,6 @@
 use Rattle.std.proofs.Common.{◌+◌, ◌≤◌, length}
 use Rattle.iv_text.specs.BedReading.{AreSound, size_of}
-use Rattle.test_rows.proofs.span_pieces.take_pieces.Given as goal
+use Rattle.test_text_and_track.proofs.span_pieces.take_pieces.Given as goal
 
 abbrev pub invariant-pieces : goal.invariant-pieces
 invariant-pieces g l = record {
