@@ -1,8 +1,10 @@
 #!/usr/bin/env python3
-"""Compares the options in the man page and in the completions with those in the help texts of the built program.
+"""Compares the options in the man page, the completions, the tables of FORMAT and README, and the keyword arguments of the Python
+package's runs with those in the help texts of the built program.
 
     python3 scripts/test/options.py build/bedkeep
 """
+import inspect
 import os
 import re
 import subprocess
@@ -95,6 +97,32 @@ def in_zsh():
     return found
 
 
+def in_table(page, heading):
+    """The options of each view in the table of a page that begins with this row."""
+    table = page.partition(f"\n{heading}\n")[2].partition("\n\n")[0]
+    found = {}
+    for view, cell in re.findall(r"^\| `(\w+)` \| ([^|]*) \|", table, re.M):
+        found[view] = options = {}
+        for option, value in re.findall(r"`(-\w+)(?: ([A-Z]+))?`", cell):
+            # An option that is named again, as what excludes another one, is named without its value.
+            options[option] = value or options.get(option, "")
+    return found
+
+
+def in_package():
+    """The options of each run of the Python package, of those with a value the type of it."""
+    sys.path.insert(0, f"{ROOT}/python")
+    from bedkeep import runs
+
+    found = {}
+    for name, run in inspect.getmembers(runs, inspect.isfunction):
+        taken = [each for each in inspect.signature(run).parameters.values() if each.kind == each.KEYWORD_ONLY]
+        if taken and not name.startswith("_"):
+            found[name] = {f"-{each.name}": "" if each.default is False else str(each.annotation)
+                           for each in taken if each.name not in ("width", "limit", "program")}
+    return found
+
+
 def compare(what, wanted, found, faults):
     """Notes the options that are in one of two places alone, or have another value there."""
     for option in sorted(wanted.keys() | found.keys()):
@@ -124,6 +152,9 @@ def faults_of(program):
             faults.append(f"{where} has {', '.join(kinds)}, and the help {', '.join(usages)}")
     if faults:
         return faults
+    tables = {"FORMAT": in_table(text_of("docs/FORMAT.md"), "| Subcommand | Options |"),
+              "README": in_table(text_of("README.md"), "| View | Options | Rows |")}
+    package = in_package()
     shared = {}
     for kind in usages:
         wanted, usage = in_help(program, kind)
@@ -135,6 +166,13 @@ def faults_of(program):
             own = {option: value for option, value in wanted.items() if option not in files}
             compare(f"the line of {kind} in the man page", own, views[kind][0], faults)
             compare(f"the list of {kind} in the man page", own, views[kind][1], faults)
+            for page, table in tables.items():
+                compare(f"the options of {kind} in {page}", own, table.get(kind, {}), faults)
+            if kind in package:
+                # Rows of the package have the bases of a record on its line.
+                given = {option: value and "a value" for option, value in own.items() if option != "-tab"}
+                compare(f"the keyword arguments of {kind} in the package", given,
+                        {option: value and "a value" for option, value in package[kind].items()}, faults)
         compare_values(f"the completion of {kind} for bash", wanted, bash[kind], lambda value: value == "file", faults)
         compare_values(f"the completion of {kind} for zsh", wanted, zsh[kind], lambda value: value.endswith(":_files"), faults)
     compare("the list of each run's options in the man page", shared, files, faults)
@@ -152,7 +190,7 @@ def main():
         print(fault, file=sys.stderr)
     if faults:
         sys.exit(1)
-    print("the man page and the completions have the options of the help")
+    print("the man page, the completions, FORMAT, README and the package have the options of the help")
 
 
 if __name__ == "__main__":
