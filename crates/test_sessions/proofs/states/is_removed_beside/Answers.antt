@@ -14,7 +14,7 @@ is_removed-requires-clause-right c =
     let old = c.args.session.now in
     let r = c.in_ok-row.row in
     let after = c.remove.new.self in
-    let is = c.in_ok-remove.ensures.ok.done.1.0 in
+    let is = c.in_ok-remove.ensures.ok.done.1 in
     let order : AreInOrder old.track.rows = subst (λ (t : Tracked). AreInOrder t.rows) c.track.ensures.value c.len-count.ensures.ordered in
     let rows : old.track.rows ≡ added after.track.rows r =
     added-removed old.track.rows r order c.in_ok-remove.ensures.ok.done.0 ∙ ap (λ (s : State). added s.track.rows r) (sym is) in
