@@ -18,19 +18,23 @@ _bedkeep_options() {
 # What the value of an option is, for a kind of run; nothing if it takes none.
 _bedkeep_value() {
     case $1:$2 in
-        *:-g | *:-i | *:-a | *:-bed | *:-fi | session:-b | intersect:-b | subtract:-b) echo file ;;
+        *:-g | *:-i | *:-b | *:-fi | *:-a | *:-bed) echo file ;;
         *:-width) echo width ;;
-        merge:-o) echo operation ;;
-        *:-limit | merge:-d | merge:-c | cluster:-d) echo other ;;
+        *:-limit | merge:-d | cluster:-d | merge:-c) echo other ;;
+        *:-o) echo operation ;;
     esac
 }
 
 # The options that can't come after an option, for a kind of run: itself, and those that it is not allowed beside.
 _bedkeep_taken() {
     case $1:$2 in
-        genomecov:-bg | genomecov:-bga | genomecov:-d) echo '-bg -bga -d' ;;
-        intersect:-u | intersect:-v | intersect:-c) echo '-u -v -c -wb' ;;
+        genomecov:-bg) echo '-bg -bga -d' ;;
+        genomecov:-bga) echo '-bga -bg -d' ;;
+        genomecov:-d) echo '-d -bg -bga' ;;
         intersect:-wb) echo '-wb -u -v -c' ;;
+        intersect:-u) echo '-u -wb -v -c' ;;
+        intersect:-v) echo '-v -wb -u -c' ;;
+        intersect:-c) echo '-c -wb -u -v' ;;
         *) echo "$2" ;;
     esac
 }

@@ -1,5 +1,6 @@
 #!/usr/bin/env python3
-"""Draws docs/speed.svg from the tables of docs/BENCHMARKS.md: a bar for each row that has a ratio.
+"""Draws docs/speed.svg from the tables of docs/BENCHMARKS.md: a bar for each row that has a ratio, and in it a line where the
+limit program's time is, if the row has that too.
 
     python3 scripts/bench/draw_speed.py            writes docs/speed.svg
     python3 scripts/bench/draw_speed.py OTHER.svg  writes another file
@@ -11,26 +12,26 @@ import re
 import sys
 
 TOP = pathlib.Path(__file__).resolve().parent.parent.parent
-BLUE, GREY = "#3465a4", "#888888"
+BLUE, GREY, BLACK = "#3465a4", "#888888", "#000000"
 
 
 def rows(text):
-    """What was measured and its ratio to bedtools, for each row of a table that has one."""
+    """What was measured and its ratio to bedtools, with that of the limit or None, for each row of a table that has one."""
     found = []
     for line in text.splitlines():
         cells = [cell.strip().replace("`", "") for cell in line.strip("|").split("|")]
-        if len(cells) == 5 and re.fullmatch(r"\d+\.\d+", cells[4]):
+        if len(cells) in (5, 6) and re.fullmatch(r"\d+\.\d+", cells[4]):
             what = re.sub(r", (4,000,000 records|70,000 records over 200 million bases, beside bedtools with its index)", "", cells[0])
-            found.append((what, int(cells[1]), float(cells[4])))
+            found.append((what, int(cells[1]), float(cells[4]), float(cells[5]) if cells[5:] and cells[5] else None))
     return found
 
 
 def labelled(found):
     """The rows as labels and ratios. `the same` is the row before it."""
     labels, before = [], ""
-    for what, columns, ratio in found:
+    for what, columns, *ratios in found:
         before = before if what == "the same" else what
-        labels.append((f"{before}, {columns} columns", ratio))
+        labels.append((f"{before}, {columns} columns", *ratios))
     return labels
 
 
@@ -42,14 +43,15 @@ def draw(bars, file):
     from matplotlib import pyplot
 
     figure, axes = pyplot.subplots(figsize=(8.5, 0.32 * len(bars) + 1.2))
-    names, ratios = [name for name, _ in bars], [ratio for _, ratio in bars]
-    axes.barh(names, ratios, color=BLUE)
-    for place, ratio in enumerate(ratios):
+    axes.barh([name for name, *_ in bars], [ratio for _, ratio, _ in bars], color=BLUE)
+    for place, (_, ratio, limit) in enumerate(bars):
         axes.text(ratio + 0.01, place, f"{ratio:.2f}", va="center", fontsize=8)
+        if limit is not None:
+            axes.vlines(limit, place - 0.4, place + 0.4, color=BLACK, linewidth=2)
     axes.axvline(1, color=GREY, linestyle="--", linewidth=1)
     axes.invert_yaxis()
     axes.set_xlim(0, 1.08)
-    axes.set_xlabel("bedkeep's time over bedtools' time (1 is as slow as bedtools)", fontsize=9)
+    axes.set_xlabel("bedkeep's time over bedtools' time (1 is as slow as bedtools); black lines: the limit", fontsize=9)
     axes.tick_params(labelsize=8)
     for side in ("top", "right"):
         axes.spines[side].set_visible(False)

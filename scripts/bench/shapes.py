@@ -36,10 +36,9 @@ MOST_RATIO = 5
 SEQUENCES = 1_000_000
 # shapes whose file isn't sorted
 UNSORTED = ("shuffled", "one start")
-# shapes and views that are known to be slow: a session counts each overlap for `intersect -c`, and a run takes half a second for the names of the
-# genome file, ten times what its records take
+# shapes and views that are known to be slow: a run of `intersect -c` takes about five times as long over a deep place, and a run takes
+# half a second for the names of the genome file, ten times what its records take
 SLOW = {
-    "nested": ["intersect -c"],
     "a deep place in both": ["intersect -c"],
     "many sequences": [view for view in VIEWS if view != "getfasta"],
 }

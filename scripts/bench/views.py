@@ -16,6 +16,9 @@ Intersect and subtract take a second file of `--second` records, with `-sorted`
 on the side of bedtools; with `--long` one more record of it covers all of chr1,
 with `--long-first` one more record of the first file.
 With `--alone` bedkeep runs the one subcommand, and else a session that opens the view and prints it.
+With `--limit` the program `limit.rs` beside this script is compiled (by `rustc`) and runs in turn with them: how fast a program could
+be that promises nothing, except that it prints no row before the last byte was read. It has `merge`, and alone also `cluster`,
+`intersect` and `subtract`, of sorted files of three or six columns.
 """
 
 import argparse
@@ -35,6 +38,8 @@ import time
 
 TOP = os.path.dirname(os.path.dirname(os.path.dirname(os.path.abspath(__file__))))
 SEED = 20
+LIMIT = os.path.join(TOP, "scripts", "bench", "limit.rs")
+LIMIT_VIEWS = ("merge", "cluster", "intersect", "subtract")
 VIEWS = ["merge", "merge -d 100", "complement", "cluster", "merge -c 4 -o collapse", "merge -c 5 -o sum", "merge -c 1,2 -o count,max", "genomecov -bg", "genomecov -bga", "genomecov -d",
          "intersect", "intersect -u", "intersect -v", "intersect -c", "intersect -wa", "intersect -wb", "intersect -wa -wb", "subtract", "subtract -A", "records"]
 TWO_FILES = ("intersect", "subtract")
@@ -56,11 +61,13 @@ def main():
         sys.exit("bedtools is not installed")
     version = subprocess.run(["bedtools", "--version"], capture_output=True, text=True).stdout.strip()
     print(f"{wanted.runs} runs each, {version}, {os.cpu_count()} processors, {platform.machine()}")
-    print("| view | records | columns | order | bedkeep | bedtools | ratio of medians | bedkeep's bytes a record | bedtools' |")
-    print("|---|---|---|---|---|---|---|---|---|")
+    print("| view | records | columns | order | bedkeep | bedtools | ratio of medians | bedkeep's bytes a record | bedtools' | limit | its ratio |")
+    print("|---|---|---|---|---|---|---|---|---|---|---|")
     with tempfile.TemporaryDirectory() as temporary:
         folder = wanted.folder or temporary
         os.makedirs(folder, exist_ok=True)
+        if wanted.limit:
+            compile_limit(os.path.join(folder, "limit"))
         for case in itertools.product(wanted.view, wanted.records, wanted.columns, wanted.order):
             run_case(wanted, folder, *case)
 
@@ -80,8 +87,16 @@ def run_case(wanted, folder, view, records, columns, order):
         "bedkeep": bedkeep_run(wanted, view, genome, track, beside, script),
         "bedtools": (["sh", "-c", bedtools_line(view, genome, track, second, order)], os.devnull),
     }
+    if wanted.limit and order == "sorted" and columns in (3, 6) and view in (LIMIT_VIEWS if wanted.alone else ("merge",)):
+        kind = view if wanted.alone else "session"
+        programs["limit"] = [os.path.join(folder, "limit"), kind, genome, track, *beside[1:]], os.devnull
     compare(settled(programs) if view == "records" else programs)
     report(view, records, columns, order, *measure(programs, wanted.runs))
+
+
+def compile_limit(program):
+    flags = ["--edition", "2021", "-C", "opt-level=3", "-C", "panic=abort", "-C", "codegen-units=1", "-C", "target-cpu=x86-64-v2"]
+    subprocess.run(["rustc", *flags, "-o", program, LIMIT], check=True)
 
 
 def in_own_process(write, *words):
@@ -120,6 +135,7 @@ def read_words():
     words.add_argument("--long", action="store_true", help="one more record of the second file covers all of chr1")
     words.add_argument("--long-first", action="store_true", help="one more record of the first file covers all of chr1")
     words.add_argument("--alone", action="store_true", help="a run of the one subcommand instead of a session")
+    words.add_argument("--limit", action="store_true", help="the limit program beside them")
     words.add_argument("--order", nargs="+", choices=["sorted", "shuffled"], default=["sorted"])
     words.add_argument("--runs", type=int, default=7, help="runs of each program")
     words.add_argument("--program", default=os.path.join(TOP, "build", "bedkeep"))
@@ -172,7 +188,7 @@ def places(count, chromosomes=CHROMOSOMES, seed=SEED):
 def compare(programs):
     """Stops if the outputs differ. Also brings the file into the page cache."""
     found = {name: digest_of(*program) for name, program in programs.items()}
-    if found["bedkeep"] != found["bedtools"]:
+    if len(set(found.values())) > 1:
         sys.exit(f"the outputs differ (digest, bytes): {found}")
 
 
@@ -246,10 +262,10 @@ def stop_unless_done(words, status):
 
 
 def report(view, records, columns, order, seconds, most):
-    ours, theirs = (f"{milliseconds(min(runs))}, {milliseconds(statistics.median(runs))}" for runs in seconds.values())
-    ratio = statistics.median(seconds["bedkeep"]) / statistics.median(seconds["bedtools"])
-    print(f"| {view} | {records:,} | {columns} | {order} | {ours} | {theirs} | {ratio:.2f} "
-          f"| {most['bedkeep'] / records:.0f} | {most['bedtools'] / records:.1f} |", flush=True)
+    times = {name: f"{milliseconds(min(runs))}, {milliseconds(statistics.median(runs))}" for name, runs in seconds.items()}
+    ratios = {name: f"{statistics.median(runs) / statistics.median(seconds['bedtools']):.2f}" for name, runs in seconds.items()}
+    print(f"| {view} | {records:,} | {columns} | {order} | {times['bedkeep']} | {times['bedtools']} | {ratios['bedkeep']} "
+          f"| {most['bedkeep'] / records:.0f} | {most['bedtools'] / records:.1f} | {times.get('limit', '')} | {ratios.get('limit', '')} |", flush=True)
 
 
 def milliseconds(value):

@@ -8,7 +8,7 @@ than a minute.
 Each shape is run at a size n and at 4n. Twice as much work may take at most 2.6 times as long, so 4n at most 6.8 times as long as n: that
 leaves room for noise of 30 % and for a logarithm, and none for a square. What is compared is the processor time above that of an empty run,
 the least of five. The size n is found by doubling, until a run takes 20 ms: so no speed is asked for, on no machine. What takes too long is
-measured again, up to five times, before it counts. Shapes of KNOWN are known to grow faster, and are only shown.
+measured again, up to five times, before it counts.
 
 Sizes that have a limit near them are given, and there the rows are compared with rows that are made here, never by the program. Then the
 calls that read are counted, and how often each file is opened; each file is given as a named pipe; and the bytes that the program holds
@@ -42,13 +42,6 @@ FIRST, LARGEST = 1_000, 500_000
 # The five views of docs/BENCHMARKS.md.
 FIVE_VIEWS = ["merge", "merge -d 100", "complement", "cluster", "genomecov -bg"]
 OPEN_FIVE = "".join(f"open\t{name}\t{view}\n" for name, view in zip("abcde", FIVE_VIEWS))
-# What is known to grow faster than its size, and why.
-HITS_ONE_BY_ONE = "a session looks at each hit"
-KNOWN = {
-    "deep in both: session intersect -c": HITS_ONE_BY_ONE,
-    "deep in both: session subtract": HITS_ONE_BY_ONE,
-    "nested: session intersect -c": HITS_ONE_BY_ONE,
-}
 
 
 class Wrong(Exception):
@@ -428,19 +421,13 @@ def look_at(runs, shape):
     larger = runs.write_shape(shape, shape.times * size)
     if shape.rows:
         runs.run(shape.arguments, larger, rows=shape.rows(shape.times * size))
-    if shape.name in KNOWN:
-        large = runs.run(shape.arguments, larger)[0]
-    else:
-        for _ in range(SERIES):
-            small = runs.least(shape.arguments, folder)
-            large = runs.least(shape.arguments, larger, enough=shape.most() * small)
-            if large <= shape.most() * small:
-                break
+    for _ in range(SERIES):
+        small = runs.least(shape.arguments, folder)
+        large = runs.least(shape.arguments, larger, enough=shape.most() * small)
+        if large <= shape.most() * small:
+            break
     took = f"{size:,} in {small * 1000:.0f} ms, {shape.times * size:,} in {large * 1000:.0f} ms: {large / small:.1f} times"
-    grows = large > shape.most() * small
-    if shape.name in KNOWN:
-        took += f" (known to grow: {KNOWN[shape.name]})" if grows else " (KNOWN has it, but it doesn't grow)"
-    require(not grows or shape.name in KNOWN, f"{took}, and may be {shape.most():.1f} times")
+    require(large <= shape.most() * small, f"{took}, and may be {shape.most():.1f} times")
     return took
 
 
@@ -563,6 +550,7 @@ def mostly_unknown_bases(size):
 # The most bytes that may be held for each record or byte: about 30 % more than is held, and far less than a text that is kept.
 MEMORY = [
     ("a run of merge", "merge -g g -i a", one_long_name, None, "VmHWM", 16),
+    ("a run of cluster", "cluster -g g -i a", one_long_name, None, "VmHWM", 21),
     ("a session", "session -g g -i a", one_long_name, prints("records"), "VmHWM", 58),
     ("a session with merge", "session -g g -i a", one_long_name, prints("merge"), "VmHWM", 95),
     ("a session that removes and adds", "session -g g -i a", one_sequence, moved_to_the_end, "VmHWM", 88),

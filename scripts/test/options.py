@@ -1,60 +1,223 @@
 #!/usr/bin/env python3
-"""Compares the options in the man page, the completions, the tables of FORMAT and README, and the keyword arguments of the Python
-package's runs with those in the help texts of the built program.
+"""Makes lists of options from the one table of them, crates/iv_args/src/options.rt: the usage and the list of each help text, the synopsis and
+the heads of the views in the man page, the completions, and the options in README's table.
 
-    python3 scripts/test/options.py build/bedkeep
+    python3 scripts/test/options.py --write            writes them into help.rt, the man page, the completions and README
+    python3 scripts/test/options.py build/bedkeep      compares them with these files, and with the help of the built program, which
+                                                       has to accept the options of the table and no others
+
+The second also compares the table with what is written by hand: the lists of the man page, the table of FORMAT, and the keyword arguments
+of the Python package.
 """
 import inspect
 import os
 import re
 import subprocess
 import sys
+import textwrap
+from pathlib import Path
+from typing import NamedTuple
 
-ROOT = os.path.dirname(os.path.dirname(os.path.dirname(os.path.abspath(__file__))))
+ROOT = Path(__file__).resolve().parent.parent.parent
+TABLE = "crates/iv_args/src/options.rt"
+VALUES = {"Nothing": "", "Genome": "GENOME", "Bed": "BED", "Fasta": "FASTA", "Width": "N", "Limit": "N", "Distance": "N",
+          "Columns": "LIST", "Operations": "LIST"}
 FILES = ("GENOME", "BED", "FASTA")
+ZSH_VALUES = {"Nothing": "", "Genome": ":genome file:_files", "Bed": ":BED file:_files", "Fasta": ":FASTA file:_files", "Width": ":columns:(3 4 5 6)",
+              "Limit": ":records:", "Distance": ":bases:", "Columns": ":columns:",
+              "Operations": ":operation:_values -s , operation count sum min max collapse distinct"}
+
+
+class Option(NamedTuple):
+    name: str
+    kind: str
+    meaning: str
+    shared: str = ""
+
+    @property
+    def value(self):
+        return VALUES[self.kind]
+
+    @property
+    def usage(self):
+        return f"{self.name} {self.value}".rstrip()
+
+
+class Run(NamedTuple):
+    name: str
+    meaning: str
+    needed: list
+    others: list
+    view: list
+    view_usage: str
+
+    @property
+    def options(self):
+        return [*self.needed, *self.view, *self.others]
+
+    @property
+    def usage(self):
+        """Its options as a usage shows them, in pieces that aren't broken."""
+        pieces = [option.usage for option in self.needed]
+        pieces += re.findall(r"\[[^][]*(?:\[[^][]*\])?\]|[^][ ]+", self.view_usage)
+        return pieces + [f"[{option.usage}]" for option in self.others]
+
+    def excluded(self, name):
+        """The options that can't be given beside one."""
+        groups = [re.findall(r"-\w+", group) for group in re.findall(r"[^][ ]+(?:\|[^][ ]+)+", self.view_usage)]
+        return [other for group in groups if name in group for other in group if other != name]
 
 
 def text_of(path):
-    with open(f"{ROOT}/{path}", encoding="utf-8") as file:
-        return file.read()
+    return (ROOT / path).read_text(encoding="utf-8")
 
 
-def help_of(program, *words):
-    return subprocess.run([program, "--help", *words], capture_output=True, text=True, check=True).stdout
+def read_options(text, named):
+    """The options in a list of the table: each is written there, or is a constant."""
+    written = r'OptionUsage \{\s*name:\s*b"([^"]*)",\s*value: OptionValue::(\w+),\s*meaning:\s*b"([^"]*)",\s*\}|([A-Z_]+)'
+    return [named[found[4]]._replace(shared=found[4].lower()) if found[4] else Option(*found.groups()[:3]) for found in re.finditer(written, text)]
 
 
-def in_usage(usage):
-    """The options in lines of usage, each with the name of its value."""
-    return dict(re.findall(r"(?<![\w-])(-\w+)(?: ([A-Z]+))?", usage))
+def read_table():
+    """All kinds of run of the table."""
+    table = text_of(TABLE)
+    named = {name: read_options(text, {})[0] for name, text in re.findall(r"^const (\w+): OptionUsage = (.*?\n\});", table, re.M | re.S)}
+    runs = []
+    for text in re.findall(r"^const \w+: RunUsage = (.*?\n\});", table, re.M | re.S):
+        lists = [read_options(re.search(rf"^    {name}: &\[(.*?)\],$", text, re.M | re.S)[1], named) for name in ("needed", "others", "view")]
+        name, meaning, usage = (re.search(rf'^    {name}:\s*b"(.*)",$', text, re.M)[1] for name in ("name", "meaning", "view_usage"))
+        run = Run(name, meaning, *lists, usage)
+        words = [option.usage for option in run.view]
+        if re.findall(r"-\w+(?: [A-Z]+)?", usage) != words:
+            sys.exit(f"{TABLE}: the usage of {name} is {usage}, and its options are {' '.join(words)}")
+        runs.append(run)
+    return runs
 
 
-def in_usages(general):
-    """The options in the usage of each kind of run, of the general help."""
-    return {kind: in_usage(options) for kind, options in re.findall(r"^(?:usage:| {6}) bedkeep (\w+) (-g .*)$", general, re.M)}
+def wrapped(front, pieces):
+    """Pieces in lines of at most 80 columns, below one another."""
+    lines, line = [], front.rstrip(" ")
+    for piece in pieces:
+        if len(line) + 1 + len(piece) > 80:
+            lines.append(line)
+            line = " " * (len(front) - 1)
+        line += f" {piece}"
+    return "\n".join([*lines, line])
 
 
-def in_list(text):
-    """The options in the list of a help text."""
-    return dict(re.findall(r"^  (-\w+)(?: ([A-Z]+))? {2,}\S", text, re.M))
+def help_usage(run):
+    return wrapped(f"usage: bedkeep {run.name} ", run.usage)
 
 
-def in_help(program, kind):
-    """The options of a kind of run by the list in its help, and by the usage there."""
-    text = help_of(program, kind)
-    return in_list(text), in_usage(text.partition("\n\n")[0])
+def help_list(run):
+    """The list of the options in a help text."""
+    return "".join(textwrap.fill(option.meaning, 80, initial_indent=f"  {option.usage:<12}", subsequent_indent=" " * 14, break_on_hyphens=False) + "\n"
+                   for option in run.options)
+
+
+def general_usage(runs):
+    """The usage of all kinds of run in the general help, which leaves out what is for large files."""
+    lines = [wrapped(f"       bedkeep {run.name} ", [piece for piece in run.usage if "-limit" not in piece]) + "\n" for run in runs]
+    return "".join(lines).replace("       ", "usage: ", 1)
+
+
+def replaced(text, pattern, new, where):
+    """A text with another one instead of the one part of it that matches."""
+    if len(re.findall(pattern, text, re.M | re.S)) != 1:
+        sys.exit(f"{where}: no place for what the table makes: {pattern}")
+    return re.sub(pattern, lambda _: new, text, flags=re.M | re.S)
+
+
+def in_help(text, runs):
+    text = replaced(text, r"^usage: bedkeep session -g.*?(?=^ {7}bedkeep --help )", general_usage(runs), "help.rt")
+    for run in runs:
+        front, head, rest = text.partition(f'const {run.name.upper()}: &[u8] =')
+        part, end, back = rest.partition('";\n')
+        part = replaced(part, r"usage: .*?(?=\n\n)", help_usage(run), f"the help of {run.name}")
+        part = replaced(part, r"^  -g .*?(?=^$)", help_list(run), f"the help of {run.name}")
+        text = front + head + part + end + back
+    return text
+
+
+def macros_of(usage):
+    """A piece of a usage as macros of the man page."""
+    usage = re.sub(r"-(\w+)", r"Fl \1", usage.replace("|", " | "))
+    return re.sub(r" ([A-Z]{3,}|N)\b", r" Ar \1", usage)
+
+
+def in_man(text, runs):
+    synopsis = "".join(f".Nm\n.Cm {run.name}\n" + "".join(
+        "." + macros_of(piece).replace("[", "Op ").replace("]", "") + "\n" for piece in run.usage) for run in runs)
+    text = replaced(text, r"(?<=^\.Sh SYNOPSIS\n).*?(?=^\.Nm\n\.Fl -help)", synopsis, "the man page")
+    for run in runs[1:]:
+        *pieces, last = [macros_of(piece) for piece in run.usage[len(run.needed):len(run.usage) - len(run.others)]] or [""]
+        pieces = [re.sub(r"^\[(.*)\]$", r"Oo \1 Oc", piece) for piece in pieces] + [last.replace("[", "Op ").replace("]", "")]
+        text = replaced(text, rf"^\.It Cm {run.name}( (Oo|Op|Fl) [^\n]*)?$", " ".join([".It Cm", run.name, *pieces]).rstrip(), "the man page")
+    return text
+
+
+def bash_kind(option):
+    """What completes the value of an option, nothing if it has none."""
+    if option.value in FILES:
+        return "file"
+    return {"Nothing": "", "Width": "width", "Operations": "operation"}.get(option.kind, "other")
+
+
+def in_bash(text, runs):
+    options = "".join(f"        {run.name}) echo '{' '.join(option.name for option in run.options)}' ;;\n" for run in runs)
+    kinds = {}
+    for run in runs:
+        for option in run.options:
+            kinds.setdefault(option.name, {})[run.name] = bash_kind(option)
+    values = {}
+    for name, of_runs in kinds.items():
+        for run, kind in of_runs.items():
+            # An option that is the same in all runs that have it stands for all runs.
+            values.setdefault(kind, {})[f"*:{name}" if len(set(of_runs.values())) == 1 else f"{run}:{name}"] = None
+    value = "".join(f"        {' | '.join(names)}) echo {kind} ;;\n" for kind, names in values.items() if kind)
+    taken = "".join(f"        {run.name}:{option.name}) echo '{' '.join([option.name, *run.excluded(option.name)])}' ;;\n"
+                    for run in runs for option in run.view if run.excluded(option.name))
+    for name, of, arms in ("options", "$1", options), ("value", "$1:$2", value), ("taken", "$1:$2", taken + '        *) echo "$2" ;;\n'):
+        text = replaced(text, rf"(?<=^_bedkeep_{name}\(\) \{{\n)(.*?)(?=^    esac$)", f"    case {of} in\n{arms}", "bedkeep.bash")
+    return replaced(text, r"(?<=local kinds=')[^']*", " ".join(run.name for run in runs), "bedkeep.bash")
+
+
+def zsh_spec(run, option):
+    """An option as the completion for zsh has it, with what completes its value."""
+    excluded = f"({' '.join(run.excluded(option.name))})" if run.excluded(option.name) else ""
+    return f"'{excluded}{option.name}[{option.meaning}]{ZSH_VALUES[option.kind]}'"
+
+
+def in_zsh(text, runs):
+    kinds = "".join(f"    '{run.name}:{run.meaning}'\n" for run in runs)
+    shared, arms = {}, ""
+    for run in runs:
+        names = [option.shared for option in run.options if option.shared]
+        shared.update((option.shared, zsh_spec(run, option)) for option in run.options if option.shared)
+        lines = [" ".join(f"${name}" for name in names), *(zsh_spec(run, option) for option in run.options if not option.shared)]
+        if len(lines) == 1:
+            arms += f"    {run.name}) specs=({lines[0]}) ;;\n"
+        else:
+            arms += f"    {run.name})\n        specs=(\n{''.join(f'            {line}' + chr(10) for line in lines)}        )\n        ;;\n"
+    text = replaced(text, r"(?<=^kinds=\(\n).*?(?=^\)$)", kinds, "_bedkeep")
+    text = replaced(text, r"^local \w+='-.*?(?=^$)", "".join(f"local {name}={spec}\n" for name, spec in shared.items()), "_bedkeep")
+    return replaced(text, r"^    session\).*?(?=^    \*\) return 1)", arms, "_bedkeep")
+
+
+def in_readme(text, runs):
+    for run in runs[1:]:
+        names = " ".join(f"`{option.usage}`" for option in run.view)
+        cell = f"{'one of ' if run.view_usage.startswith('-') else ''}{names} |".lstrip()
+        text = replaced(text, rf"(?<=^\| `{run.name}` \| )[^|]*\|(?=[^|]*\|$)", cell, "README")
+    return text
+
+
+MADE = {"crates/iv_args/src/help.rt": in_help, "man/bedkeep.1": in_man, "completions/bedkeep.bash": in_bash, "completions/_bedkeep": in_zsh, "README.md": in_readme}
 
 
 def in_macros(lines):
-    """The options in lines of the man page."""
-    words = " ".join(lines)
-    return {f"-{name}": value for name, value in re.findall(r"\bFl ([\w-]+)(?: Ar (\w+))?", words)}
-
-
-def in_synopsis(page):
-    """The options of each kind of run in the synopsis of the man page."""
-    synopsis = page.partition(".Sh SYNOPSIS\n")[2].partition("\n.Sh ")[0]
-    runs = [run.splitlines() for run in synopsis.split(".Nm\n")]
-    return {run[0].split()[1]: in_macros(run[1:]) for run in runs if run and run[0].startswith(".Cm ")}
+    """The options in lines of the man page, each with the name of its value."""
+    return {f"-{name}": value for name, value in re.findall(r"\bFl ([\w-]+)(?: Ar (\w+))?", " ".join(lines))}
 
 
 def in_files(page):
@@ -64,42 +227,15 @@ def in_files(page):
 
 
 def in_views(page):
-    """The options of each view in the man page, by the line of the view and by the list under it."""
+    """The options in the list of each view in the man page."""
     part = page.partition(".Sh OPTIONS OF A VIEW\n")[2].partition("\n.Ss ")[0]
-    found = {}
-    for view in re.split(r"^\.It Cm (?=\w)", part, flags=re.M)[1:]:
-        lines = view.splitlines()
-        items = [line for line in lines[1:] if line.startswith(".It Fl ")]
-        found[lines[0].split()[0]] = in_macros(lines[:1]), in_macros(items)
-    return found
+    views = [view.splitlines() for view in re.split(r"^\.It Cm (?=\w)", part, flags=re.M)[1:]]
+    return {lines[0].split()[0]: in_macros([line for line in lines[1:] if line.startswith(".It Fl ")]) for lines in views}
 
 
-def in_bash(kinds):
-    """The options of each kind of run in the completion for bash, each with what its value is."""
-    script = 'source "$0"; for kind; do for option in $(_bedkeep_options "$kind"); do echo "$kind $option $(_bedkeep_value "$kind" "$option")"; done; done'
-    words = ["bash", "-c", script, f"{ROOT}/completions/bedkeep.bash", *kinds]
-    said = subprocess.run(words, capture_output=True, text=True, check=True).stdout
-    found = {kind: {} for kind in kinds}
-    for line in said.splitlines():
-        kind, option, value = line.split(" ")
-        found[kind][option] = value
-    return found
-
-
-def in_zsh():
-    """The options of each kind of run in the completion for zsh, each with what its value is."""
-    text = text_of("completions/_bedkeep")
-    shared = dict(re.findall(r"^local (\w+)=('-.*')$", text, re.M))
-    found = {}
-    for kind, arm in re.findall(r"^    (\w+)\)\s*specs=\((.*?)\)\s*;;$", text, re.M | re.S):
-        arm = re.sub(r"\$(\w+)", lambda name: shared[name[1]], arm)
-        found[kind] = dict(re.findall(r"'(?:\([^)]*\))?(-\w+)\[[^]]*\]([^']*)'", arm))
-    return found
-
-
-def in_table(page, heading):
-    """The options of each view in the table of a page that begins with this row."""
-    table = page.partition(f"\n{heading}\n")[2].partition("\n\n")[0]
+def in_format():
+    """The options of each view in the table of FORMAT."""
+    table = text_of("docs/FORMAT.md").partition("\n| Subcommand | Options |\n")[2].partition("\n\n")[0]
     found = {}
     for view, cell in re.findall(r"^\| `(\w+)` \| ([^|]*) \|", table, re.M):
         found[view] = options = {}
@@ -111,7 +247,7 @@ def in_table(page, heading):
 
 def in_package():
     """The options of each run of the Python package, of those with a value the type of it."""
-    sys.path.insert(0, f"{ROOT}/python")
+    sys.path.insert(0, str(ROOT / "python"))
     from bedkeep import runs
 
     found = {}
@@ -128,69 +264,70 @@ def compare(what, wanted, found, faults):
     for option in sorted(wanted.keys() | found.keys()):
         here, there = (options.get(option, "isn't there") or "has no value" for options in (found, wanted))
         if here != there:
-            faults.append(f"{what}: {option}: {here}; in the help: {there}")
+            faults.append(f"{what}: {option}: {here}; in the table: {there}")
 
 
-def compare_values(what, wanted, found, is_file, faults):
-    """The same for a completion, which says of a value only whether it is a file."""
-    named = {option: value and ("a file" if value in FILES else "another value") for option, value in wanted.items()}
-    shown = {option: value and ("a file" if is_file(value) else "another value") for option, value in found.items()}
-    compare(what, named, shown, faults)
+def is_accepted(program, words):
+    """Whether arguments over files that aren't there are accepted: the files are opened once they are."""
+    return subprocess.run([program, *words], stdin=subprocess.DEVNULL, capture_output=True).returncode != 2
 
 
-def faults_of(program):
-    general = help_of(program)
-    usages = in_usages(general)
-    # All runs take it, and the general help has it in its list alone.
-    everywhere = {option: value for option, value in in_list(general).items() if option == "-limit"}
+def in_program(program, runs, faults):
+    """Notes options of the table that the program refuses, and those that it accepts where the table hasn't them."""
+    given = {"": [], "LIST": ["1"], "N": ["4"], **dict.fromkeys(FILES, ["no file"])}
+    every = {option.name: option for run in runs for option in run.options}
+    for run in runs:
+        needed = [word for option in run.needed for word in (option.name, "no file")]
+        own = {option.name: option for option in [*run.view, *run.others]}
+        for name, option in {**every, **own}.items():
+            if name in (option.name for option in run.needed):
+                continue
+            words = [run.name, *needed, name, *(["count", "-c", "1"] if option.kind == "Operations" else given[option.value])]
+            if run.view_usage.startswith("-") and not run.excluded(name):
+                words.append(run.view[0].name)
+            for wanted, words in ((name in own, words), *((False, [*words, other, *given[own[other].value]]) for other in run.excluded(name))):
+                if is_accepted(program, words) != wanted:
+                    faults.append(f"{'refused, and the table has it' if wanted else 'accepted, and not by the table'}: {' '.join(words)}")
+
+
+def faults_of(program, runs):
+    faults = [f"{path} isn't what {TABLE} makes of it: scripts/test/options.py --write" for path, make in MADE.items() if make(text_of(path), runs) != text_of(path)]
+    said = {run.name: subprocess.run([program, "--help", run.name], capture_output=True, text=True, check=True).stdout for run in runs}
+    faults += [f"the help of {run.name} that the program prints isn't that of the table" for run in runs if not said[run.name].startswith(help_usage(run) + "\n\n") or f"\n{help_list(run)}\n" not in said[run.name]]
+    in_program(program, runs, faults)
     page = text_of("man/bedkeep.1")
-    synopsis, files, views = in_synopsis(page), in_files(page), in_views(page)
-    bash, zsh = in_bash(usages), in_zsh()
-    faults = []
-    for where, kinds in (("the synopsis of the man page", synopsis), ("the completion for zsh", zsh), ("the man page's views and session", [*views, "session"])):
-        if sorted(kinds) != sorted(usages):
-            faults.append(f"{where} has {', '.join(kinds)}, and the help {', '.join(usages)}")
-    if faults:
-        return faults
-    tables = {"FORMAT": in_table(text_of("docs/FORMAT.md"), "| Subcommand | Options |"),
-              "README": in_table(text_of("README.md"), "| View | Options | Rows |")}
-    package = in_package()
-    shared = {}
-    for kind in usages:
-        wanted, usage = in_help(program, kind)
-        shared.update((option, value) for option, value in wanted.items() if option in files)
-        compare(f"the usage in the help of {kind}", wanted, usage, faults)
-        compare(f"the usage and the list of {kind} in the general help", wanted, {**usages[kind], **everywhere}, faults)
-        compare(f"the synopsis of {kind} in the man page", wanted, synopsis[kind], faults)
-        if kind != "session":
-            own = {option: value for option, value in wanted.items() if option not in files}
-            compare(f"the line of {kind} in the man page", own, views[kind][0], faults)
-            compare(f"the list of {kind} in the man page", own, views[kind][1], faults)
-            for page, table in tables.items():
-                compare(f"the options of {kind} in {page}", own, table.get(kind, {}), faults)
-            if kind in package:
-                # Rows of the package have the bases of a record on its line.
-                given = {option: value and "a value" for option, value in own.items() if option != "-tab"}
-                compare(f"the keyword arguments of {kind} in the package", given,
-                        {option: value and "a value" for option, value in package[kind].items()}, faults)
-        compare_values(f"the completion of {kind} for bash", wanted, bash[kind], lambda value: value == "file", faults)
-        compare_values(f"the completion of {kind} for zsh", wanted, zsh[kind], lambda value: value.endswith(":_files"), faults)
-    compare("the list of each run's options in the man page", shared, files, faults)
+    views, table, package = in_views(page), in_format(), in_package()
+    shared = {option.name: option.value for run in runs for option in [*run.needed, *run.others]}
+    compare("the list of each run's options in the man page", shared, in_files(page), faults)
+    for run in runs[1:]:
+        own = {option.name: option.value for option in run.view}
+        compare(f"the list of {run.name} in the man page", own, views.get(run.name, {}), faults)
+        compare(f"the options of {run.name} in FORMAT", own, table.get(run.name, {}), faults)
+        if run.name in package:
+            # Rows of the package have the bases of a record on its line.
+            given = {option: value and "a value" for option, value in own.items() if option != "-tab"}
+            compare(f"the keyword arguments of {run.name} in the package", given,
+                    {option: value and "a value" for option, value in package[run.name].items()}, faults)
     return faults
 
 
 def main():
     if len(sys.argv) != 2:
-        sys.exit("usage: options.py PROGRAM")
+        sys.exit("usage: options.py --write|PROGRAM")
+    runs = read_table()
+    if sys.argv[1] == "--write":
+        for path, make in MADE.items():
+            (ROOT / path).write_text(make(text_of(path), runs), encoding="utf-8")
+        return
     try:
-        faults = faults_of(sys.argv[1])
+        faults = faults_of(os.path.abspath(sys.argv[1]), runs)
     except (OSError, subprocess.CalledProcessError) as error:
         sys.exit(f"options.py: {error}")
     for fault in faults:
         print(fault, file=sys.stderr)
     if faults:
         sys.exit(1)
-    print("the man page, the completions, FORMAT, README and the package have the options of the help")
+    print("the help, the man page, the completions, FORMAT, README and the package have the options of the table")
 
 
 if __name__ == "__main__":

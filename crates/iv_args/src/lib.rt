@@ -3,9 +3,11 @@
 
 mod help;
 mod info_request;
+mod options;
 mod plan;
 mod subcommand;
 
 pub use info_request::InfoRequest;
+pub use options::{OptionUsage, OptionValue, RUNS, RunUsage};
 pub use plan::{Plan, Slot};
 pub use subcommand::{Subcommand, no_option_twice, options_among_view_words};

@@ -11,6 +11,7 @@ pub mod GroupSweeps
 pub mod NearSweeps
 pub mod EntriesLemmas
 pub mod LookupLemmas
+pub mod StoredLemmas
 pub mod TakeLemmas
 pub mod JoinLemmas
 pub mod RepairLemmas

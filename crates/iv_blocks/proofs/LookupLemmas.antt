@@ -1,5 +1,5 @@
 -- Look-ups among the blocks of one group.
-use Rattle.std.proofs.Common.{◌≡◌, ◌≢◌, ℕ, ◌<◌, ◌≤◌, Bool, true, false, Option, Some, None, MatchOption, Ordering, Less, Equal, Greater, nat_cmp, refl, sym, ap, subst, ◌∙◌, arith}
+use Rattle.std.proofs.Common.{◌≡◌, ◌≢◌, ℕ, ◌<◌, ◌≤◌, Bool, true, false, Option, Some, None, MatchOption, option_map, unwrap_or, Ordering, Less, Equal, Greater, nat_cmp, refl, sym, ap, subst, ◌∙◌, arith}
 use Rattle.std.specs.Ordering.{is_le, is_ge, bool_cmp, ordering_reverse}
 use Rattle.std.specs.Cmp.{bool_cmp_total}
 use Rattle.std.proofs.lemmas.Bool.{false≢true}
@@ -10,6 +10,7 @@ use Rattle.iv_track.proofs.NumberOrder.{le-cmp, ge-cmp, ge-from}
 use Rattle.iv_blocks.specs.Inside.Groups.{is_minus}
 use Rattle.iv_blocks.specs.KeptBlocks.{Key, key_cmp, Kept, Entries}
 use Rattle.iv_blocks.specs.Inside.Insertion.{key_of}
+use Rattle.iv_blocks.specs.Inside.StoredBlocks.{key_and_stop}
 use Rattle.iv_blocks.specs.Inside.Lookups.{kept_in, IsLastBlock, IsFirstBlock}
 use Rattle.iv_blocks.specs.declared.group.Group.{Group}
 use Rattle.iv_blocks.proofs.EntriesLemmas.{IsFirst, IsLast, first-found, last-found}
@@ -69,46 +70,70 @@ group-ge g p x h = ap is_ge (key_cmp-group g.rank (is_minus g.side) p x) ∙ ge-
 group-le : (g : Group) (p x : ℕ) → p ≤ x → is_le (key_cmp (key_of g p) (key_of g x)) ≡ true
 group-le g p x h = ap is_le (key_cmp-group g.rank (is_minus g.side) p x) ∙ le-cmp p x h
 
+-- an entry of which the key and the stop are known
+record IsEntryWith (found : Option (Key × Kept)) (k : Key) (stop : ℕ) : Type 0 where
+  pub block : Kept
+  pub is : found ≡ Some (k, block)
+  pub stops : block.stop ≡ stop
+
+entry_with : (found : Option (Key × Kept)) (k : Key) (stop : ℕ) → Some (k, stop) ≡ option_map key_and_stop found → IsEntryWith found k stop
+entry_with None k stop e = cc
+entry_with (Some f) k stop e =
+    let same : (k, stop) ≡ key_and_stop f = ap (λ (o : Option (Key × ℕ)). unwrap_or o (k, stop)) e in
+    record {
+      block = f.1;
+      is = ap (λ (q : Key × ℕ). Some (q.0, f.1)) (sym same);
+      stops = sym (ap (λ (q : Key × ℕ). q.1) same);
+    }
+
+no_entry : (found : Option (Key × Kept)) → None ≡ option_map key_and_stop found → found ≡ None
+no_entry None e = refl
+no_entry (Some f) e = cc
+
 module _ (es : Entries) (g : Group) (p : ℕ) (sorted : IsLedger key_cmp es) where
   -- no entry of any group up to the position: so none of this group
-  pub none_until : last_until key_cmp es (key_of g p) ≡ None → (x : ℕ) → x ≤ p → kept_in es g x ≡ None
+  pub none_until : None ≡ option_map key_and_stop (last_until key_cmp es (key_of g p)) → (x : ℕ) → x ≤ p → kept_in es g x ≡ None
   none_until e x within =
-      let none = subst (λ o. MatchOption o ((q : Key) → is_ge (key_cmp (key_of g p) q) ≡ true → value_at key_cmp es q ≡ None) (λ e. IsLast key_cmp keys_total es (key_of g p) e)) e (last-found key_cmp keys_total es (key_of g p) sorted) in
+      let none = subst (λ o. MatchOption o ((q : Key) → is_ge (key_cmp (key_of g p) q) ≡ true → value_at key_cmp es q ≡ None) (λ e. IsLast key_cmp keys_total es (key_of g p) e)) (no_entry _ e) (last-found key_cmp keys_total es (key_of g p) sorted) in
       none (key_of g x) (group-ge g p x within)
 
-  pub none_from : first_from key_cmp es (key_of g p) ≡ None → (x : ℕ) → p ≤ x → kept_in es g x ≡ None
+  pub none_from : None ≡ option_map key_and_stop (first_from key_cmp es (key_of g p)) → (x : ℕ) → p ≤ x → kept_in es g x ≡ None
   none_from e x within =
-      let none = subst (λ o. MatchOption o ((q : Key) → is_le (key_cmp (key_of g p) q) ≡ true → value_at key_cmp es q ≡ None) (λ e. IsFirst key_cmp keys_total es (key_of g p) e)) e (first-found key_cmp keys_total es (key_of g p) sorted) in
+      let none = subst (λ o. MatchOption o ((q : Key) → is_le (key_cmp (key_of g p) q) ≡ true → value_at key_cmp es q ≡ None) (λ e. IsFirst key_cmp keys_total es (key_of g p) e)) (no_entry _ e) (first-found key_cmp keys_total es (key_of g p) sorted) in
       none (key_of g x) (group-le g p x within)
 
   -- the last entry of all groups up to the position, and a block of this group
-  pub last_block : (k : Key) (v : Kept) (found : Option (ℕ × ℕ)) → last_until key_cmp es (key_of g p) ≡ Some (k, v)
-      → MatchOption found (k.0 ≡ g.rank → k.1 ≢ is_minus g.side) (λ b. (k ≡ (g.rank, is_minus g.side, b.0)) × (b.1 ≡ v.stop))
+  pub last_block : (k : Key) (stop : ℕ) (found : Option (ℕ × ℕ)) → Some (k, stop) ≡ option_map key_and_stop (last_until key_cmp es (key_of g p))
+      → MatchOption found (k.0 ≡ g.rank → k.1 ≢ is_minus g.side) (λ b. (k ≡ (g.rank, is_minus g.side, b.0)) × (b.1 ≡ stop))
       → MatchOption found ((x : ℕ) → x ≤ p → kept_in es g x ≡ None) (λ b. IsLastBlock (kept_in es g) p b)
-  last_block k v None e beside = λ x within.
-      let last = subst (λ o. MatchOption o ((q : Key) → is_ge (key_cmp (key_of g p) q) ≡ true → value_at key_cmp es q ≡ None) (λ e. IsLast key_cmp keys_total es (key_of g p) e)) e (last-found key_cmp keys_total es (key_of g p) sorted) in
+  last_block k stop None e beside = λ x within.
+      let v = entry_with _ k stop e in
+      let last = subst (λ o. MatchOption o ((q : Key) → is_ge (key_cmp (key_of g p) q) ≡ true → value_at key_cmp es q ≡ None) (λ e. IsLast key_cmp keys_total es (key_of g p) e)) v.is (last-found key_cmp keys_total es (key_of g p) sorted) in
       last.none (key_of g x) (group-ge g p x within) (beside-before g.rank (is_minus g.side) p x k beside last.within)
-  last_block k v (Some b) e is =
-      let last = subst (λ o. MatchOption o ((q : Key) → is_ge (key_cmp (key_of g p) q) ≡ true → value_at key_cmp es q ≡ None) (λ e. IsLast key_cmp keys_total es (key_of g p) e)) e (last-found key_cmp keys_total es (key_of g p) sorted) in
+  last_block k stop (Some b) e is =
+      let v = entry_with _ k stop e in
+      let last = subst (λ o. MatchOption o ((q : Key) → is_ge (key_cmp (key_of g p) q) ≡ true → value_at key_cmp es q ≡ None) (λ e. IsLast key_cmp keys_total es (key_of g p) e)) v.is (last-found key_cmp keys_total es (key_of g p) sorted) in
       record {
         within = ge-from p b.0 (ap is_ge (sym (key_cmp-group g.rank (is_minus g.side) p b.0)) ∙ ap (λ q. is_ge (key_cmp (key_of g p) q)) (sym is.0) ∙ last.within);
-        results = v.results;
-        is = ap (value_at key_cmp es) (sym is.0) ∙ last.is ∙ ap (λ (n : ℕ). Some (record { stop = n; results = v.results })) (sym is.1);
+        results = v.block.results;
+        is = ap (value_at key_cmp es) (sym is.0) ∙ last.is ∙ ap (λ (n : ℕ). Some (record { stop = n; results = v.block.results })) (v.stops ∙ sym is.1);
         none = λ x past within. last.none (key_of g x) (group-ge g p x within) (ap (λ q. key_cmp q (key_of g x)) is.0 ∙ key_cmp-group g.rank (is_minus g.side) b.0 x ∙ less_cmp b.0 x past);
       }
 
   -- the first entry of all groups from the position on, and a block of this group
-  pub first_block : (k : Key) (v : Kept) (found : Option (ℕ × ℕ)) → first_from key_cmp es (key_of g p) ≡ Some (k, v)
-      → MatchOption found (k.0 ≡ g.rank → k.1 ≢ is_minus g.side) (λ b. (k ≡ (g.rank, is_minus g.side, b.0)) × (b.1 ≡ v.stop))
+  pub first_block : (k : Key) (stop : ℕ) (found : Option (ℕ × ℕ)) → Some (k, stop) ≡ option_map key_and_stop (first_from key_cmp es (key_of g p))
+      → MatchOption found (k.0 ≡ g.rank → k.1 ≢ is_minus g.side) (λ b. (k ≡ (g.rank, is_minus g.side, b.0)) × (b.1 ≡ stop))
       → MatchOption found ((x : ℕ) → p ≤ x → kept_in es g x ≡ None) (λ b. IsFirstBlock (kept_in es g) p b)
-  first_block k v None e beside = λ x within.
-      let first = subst (λ o. MatchOption o ((q : Key) → is_le (key_cmp (key_of g p) q) ≡ true → value_at key_cmp es q ≡ None) (λ e. IsFirst key_cmp keys_total es (key_of g p) e)) e (first-found key_cmp keys_total es (key_of g p) sorted) in
+  first_block k stop None e beside = λ x within.
+      let v = entry_with _ k stop e in
+      let first = subst (λ o. MatchOption o ((q : Key) → is_le (key_cmp (key_of g p) q) ≡ true → value_at key_cmp es q ≡ None) (λ e. IsFirst key_cmp keys_total es (key_of g p) e)) v.is (first-found key_cmp keys_total es (key_of g p) sorted) in
       first.none (key_of g x) (group-le g p x within) (beside-after g.rank (is_minus g.side) p x k beside first.within)
-  first_block k v (Some b) e is =
-      let first = subst (λ o. MatchOption o ((q : Key) → is_le (key_cmp (key_of g p) q) ≡ true → value_at key_cmp es q ≡ None) (λ e. IsFirst key_cmp keys_total es (key_of g p) e)) e (first-found key_cmp keys_total es (key_of g p) sorted) in
+  first_block k stop (Some b) e is =
+      let v = entry_with _ k stop e in
+      let first = subst (λ o. MatchOption o ((q : Key) → is_le (key_cmp (key_of g p) q) ≡ true → value_at key_cmp es q ≡ None) (λ e. IsFirst key_cmp keys_total es (key_of g p) e)) v.is (first-found key_cmp keys_total es (key_of g p) sorted) in
       record {
         within = le_from_is_le p b.0 (ap is_le (sym (key_cmp-group g.rank (is_minus g.side) p b.0)) ∙ ap (λ q. is_le (key_cmp (key_of g p) q)) (sym is.0) ∙ first.within);
-        results = v.results;
-        is = ap (value_at key_cmp es) (sym is.0) ∙ first.is ∙ ap (λ (n : ℕ). Some (record { stop = n; results = v.results })) (sym is.1);
+        results = v.block.results;
+        is = ap (value_at key_cmp es) (sym is.0) ∙ first.is ∙ ap (λ (n : ℕ). Some (record { stop = n; results = v.block.results })) (v.stops ∙ sym is.1);
         none = λ x past within. first.none (key_of g x) (group-le g p x past) (ap (λ q. key_cmp (key_of g x) q) is.0 ∙ key_cmp-group g.rank (is_minus g.side) x b.0 ∙ less_cmp x b.0 within);
       }

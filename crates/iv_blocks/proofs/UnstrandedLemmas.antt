@@ -22,10 +22,12 @@ use Rattle.iv_blocks.specs.Inside.Groups.{is_in_group}
 use Rattle.iv_blocks.specs.Groups.{group, sides, listed}
 use Rattle.iv_blocks.specs.KeptBlocks.{Key, Entries, key_cmp, kept_at}
 use Rattle.iv_blocks.specs.MergeRows.{side_blocks}
-use Rattle.iv_blocks.specs.Inside.UnstrandedBlocks.{kept_entry, entries_with, plain_entry, GivesKept}
+use Rattle.iv_blocks.specs.Inside.UnstrandedBlocks.{kept_entry, entries_with, stop_entry, GivesStops}
+use Rattle.iv_blocks.specs.Inside.StoredBlocks.{plain_entry}
 use Rattle.iv_blocks.specs.declared.options.BlockOptions.{BlockOptions}
 use Rattle.iv_blocks.proofs.EntryLemmas.{rank_entries, all_entries}
 use Rattle.iv_blocks.proofs.InOrderLemmas.{all-ordered, all-look}
+use Rattle.iv_blocks.proofs.StoredLemmas.{ordered-plain, plain-alike}
 use Rattle.iv_blocks.proofs.KeptLemmas.{flat_map-agree, entry_of, sides-are, none-past, none-later}
 
 -- records that fit a genome are on it
@@ -41,8 +43,8 @@ map-flat_map h f (x ∷ xs) = map-both (f x) (flat_map f xs) ∙ ap (λ l. map h
     map-both (y ∷ a) b = ap (λ l. h y ∷ l) (map-both a b)
 
 -- what is drained is what was left
-pub drained : (bs : List Group) (es : Entries) → Drains GivesKept bs es → es ≡ map plain_entry bs
-drained bs es run = given-items bs es (map plain_entry bs) run (YieldsList-from_shown GivesKept (λ e. e) (map plain_entry) (λ s t h. ap length h.0) (λ s x t h. h) bs)
+pub drained : (bs : List Group) (es : List (Key × ℕ)) → Drains GivesStops bs es → es ≡ map stop_entry bs
+drained bs es run = given-items bs es (map stop_entry bs) run (YieldsList-from_shown GivesStops (λ e. e) (map stop_entry) (λ s t h. ap length h.0) (λ s x t h. h) bs)
 
 module _ (o : BlockOptions) (g : Sequences) (width : ℕ) (rows : List RecordValue) (fit : All (Fits g width) rows) (together : o.stranded ≡ false) where
   -- the records of a sequence are its one group
@@ -79,19 +81,23 @@ module _ (o : BlockOptions) (g : Sequences) (width : ℕ) (rows : List RecordVal
   kept-found k = ap (λ (l : Entries). value_at key_cmp l k) kept-all
       ∙ all-look (kept_at o (names_of g) rows) (sequence_length g) (seq_count g) (none-past o g width rows fit) (none-later o g width rows fit) k
 
-  -- so are the entries without summaries, if there are none
+  -- so are the stops, if there are no summaries
   module _ (none : listed o.summaries ≡ []) where
-    plain-kept : (bs : List Group) → map plain_entry bs ≡ map (kept_entry g (listed o.summaries)) bs
+    plain-kept : (bs : List Group) → map plain_entry (map stop_entry bs) ≡ map (kept_entry g (listed o.summaries)) bs
     plain-kept [] = refl
     plain-kept (b ∷ bs) =
-        ap (λ (l : Entries). plain_entry b ∷ l) (plain-kept bs)
+        ap (λ (l : Entries). plain_entry (stop_entry b) ∷ l) (plain-kept bs)
         ∙ ap (λ l. kept_entry g l b ∷ map (kept_entry g (listed o.summaries)) bs) (sym none)
 
-    pub plain-ordered : IsLedger key_cmp (map plain_entry (blocks_of o.distance g rows))
-    plain-ordered = subst (IsLedger key_cmp) (sym (plain-kept (blocks_of o.distance g rows))) kept-ordered
+    pub stops-ordered : IsLedger key_cmp (map stop_entry (blocks_of o.distance g rows))
+    stops-ordered = ordered-plain _ (subst (IsLedger key_cmp) (sym (plain-kept (blocks_of o.distance g rows))) kept-ordered)
 
-    pub plain-found : (k : Key) → value_at key_cmp (map plain_entry (blocks_of o.distance g rows)) k ≡ kept_at o (names_of g) rows k
-    plain-found k = ap (λ (l : Entries). value_at key_cmp l k) (plain-kept (blocks_of o.distance g rows)) ∙ kept-found k
+    pub stops-found : (l : List (Key × ℕ)) → ((k : Key) → value_at key_cmp l k ≡ value_at key_cmp (map stop_entry (blocks_of o.distance g rows)) k)
+        → (k : Key) → value_at key_cmp (map plain_entry l) k ≡ kept_at o (names_of g) rows k
+    stops-found l same k =
+        plain-alike l (map stop_entry (blocks_of o.distance g rows)) k (same k)
+        ∙ ap (λ (es : Entries). value_at key_cmp es k) (plain-kept (blocks_of o.distance g rows))
+        ∙ kept-found k
 
 -- ---- entries that are made in one walk
 

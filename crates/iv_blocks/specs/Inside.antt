@@ -3,6 +3,7 @@ pub mod Groups
 pub mod UnstrandedBlocks
 pub mod MembersLeft
 pub mod BlockStorage
+pub mod StoredBlocks
 pub mod Insertion
 pub mod Lookups
 pub mod Repairs

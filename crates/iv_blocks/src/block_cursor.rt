@@ -5,11 +5,11 @@ ghost use Rattle.iv_track.specs.Steps.{TakesUpTo};
 ghost use Rattle.iv_cover.specs.declared.block.Block.{Block};
 ghost use Rattle.iv_blocks.specs.Inside.BlockCursor.{interval_of, starts_until, GivesPassing, TakesForEach};
 
+use crate::block_ledger::LedgerWalk;
 use crate::blocks::Blocks;
-use crate::group::{FIRST_KEY, Key};
-use crate::kept_block::KeptBlock;
+use crate::group::FIRST_KEY;
 use iv_cover::Block;
-use iv_track::{Meter, Walk};
+use iv_track::Meter;
 use std::alloc::Allocator;
 use std::marker::Model;
 
@@ -36,7 +36,7 @@ pub(crate) trait BlocksAhead {
 /// Its model is the list of them.
 #[derive(Drop)]
 pub(crate) struct BlockCursor<'a, A: Allocator + Copy> {
-    walk: Walk<'a, Key, KeptBlock<A>, A>,
+    walk: LedgerWalk<'a, A>,
     // The block that was read ahead, `None` after the last.
     next: Option<Block>,
 }
@@ -90,19 +90,16 @@ fn is_until(block: Block, rank: u32, position: u64) -> bool
 }
 
 /// Where the next block is, `None` after the last. One step.
-fn read<A: Allocator + Copy>(
-    walk: &mut Walk<'_, Key, KeptBlock<A>, A>,
-    meter: &mut Meter,
-) -> Option<Block>
+fn read<A: Allocator + Copy>(walk: &mut LedgerWalk<'_, A>, meter: &mut Meter) -> Option<Block>
     ensures next { TakesFirst (λ b. b) (map interval_of walk.old) result (map interval_of walk.new) }
     ensures last { result ≡ None → walk.new ≡ [] }
     ensures step { TakesUpTo meter.old meter.new 1 }
 {
-    let (key, block) = walk.next(meter)?;
-    let (sequence, _, start) = *key;
+    let entry = walk.next(meter)?;
+    let (sequence, _, start) = entry.key;
     Some(Block {
         sequence,
         start,
-        stop: block.stop(),
+        stop: entry.stop,
     })
 }

@@ -2,9 +2,9 @@
 ghost use Rattle.std.specs.Prelude.{◌≡◌};
 ghost use Rattle.iv_blocks.specs.KeptBlocks.{AreBlocksOf, block_steps};
 
+use crate::block_ledger::BlockLedger;
 use crate::entries::{UnstrandedBlocks, entries_of};
-use crate::group::{Group, Key};
-use crate::kept_block::KeptBlock;
+use crate::group::Group;
 use crate::options::BlockOptions;
 use iv_cover::{BlockWalk, Kept};
 use iv_text::{Genome, RecordRef};
@@ -19,15 +19,18 @@ use std::marker::Model;
 pub struct Blocks<A: Allocator + Copy = Global> {
     pub(crate) options: BlockOptions,
     pub(crate) alloc: A,
-    pub(crate) ledger: Ledger<Key, KeptBlock<A>, A>,
+    pub(crate) ledger: BlockLedger<A>,
 }
 
 impl<A: Allocator + Copy> Model for Blocks<A> {
+    ghost use Rattle.iv_blocks.specs.Inside.StoredBlocks.{KeepsResults};
     ghost use Rattle.iv_blocks.specs.KeptBlocks.{KeptBlocks};
 
     ghost Value = { KeptBlocks };
 
-    ghost view = { λ b. record { options = b.options; entries = b.ledger } };
+    ghost view = { λ b. record { options = b.options; entries = b.ledger.entries } };
+
+    ghost invariant = { λ b. KeepsResults b.options b.ledger };
 }
 
 impl<A: Allocator + Copy> Kept<A> for Blocks<A> {
@@ -50,24 +53,26 @@ impl<A: Allocator + Copy> Kept<A> for Blocks<A> {
     ) -> Result<Blocks<A>, AllocError> {
         if options.is_by_intervals() {
             let sweep = BlockWalk::of(track.walk(0, 0, meter), options.distance);
+            let stops = Ledger::from_entries(alloc, UnstrandedBlocks::of(sweep, meter))?;
             return Ok(Blocks {
                 options,
                 alloc,
-                ledger: Ledger::from_entries(alloc, UnstrandedBlocks::of(sweep, meter))?,
+                ledger: BlockLedger::plain(stops),
             });
         }
         if !options.stranded {
             let entries = entries_of(alloc, &options, track, genome, meter)?;
+            let blocks = Ledger::from_entries(alloc, entries.into_iter())?;
             return Ok(Blocks {
                 options,
                 alloc,
-                ledger: Ledger::from_entries(alloc, entries.into_iter())?,
+                ledger: BlockLedger::with_results(blocks),
             });
         }
         let mut blocks = Blocks {
             options,
             alloc,
-            ledger: Ledger::new(alloc),
+            ledger: BlockLedger::new(alloc, !options.summaries.as_slice().is_empty()),
         };
         for rank in 0..genome.count() {
             blocks.insert_sequence(track, genome, rank, meter)?;

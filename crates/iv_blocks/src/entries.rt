@@ -5,7 +5,7 @@ ghost use Rattle.iv_text.specs.Ordered.{AreInOrder};
 ghost use Rattle.iv_cover.specs.Inside.RemainingBlocks.{coming};
 ghost use Rattle.iv_cover.specs.TrackBlocks.{with_members};
 ghost use Rattle.iv_blocks.specs.Groups.{listed};
-ghost use Rattle.iv_blocks.specs.Inside.UnstrandedBlocks.{kept_entry, GivesKept};
+ghost use Rattle.iv_blocks.specs.Inside.UnstrandedBlocks.{kept_entry, GivesStops};
 
 use crate::group::Key;
 use crate::kept_block::KeptBlock;
@@ -99,7 +99,7 @@ fn key_of(block: Block) -> Key
     (block.sequence, false, block.start)
 }
 
-/// An iterator over the blocks of a walk, each as it is kept.
+/// An iterator over the blocks of a walk: where each is kept, and where it stops.
 ///
 /// Its model is the list of the blocks that are left, each with its records.
 #[derive(Drop)]
@@ -126,14 +126,14 @@ impl<'a, 'm, A: Allocator + Copy> Model for UnstrandedBlocks<'a, 'm, A> {
 }
 
 impl<'a, 'm, A: Allocator + Copy> Iterator for UnstrandedBlocks<'a, 'm, A> {
-    type Item = (Key, KeptBlock<A>);
+    type Item = (Key, u32);
 
-    ghost next_gives = { GivesKept };
+    ghost next_gives = { GivesStops };
 
     ghost remaining = { item_count (λ bs. bs) };
 
-    fn next(&mut self) -> Option<(Key, KeptBlock<A>)> {
+    fn next(&mut self) -> Option<(Key, u32)> {
         let block = self.sweep.next(self.meter)?;
-        Some((key_of(block), KeptBlock::plain(block.stop)))
+        Some((key_of(block), block.stop))
     }
 }

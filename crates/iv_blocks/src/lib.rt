@@ -3,6 +3,7 @@
 #![tactic(auto)]
 
 mod block_cursor;
+mod block_ledger;
 mod blocks;
 mod cluster;
 mod cluster_region;

@@ -8,9 +8,9 @@ ghost use Rattle.iv_blocks.specs.KeptBlocks.{AreBlocksOf};
 ghost use Rattle.iv_blocks.specs.MergeRows.{all_blocks};
 ghost use Rattle.iv_blocks.specs.Inside.Texts.{merge_text};
 
+use crate::block_ledger::BlockEntry;
 use crate::blocks::Blocks;
 use crate::group::FIRST_KEY;
-use crate::kept_block::KeptBlock;
 use iv_bytes::{Sink, WriteFault, put_pieces};
 use iv_text::{Genome, RowBuffer};
 use iv_track::{Meter, Track};
@@ -32,10 +32,10 @@ impl<A: Allocator + Copy> Blocks<A> {
         ensures steps { TakesUpTo meter.old meter.new (2 + length (all_blocks self.now.options genome.now track.now.rows)) }
     {
         let mut walk = self.ledger.walk(&FIRST_KEY, meter);
-        while let Some((key, block)) = walk.next(meter) {
-            let (sequence, _, start) = *key;
+        while let Some(block) = walk.next(meter) {
+            let (sequence, _, _) = block.key;
             let name = genome.name_of(sequence);
-            put_block(name, start, block, sink)?;
+            put_block(name, block, sink)?;
         }
         Ok(())
     }
@@ -44,16 +44,16 @@ impl<A: Allocator + Copy> Blocks<A> {
 /// How many bytes of results are put together with the columns before them.
 const MOST_TOGETHER: usize = 149;
 
-/// Puts the row of a block: name, start, stop and results.
-pub(crate) fn put_block<A: Allocator, S: Sink>(
+/// Puts the row of a block: its sequence's name, start, stop and results.
+pub(crate) fn put_block<S: Sink>(
     name: &[u8],
-    start: u32,
-    block: &KeptBlock<A>,
+    block: BlockEntry<'_>,
     sink: &mut S,
 ) -> Result<(), WriteFault>
-    ensures { Puts (S.state sink.old) (S.state sink.new) result (name.now ++ codes "\t" ++ decimal start ++ codes "\t" ++ decimal block.now.stop ++ block.now.results ++ codes "\n") }
+    ensures { Puts (S.state sink.old) (S.state sink.new) result (name.now ++ codes "\t" ++ decimal block.entry.key.2 ++ codes "\t" ++ decimal block.entry.stop ++ block.entry.results.now ++ codes "\n") }
 {
-    let (start, stop, results) = (u64::from(start), u64::from(block.stop()), block.results());
+    let (_, _, start) = block.key;
+    let (start, stop, results) = (u64::from(start), u64::from(block.stop), block.results);
     let mut end = RowBuffer::new();
     if results.len() > MOST_TOGETHER {
         end.put_after_numbers(name, start, stop, sink)?;

@@ -85,14 +85,14 @@ impl<A: Allocator + Copy> Blocks<A> {
         let name = genome.name_of(group.rank);
         let low = self.reaching_from(group, start, track, genome, meter);
         let mut walk = self.ledger.walk(&group.key(low), meter);
-        while let Some((key, block)) = walk.next(meter) {
-            let Some((from, _)) = of_group(group, *key, block) else {
+        while let Some(block) = walk.next(meter) {
+            let Some((from, _)) = of_group(group, block.key, block.stop) else {
                 return Ok(());
             };
             if u64::from(from) >= stop {
                 return Ok(());
             }
-            put_block(name, from, block, sink)?;
+            put_block(name, block, sink)?;
         }
         Ok(())
     }

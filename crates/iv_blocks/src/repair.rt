@@ -34,8 +34,8 @@ impl<A: Allocator + Copy> Blocks<A> {
             (λ b. IsLastBlock (kept_in self.now.entries group) position b) }
         ensures steps { TakesUpTo meter.old meter.new 1 }
     {
-        let (key, block) = self.ledger.at_or_before(&group.key(position), meter)?;
-        of_group(group, *key, block)
+        let (key, stop) = self.ledger.at_or_before(&group.key(position), meter)?;
+        of_group(group, key, stop)
     }
 
     /// The first block of the group that starts at the position or after it: its start and its stop. One step.
@@ -45,8 +45,8 @@ impl<A: Allocator + Copy> Blocks<A> {
             (λ b. IsFirstBlock (kept_in self.now.entries group) position b) }
         ensures steps { TakesUpTo meter.old meter.new 1 }
     {
-        let (key, block) = self.ledger.at_or_after(&group.key(position), meter)?;
-        of_group(group, *key, block)
+        let (key, stop) = self.ledger.at_or_after(&group.key(position), meter)?;
+        of_group(group, key, stop)
     }
 
     /// Joins the interval from `start` to `stop` with the group's last block that starts at `start` or before it, if that
@@ -300,8 +300,7 @@ impl<A: Allocator + Copy> Blocks<A> {
         ensures steps { TakesUpTo meter.old meter.new (3 + length (between_on group.rank start stop track.now.rows)) }
     {
         let block = self.kept_block(track, genome, group, start, stop, meter)?;
-        self.ledger.put(group.key(start), block, meter)?;
-        Ok(())
+        self.ledger.put(group.key(start), block, meter)
     }
 
     /// What is kept of a block.
@@ -331,18 +330,14 @@ impl<A: Allocator + Copy> Blocks<A> {
     }
 }
 
-/// Start and stop of the block that is kept at a key, if it is one of the group.
-pub(crate) fn of_group<A: Allocator>(
-    group: Group,
-    key: Key,
-    block: &KeptBlock<A>,
-) -> Option<(u32, u32)>
+/// Start and stop of a block that is kept at a key, if it is one of the group.
+pub(crate) fn of_group(group: Group, key: Key, stop: u32) -> Option<(u32, u32)>
     ensures { MatchOption result (key.0 ≡ group.rank → key.1 ≢ is_minus group.side)
-        (λ b. (key ≡ key_of group b.0) × (b.1 ≡ block.now.stop)) }
+        (λ b. (key ≡ key_of group b.0) × (b.1 ≡ stop)) }
 {
     let (rank, minus, start) = key;
     if rank == group.rank && minus == group.side.is_minus() {
-        Some((start, block.stop()))
+        Some((start, stop))
     } else {
         None
     }

@@ -1,8 +1,9 @@
--- Numbers in order, and how many are up to a position.
-use Rattle.std.proofs.Common.{◌≡◌, ◌≢◌, ℕ, suc, ◌+◌, ◌<◌, ◌≤◌, ◌^◌, ◌⊎◌, inl, inr, List, [], ◌∷◌, ◌==◌, All, length, filter, map, refl, sym, ap, ◌∙◌, subst, arith, Bool, true, false, cond, if◌then◌else◌, count_by, nat_le, le-leb}
+-- Numbers in order, the net changes at them, and the depth that these give.
+use Rattle.std.proofs.Common.{◌≡◌, ◌≢◌, ℕ, ◌+◌, ◌<◌, ◌≤◌, ◌^◌, ◌⊎◌, inl, inr, List, [], ◌∷◌, ◌==◌, All, length, filter, map, refl, sym, ap, ap₂, ◌∙◌, subst, arith, Bool, true, false, cond, if◌then◌else◌, count_by, nat_le, le-leb, Option, Some, None}
 use Rattle.std.proofs.lemmas.Bool.{cases_lt, cases_Bool, lt-ltb, le-ltb, lt-leb, eqb-true}
+use Rattle.std.proofs.lemmas.Int.{ints}
 use Rattle.std.proofs.lemmas.List.Elements.{All-head, All-tail}
-use Rattle.std.proofs.lemmas.List.{length-map}
+use Rattle.std.proofs.lemmas.List.{length-map, map-id}
 use Rattle.std.proofs.lemmas.List.Sums.{length-filter, count_by-le-length, sum_by-cons}
 use Rattle.std.proofs.lemmas.Simd.{map-map}
 use Rattle.std.specs.Ordering.{is_le}
@@ -11,7 +12,7 @@ use Rattle.iv_text.specs.Ordered.{AreInOrder}
 use Rattle.iv_text.specs.Read.{IsOnGenome}
 use Rattle.iv_text.specs.RecordValue.{RecordValue, record_cmp}
 use Rattle.iv_cover.specs.Depth.{depth}
-use Rattle.iv_text.specs.CoveredPositions.{on}
+use Rattle.iv_text.specs.CoveredPositions.{on, covers}
 use Rattle.iv_cover.specs.TrackBlocks.{start_of, stop_of}
 use Rattle.iv_cover.proofs.DepthLemmas.{depth-cons}
 use Rattle.iv_text.proofs.InOrderLemmas.{all-recursion}
@@ -20,191 +21,173 @@ use Rattle.iv_text.proofs.ListLemmas.{Mem}
 use Rattle.iv_index.proofs.SequenceLemmas.{is_from, from-here}
 use Rattle.iv_index.specs.Inside.Spans.{record_of_span, span_records}
 use Rattle.iv_index.specs.declared.span.Span.{Span}
-use Rattle.std.specs.Prelude.{ℤ, pos, ◌+ℤ◌}
-use Rattle.iv_depth.specs.Inside.DepthChanges.{IsChange}
-use Rattle.iv_depth.specs.Inside.Edges.{up_to, Rise, AreWithin, AreStopsOf, IsEdge, IsPassing, PassesEdge, IsAhead, starts_of, stops_of}
+use Rattle.std.specs.Prelude.{ℤ, pos, ◌+ℤ◌, ◌-ℤ◌}
+use Rattle.iv_depth.specs.Inside.DepthChanges.{Gives, IsChange}
+use Rattle.iv_depth.specs.Inside.Edges.{up_to, Rise, BeginsElse, AreStopsOf, Passes, IsLeast, Remaining, RiseFrom, edge_count, net, SkipsEdges, TakesChange, GivesChange, IsAhead, starts_of, stops_of}
 use Rattle.iv_depth.proofs.DepthLemmas.{depth-ends}
 use Rattle.iv_depth.proofs.OrderLemmas.{up_to-sum}
 
-pub rise-low : (low from : ℕ) (ns : List ℕ) → low ≤ from → Rise from ns → Rise low ns
+rise-low : (low from : ℕ) (ns : List ℕ) → low ≤ from → Rise from ns → Rise low ns
 rise-low low from [] le h = tt
 rise-low low from (n ∷ ns) le h = (omega (arith, h.0), h.1)
 
+rise-lower : (low from : ℕ) (edges : Remaining) → low ≤ from → RiseFrom from edges → RiseFrom low edges
+rise-lower low from edges le h = record { starts = rise-low low from edges.starts le h.starts; stops = rise-low low from edges.stops le h.stops }
+
 -- none is before the first
-pub up_to-before : (from p : ℕ) (ns : List ℕ) → Rise from ns → p < from → up_to p ns ≡ 0
-up_to-before from p [] h before = refl
-up_to-before from p (n ∷ ns) h before =
-    let past : nat_le n p ≡ false = lt-leb n p (omega (arith, h.0)) in
-    let rest : up_to p ns ≡ 0 = up_to-before n p ns h.1 (omega (arith, h.0)) in
-    rw past (omega (arith, rest))
+none-before : (from p : ℕ) (ns : List ℕ) → Rise from ns → p < from → count_by (λ n. nat_le n p) ns ≡ 0
+none-before from p [] h before = refl
+none-before from p (n ∷ ns) h before =
+    let rest : count_by (λ n. nat_le n p) ns ≡ 0 = none-before n p ns h.1 (omega (arith, h.0)) in
+    sum_by-cons (λ x. cond {A = ℕ} (nat_le x p) 1 0) n ns ∙ ap₂ {C = ℕ} (λ (b : Bool) (k : ℕ). cond {A = ℕ} b 1 0 + k) (lt-leb n p (omega (arith, h.0))) rest
 
-pub up_to-here : (p n : ℕ) (ns : List ℕ) → n ≤ p → up_to p (n ∷ ns) ≡ 1 + up_to p ns
-up_to-here p n ns le = let is : nat_le n p ≡ true = le-leb n p le in rw is refl
+net-before : (from p : ℕ) (edges : Remaining) → RiseFrom from edges → p < from → net (λ n. nat_le n p) edges ≡ pos 0
+net-before from p edges h before = ap₂ {C = ℤ} (λ (a b : ℕ). pos a -ℤ pos b) (none-before from p edges.starts h.starts before) (none-before from p edges.stops h.stops before)
 
-pub up_to-more : (q p : ℕ) (ns : List ℕ) → q ≤ p → up_to q ns ≤ up_to p ns
-up_to-more q p [] le = omega arith
-up_to-more q p (n ∷ ns) le = go (cases_lt q n) (up_to-more q p ns le)
-  where
-    go : (q < n) ⊎ (n ≤ q) → up_to q ns ≤ up_to p ns → up_to q (n ∷ ns) ≤ up_to p (n ∷ ns)
-    go (inl past) rest = let is : nat_le n q ≡ false = lt-leb n q past in rw is (omega (arith, rest))
-    go (inr here) rest =
-        let a : nat_le n q ≡ true = le-leb n q here in
-        let b : nat_le n p ≡ true = le-leb n p (omega arith) in
-        rw (a, b) (omega (arith, rest))
-
-pub up_to-length : (p : ℕ) (ns : List ℕ) → up_to p ns ≤ length ns
-up_to-length p [] = omega arith
-up_to-length p (n ∷ ns) = go (cases_lt p n) (up_to-length p ns)
-  where
-    go : (p < n) ⊎ (n ≤ p) → up_to p ns ≤ length ns → up_to p (n ∷ ns) ≤ suc (length ns)
-    go (inl past) rest = let is : nat_le n p ≡ false = lt-leb n p past in rw is (omega (arith, rest))
-    go (inr here) rest = let is : nat_le n p ≡ true = le-leb n p here in rw is (omega (arith, rest))
+-- ---- the numbers that are equal
 
 -- none is passed yet
-pub IsPassing-begin : (position : ℕ) (ns : List ℕ) → Rise position ns → IsPassing position 0 ns ns
-IsPassing-begin position ns rise = record { sums = λ passes. none (passes position) (count_by passes ns); rise = rise; within = λ limit w. w }
+pub Passes-begin : (n : ℕ) (ns : List ℕ) → Rise n ns → Passes n 0 n ns ns
+Passes-begin n ns rise = record { sums = λ passes. none (passes n) (count_by passes ns); rise = rise }
   where
     none : (here : Bool) (n : ℕ) → n ≡ (if here then 0 else 0) + n
     none true n = omega arith
     none false n = omega arith
 
--- one more at the position is passed
-pub IsPassing-next : (position count n : ℕ) (old left rest : List ℕ) → IsPassing position count old left → left ≡ n ∷ rest → n ≡ position
-    → IsPassing position (count + 1) old rest
-IsPassing-next position count n old left rest h first here =
-    let rise : Rise position (n ∷ rest) = subst (Rise position) first h.rise in
+-- one more is passed
+pub Passes-next : (n count m : ℕ) (old left rest : List ℕ) → Passes n count n old left → left ≡ m ∷ rest → m ≡ n → Passes n (count + 1) n old rest
+Passes-next n count m old left rest h first here =
+    let rise : Rise n (m ∷ rest) = subst (Rise n) first h.rise in
     record {
       sums = λ passes.
-          let one : count_by passes left ≡ (if passes position then 1 else 0) + count_by passes rest
-          = ap (λ (l : List ℕ). count_by passes l) first ∙ sum_by-cons (λ x. cond (passes x) 1 0) n rest
+          let one : count_by passes left ≡ (if passes n then 1 else 0) + count_by passes rest
+          = ap (λ (l : List ℕ). count_by passes l) first ∙ sum_by-cons (λ x. cond (passes x) 1 0) m rest
           ∙ ap {B = ℕ} (λ (k : ℕ). (if passes k then 1 else 0) + count_by passes rest) here in
-          more (passes position) _ _ _ (h.sums passes) one;
-      rise = rise-low position n rest (omega arith) rise.1;
-      within = λ limit w. let both : AreWithin limit (n ∷ rest) = subst (AreWithin limit) first (h.within limit w) in both.1;
+          more (passes n) _ _ _ (h.sums passes) one;
+      rise = rise-low n m rest (omega arith) rise.1;
     }
   where
     more : (at : Bool) (a b c : ℕ) → a ≡ (if at then count else 0) + b → b ≡ (if at then 1 else 0) + c → a ≡ (if at then count + 1 else 0) + c
     more true a b c e f = omega arith
     more false a b c e f = omega arith
 
--- the next one is past the position
-pub PassesEdge-stop : (position count n : ℕ) (old left rest : List ℕ) → IsPassing position count old left → left ≡ n ∷ rest → n ≢ position → PassesEdge position count old left
-PassesEdge-stop position count n old left rest h first other =
-    let rise : Rise position (n ∷ rest) = subst (Rise position) first h.rise in
-    record { sums = h.sums; later = rw first (omega (arith, rise.0, other), rise.1); within = h.within }
+-- the next one is greater
+pub Passes-stop : (n count m : ℕ) (old left rest : List ℕ) → Passes n count n old left → left ≡ m ∷ rest → m ≢ n → Passes n count (n + 1) old left
+Passes-stop n count m old left rest h first other =
+    let rise : Rise n (m ∷ rest) = subst (Rise n) first h.rise in
+    record { sums = h.sums; rise = rw first (omega (arith, rise.0, other), rise.1) }
 
--- so many are up to a position from there on
-passed : (position count : ℕ) (old new : List ℕ) → PassesEdge position count old new → (p : ℕ) → position ≤ p → up_to p old ≡ count + up_to p new
-passed position count old new h p low =
-    up_to-sum p old ∙ h.sums (λ n. nat_le n p)
-    ∙ ap {B = ℕ} (λ (b : Bool). (if b then count else 0) + count_by (λ n. nat_le n p) new) (le-leb position p low)
-    ∙ ap (λ (n : ℕ). count + n) (sym (up_to-sum p new))
+-- ---- one number after another
 
--- ---- one edge after another
+module _ (from n begun ended : ℕ) (old mid new : Remaining) (skips : SkipsEdges from old mid) (is : IsLeast mid.starts mid.stops n)
+    (begins : Rise n mid.starts → Passes n begun (n + 1) mid.starts new.starts) (ends : Rise n mid.stops → Passes n ended (n + 1) mid.stops new.stops) where
+  starts-passed : Passes n begun (n + 1) mid.starts new.starts
+  starts-passed = begins (is.starts_rise from skips.rise.starts)
 
-module _ (f : ℕ → ℕ) (from limit depth : ℕ) (starts stops : List ℕ) (ahead : IsAhead f from limit depth starts stops) where
-  module _ (edge begun ended : ℕ) (starts_after stops_after : List ℕ) (is : IsEdge starts stops edge)
-      (begins : PassesEdge edge begun starts starts_after) (ends : PassesEdge edge ended stops stops_after) where
-    pub edge-low : from ≤ edge
-    edge-low = is.least from ahead.starts_rise ahead.stops_rise
+  stops-passed : Passes n ended (n + 1) mid.stops new.stops
+  stops-passed = ends (is.stops_rise from skips.rise.stops)
 
-    pub edge-high : edge ≤ limit
-    edge-high = is.within limit ahead.within
+  low : from ≤ n
+  low = is.least from skips.rise.starts skips.rise.stops
 
-    pub edge-same : (q : ℕ) → from ≤ q → q < edge → f q ≡ depth
-    edge-same q low high =
-        omega (
-          arith,
-          ahead.depths q low,
-          up_to-before edge q starts (is.starts_rise from ahead.starts_rise) high,
-          up_to-before edge q stops (is.stops_rise from ahead.stops_rise) high,
-        )
+  later : RiseFrom (n + 1) new
+  later = record { starts = starts-passed.rise; stops = stops-passed.rise }
 
-    begins-up_to : (p : ℕ) → edge ≤ p → up_to p starts ≡ begun + up_to p starts_after
-    begins-up_to = passed edge begun starts starts_after begins
+  -- what is passed is the change there
+  net-passed : (z : ℤ) → pos ended +ℤ z ≡ pos begun → (passes : ℕ → Bool) → net passes old ≡ (if passes n then z else pos 0) +ℤ net passes new
+  net-passed z sum passes = skips.sums passes ∙ go (passes n) _ _ _ _ (starts-passed.sums passes) (stops-passed.sums passes)
+    where
+      go : (here : Bool) (a b c d : ℕ) → a ≡ (if here then begun else 0) + b → c ≡ (if here then ended else 0) + d
+          → pos a -ℤ pos c ≡ (if here then z else pos 0) +ℤ (pos b -ℤ pos d)
+      go true a b c d e f = omega (arith, ints, sum, e, f)
+      go false a b c d e f = omega (arith, ints, e, f)
 
-    ends-up_to : (p : ℕ) → edge ≤ p → up_to p stops ≡ ended + up_to p stops_after
-    ends-up_to = passed edge ended stops stops_after ends
+  pub takes-change : (z : ℤ) → pos ended +ℤ z ≡ pos begun → begun ≢ ended → TakesChange from old n z new
+  takes-change z sum other = record { low = low; other = λ none. other (omega (arith, ints, sum, none)); sums = net-passed z sum; later = later }
 
-    none_starts : up_to edge starts_after ≡ 0
-    none_starts = up_to-before (edge + 1) edge starts_after begins.later (omega arith)
+  pub skips-next : begun ≡ ended → SkipsEdges from old new
+  skips-next same = record {
+    sums = λ passes. net-passed (pos 0) (omega (arith, ints, same)) passes ∙ none (passes n) _;
+    rise = rise-lower from (n + 1) new (omega (arith, low)) later;
+  }
+    where
+      none : (here : Bool) (z : ℤ) → (if here then pos 0 else pos 0) +ℤ z ≡ z
+      none true z = omega (arith, ints)
+      none false z = omega (arith, ints)
 
-    none_stops : up_to edge stops_after ≡ 0
-    none_stops = up_to-before (edge + 1) edge stops_after ends.later (omega arith)
+-- as many items are passed as numbers
+pub passed-length : {T : Type 0} (at : T → ℕ) (count : ℕ) (old new : List T) → count + length new ≡ length old → count + length (map at new) ≡ length (map at old)
+passed-length at count old new len = omega (arith, len, length-map new at, length-map old at)
 
-    -- the depth at the edge
-    pub edge-depth : depth + begun ≡ f edge + ended
-    edge-depth =
-        omega (arith, edge-low, ahead.depths edge edge-low, begins-up_to edge (omega arith), ends-up_to edge (omega arith), none_starts, none_stops)
+-- something is passed
+pub fewer-left : (n begun ended : ℕ) (mid new : Remaining) → IsLeast mid.starts mid.stops n
+    → (begun ≡ 0 → BeginsElse n mid.starts) → (ended ≡ 0 → BeginsElse n mid.stops)
+    → begun + length new.starts ≡ length mid.starts → ended + length new.stops ≡ length mid.stops → edge_count new < edge_count mid
+fewer-left n begun ended mid new is no_start no_stop starts_len stops_len = go (cases_lt 0 begun) (cases_lt 0 ended)
+  where
+    go : (0 < begun) ⊎ (begun ≤ 0) → (0 < ended) ⊎ (ended ≤ 0) → edge_count new < edge_count mid
+    go (inl some) b = omega (arith, some, starts_len, stops_len)
+    go (inr none) (inl some) = omega (arith, some, starts_len, stops_len)
+    go (inr none) (inr nothing) = absurd (is.first (no_start (omega (arith, none))) (no_stop (omega (arith, nothing))))
 
-    pub edge-bound : depth + begun ≤ length stops
-    edge-bound =
-        omega (
-          arith,
-          edge-low,
-          edge-high,
-          ahead.depths limit (omega (arith, edge-low, edge-high)),
-          ahead.ends limit (omega arith),
-          begins-up_to limit edge-high,
-          up_to-length limit stops,
-        )
+-- none is left
+pub nothing-left : (from : ℕ) (old left : Remaining) → left.starts ≡ [] → left.stops ≡ [] → SkipsEdges from old left → (passes : ℕ → Bool) → net passes old ≡ pos 0
+nothing-left from old left no_starts no_stops skips passes =
+    skips.sums passes ∙ ap₂ {C = ℤ} (λ (k l : List ℕ). pos (count_by passes k) -ℤ pos (count_by passes l)) no_starts no_stops
 
-    pub edge-other : begun ≢ ended → depth ≢ f edge
-    edge-other other same = other (omega (arith, same, edge-depth))
+-- ---- the depth, from one change to the next
 
-    pub IsChange-edge : (z : ℤ) → begun ≢ ended → pos depth +ℤ z ≡ pos (f edge) → length stops < 2 ^ 63 → IsChange f from limit depth (edge, z)
-    IsChange-edge z other sum few = record {
-      low = edge-low;
-      high = edge-high;
-      same = edge-same;
-      other = λ _. edge-other other;
-      sum = sum;
-      small = omega (arith, edge-depth, edge-bound, few);
+module _ (f : ℕ → ℕ) (from limit depth : ℕ) (edges : Remaining) (ahead : IsAhead f from limit depth edges) where
+  module _ (n : ℕ) (z : ℤ) (after : Remaining) (takes : TakesChange from edges n z after) where
+    before : (p : ℕ) → p < n → net (λ m. nat_le m p) edges ≡ pos 0
+    before p low =
+        takes.sums (λ m. nat_le m p)
+        ∙ ap₂ {C = ℤ} (λ (b : Bool) (y : ℤ). (if b then z else pos 0) +ℤ y) (lt-leb n p low) (net-before (n + 1) p after takes.later (omega (arith, low)))
+
+    since : (p : ℕ) → n ≤ p → net (λ m. nat_le m p) edges ≡ z +ℤ net (λ m. nat_le m p) after
+    since p low = takes.sums (λ m. nat_le m p) ∙ ap {B = ℤ} (λ (b : Bool). (if b then z else pos 0) +ℤ net (λ m. nat_le m p) after) (le-leb n p low)
+
+    here : pos depth +ℤ z ≡ pos (f n)
+    here = omega (arith, ints, ahead.depths n takes.low, since n (omega arith), net-before (n + 1) n after takes.later (omega arith))
+
+    high : n ≤ limit
+    high = elim (cases_lt limit n) [
+      | inl past ↦ absurd (takes.other (omega (arith, ints, here, ahead.depths limit ahead.low, before limit past, ahead.ends limit (omega arith), ahead.ends n (omega (arith, past)))))
+      | inr within ↦ within
+    ]
+
+    pub IsChange-next : IsChange f from limit depth (n, z)
+    IsChange-next = record {
+      low = takes.low;
+      high = high;
+      same = λ q from_here below. omega (arith, ints, ahead.depths q from_here, before q below);
+      other = λ _ is. takes.other (omega (arith, ints, here, is));
+      sum = here;
+      small = ahead.small n;
     }
 
-    -- past an edge where the depth changes
-    pub IsAhead-next : (next : ℕ) → next ≡ f edge → IsAhead f edge limit next starts_after stops_after
-    IsAhead-next next here = record {
-      starts_rise = rise-low edge (edge + 1) starts_after (omega arith) begins.later;
-      stops_rise = rise-low edge (edge + 1) stops_after (omega arith) ends.later;
-      within = ends.within limit ahead.within;
-      depths = λ p low. omega (arith, edge-low, edge-depth, here, ahead.depths p (omega (arith, edge-low)), begins-up_to p low, ends-up_to p low);
+    pub IsAhead-next : IsAhead f n limit (f n) after
+    IsAhead-next = record {
+      rise = rise-lower n (n + 1) after (omega arith) takes.later;
+      low = high;
+      depths = λ p past. omega (arith, ints, here, ahead.depths p (omega (arith, past, takes.low)), since p past);
+      small = ahead.small;
       ends = ahead.ends;
     }
 
-    -- past an edge where it stays
-    pub IsAhead-still : begun ≡ ended → IsAhead f from limit depth starts_after stops_after
-    IsAhead-still same = record {
-      starts_rise = rise-low from (edge + 1) starts_after (omega (arith, edge-low)) begins.later;
-      stops_rise = rise-low from (edge + 1) stops_after (omega (arith, edge-low)) ends.later;
-      within = ends.within limit ahead.within;
-      depths = λ p low. go p low (cases_lt p edge);
-      ends = ahead.ends;
-    }
-      where
-        go : (p : ℕ) → from ≤ p → (p < edge) ⊎ (edge ≤ p) → f p + up_to p stops_after ≡ depth + up_to p starts_after
-        go p low (inl before) =
-            omega (
-              arith,
-              edge-same p low before,
-              up_to-before (edge + 1) p starts_after begins.later (omega arith),
-              up_to-before (edge + 1) p stops_after ends.later (omega arith),
-            )
-        go p low (inr past) = omega (arith, same, ahead.depths p low, begins-up_to p past, ends-up_to p past)
+  -- past the last change it stays
+  pub IsAhead-end : ((passes : ℕ → Bool) → net passes edges ≡ pos 0) → (q : ℕ) → from ≤ q → f q ≡ depth
+  IsAhead-end none q low = omega (arith, ints, ahead.depths q low, none (λ n. nat_le n q))
 
-  -- past the last stop the depth stays
-  pub IsAhead-end : stops ≡ [] → (q : ℕ) → from ≤ q → f q ≡ depth
-  IsAhead-end none q low =
-      let far : ℕ = q + limit in
-      omega (
-        arith,
-        ahead.depths q low,
-        ap (up_to q) none,
-        ahead.depths far (omega arith),
-        ap (up_to far) none,
-        ahead.ends far (omega arith),
-        up_to-more q far starts (omega arith),
-      )
+-- so the next change of numbers is that of the depth
+pub Gives-next : (rank : ℕ) (old : Remaining) (o : Option (ℕ × ℤ)) (new : Remaining) → GivesChange old o new
+    → Gives (λ edges g f rank from d. IsAhead (f rank) from (sequence_length g rank) d edges) (λ _ _ _ _. Unit {0}) rank old o new
+Gives-next rank old (Some c) new gives = λ g f from d ahead.
+    let takes = gives from ahead.rise in (
+      IsChange-next (f rank) from (sequence_length g rank) d old ahead c.0 c.1 new takes,
+      IsAhead-next (f rank) from (sequence_length g rank) d old ahead c.0 c.1 new takes,
+    )
+Gives-next rank old None new gives = λ g f from d ahead. (IsAhead-end (f rank) from (sequence_length g rank) d old ahead (gives from ahead.rise), tt)
 
 -- ---- the records of one sequence
 
@@ -239,17 +222,6 @@ module _ (g : Sequences) (rank : ℕ) where
       go here some (inr begun) (inr past) rest =
           rw (depth-cons r rows rank p, here, le-leb r.start p begun, le-leb r.stop p past, le-ltb p r.stop past) (omega (arith, rest))
 
-  stops-within : (rows : List RecordValue) → All (IsOnGenome g) rows → AreWithin (sequence_length g rank) (map stop_of (on rank rows))
-  stops-within [] h = tt
-  stops-within (r ∷ rows) h =
-      let rest = stops-within rows (All-tail (IsOnGenome g) r rows h) in
-      elim (cases_Bool (r.seq == rank)) [
-        | inl here ↦
-            let stops : r.stop ≤ sequence_length g rank = subst (λ (s : ℕ). r.stop ≤ sequence_length g s) (eqb-true r.seq rank here) (All-head (IsOnGenome g) r rows h).within.1 in
-            rw here (stops, rest)
-        | inr off ↦ rw off rest
-      ]
-
   -- starts rise with the records
   starts-rise : (from : ℕ) (rows : List RecordValue) → AreInOrder rows → ((r : RecordValue) → Mem r rows → r.seq ≡ rank → from ≤ r.start) → Rise from (map start_of (on rank rows))
   starts-rise from [] order low = tt
@@ -281,16 +253,17 @@ module _ (g : Sequences) (rank : ℕ) where
         )
 
     -- so the intervals of the records on a sequence, and their stops in order, give the depth
-    pub IsAhead-begin : (stops : List ℕ) → AreInOrder rows → All (IsOnGenome g) rows → AreStopsOf places stops
-        → IsAhead (depth rows rank) 0 (sequence_length g rank) 0 (starts_of places) stops
-    IsAhead-begin stops order lie are =
+    pub IsAhead-begin : (stops : List ℕ) → AreInOrder rows → All (IsOnGenome g) rows → length rows < 2 ^ 63 → AreStopsOf places stops
+        → IsAhead (depth rows rank) 0 (sequence_length g rank) 0 (record { starts = starts_of places; stops = map (λ n. n) stops })
+    IsAhead-begin stops order lie few are =
         let on_it : here ≡ on rank rows = here_is ∙ ap (on rank) left_is ∙ from-here rank rows in
         let starts : starts_of places ≡ map start_of (on rank rows) = starts-are places here same ∙ ap (map start_of) on_it in
         let ends : stops_of places ≡ map stop_of (on rank rows) = stops-are places here same ∙ ap (map stop_of) on_it in
-        record {
-          starts_rise = rw starts (starts-rise 0 rows order (λ r m at. omega arith));
-          stops_rise = are.rise;
-          within = are.within (sequence_length g rank) (rw ends (stops-within rows lie));
-          depths = λ p low. omega (arith, are.sums p, ap (up_to p) starts, ap (up_to p) ends, edges-depth p rows lie);
+        rw (map-id stops) (record {
+          rise = record { starts = rw starts (starts-rise 0 rows order (λ r m at. omega arith)); stops = are.rise };
+          low = omega arith;
+          depths = λ p low.
+              omega (arith, ints, up_to-sum p (starts_of places), up_to-sum p stops, are.sums p, ap (up_to p) starts, ap (up_to p) ends, edges-depth p rows lie);
+          small = λ p. omega (arith, few, count_by-le-length (covers rank p) rows);
           ends = depth-ends g rows lie rank;
-        }
+        })

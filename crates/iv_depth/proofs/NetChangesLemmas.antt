@@ -1,5 +1,5 @@
 -- Net changes of depth, from starts and stops in order.
-use Rattle.std.proofs.Common.{◌≡◌, ◌≢◌, sym, ap, subst, ◌∙◌, ℕ, ◌+◌, ◌/◌, ◌%◌, ◌^◌, ◌<◌, ◌≤◌, ◌⊎◌, inl, inr, List, [], ◌∷◌, ◌++◌, length, map, refl, arith, true, false, Bool, ◌&&◌, eqb, leb, ltb, cond, Some, None, count_by, append_assoc, append-nil}
+use Rattle.std.proofs.Common.{◌≡◌, ◌≢◌, sym, ap, subst, ◌∙◌, ℕ, ◌+◌, ◌/◌, ◌%◌, ◌^◌, ◌<◌, ◌≤◌, ◌⊎◌, inl, inr, List, [], ◌∷◌, ◌++◌, map, refl, arith, true, false, Bool, ◌&&◌, eqb, leb, ltb, cond, Some, None, append_assoc, append-nil}
 use Rattle.std.specs.Prelude.{ℤ, pos, ◌+ℤ◌, ◌-ℤ◌, if◌then◌else◌}
 use Rattle.std.specs.Iterator.{Yields, Drains}
 use Rattle.std.specs.List.{AllByRecursion}
@@ -25,8 +25,8 @@ use Rattle.iv_cover.specs.Depth.{depth}
 use Rattle.iv_track.proofs.NumberOrder.{pair_total, pair_exact}
 use Rattle.iv_track.specs.Entries.{IsLedger, value_at, pair_cmp}
 use Rattle.iv_depth.specs.Changes.{ChangeKey, Entries, total, reaches, AreChangesOf}
-use Rattle.iv_depth.specs.Inside.Edges.{Rise, BeginsElse, PassesEdge}
-use Rattle.iv_depth.specs.Inside.NetChanges.{key_of, change_key_of, reached, AreEdgesOf, Keys, RiseFrom, net, IsLeast, SkipsKeys, TakesChange, GivesChange}
+use Rattle.iv_depth.specs.Inside.Edges.{Remaining, RiseFrom, net, TakesChange}
+use Rattle.iv_depth.specs.Inside.NetChanges.{key_of, change_key_of, reached, AreEdgesOf, GivesKeyChange}
 use Rattle.iv_depth.proofs.OrderLemmas.{rise-sorted}
 
 -- ---- keys
@@ -115,124 +115,49 @@ gathered-all rows left some_starts some_stops starts stops none g starts_moved s
     sum : (d s t d' s' t' : ℕ) → d + t ≡ s → d' ≡ d → s' ≡ s → t' ≡ t → d' + t' ≡ s'
     sum d s t d' s' t' e f g h = omega arith
 
--- ---- one key after another
-
--- keys are at themselves
-pub of-keys : (key count : ℕ) (old new : List ℕ) → (Rise key (map (λ k. k) old) → PassesEdge key count (map (λ k. k) old) (map (λ k. k) new))
-    → Rise key old → PassesEdge key count old new
-of-keys key count old new = rw (map-id old, map-id new) (λ h. h)
-
-pub skips-begin : (from : ℕ) (keys : Keys) → RiseFrom from keys → SkipsKeys from keys keys
-skips-begin from keys rise = record { sums = λ passes. refl; rise = rise }
-
-rise-lower : (low from : ℕ) (ns : List ℕ) → low ≤ from → Rise from ns → Rise low ns
-rise-lower low from [] le h = tt
-rise-lower low from (n ∷ ns) le h = (omega (arith, le, h.0), h.1)
-
-module _ (from key begun ended : ℕ) (old : Keys) (starts stops starts_after stops_after : List ℕ) (skips : SkipsKeys from old (record { starts = starts; stops = stops }))
-    (is : IsLeast starts stops key) (begins : Rise key starts → PassesEdge key begun starts starts_after) (ends : Rise key stops → PassesEdge key ended stops stops_after) where
-  starts-passed : PassesEdge key begun starts starts_after
-  starts-passed = begins (is.starts_rise from skips.rise.starts)
-
-  stops-passed : PassesEdge key ended stops stops_after
-  stops-passed = ends (is.stops_rise from skips.rise.stops)
-
-  key-low : from ≤ key
-  key-low = is.least from skips.rise.starts skips.rise.stops
-
-  -- what is passed at the key is the change there
-  net-passed : (z : ℤ) → pos ended +ℤ z ≡ pos begun → (passes : ℕ → Bool)
-      → net passes old ≡ (if passes key then z else pos 0) +ℤ net passes (record { starts = starts_after; stops = stops_after })
-  net-passed z sum passes = skips.sums passes ∙ go (passes key) _ _ _ _ (starts-passed.sums passes) (stops-passed.sums passes)
-    where
-      go : (here : Bool) (a b c d : ℕ) → a ≡ (if here then begun else 0) + b → c ≡ (if here then ended else 0) + d
-          → pos a -ℤ pos c ≡ (if here then z else pos 0) +ℤ (pos b -ℤ pos d)
-      go true a b c d e f = omega (arith, ints, sum, e, f)
-      go false a b c d e f = omega (arith, ints, e, f)
-
-  pub takes-change : (place : ChangeKey) (z : ℤ) → place ≡ change_key_of key → pos ended +ℤ z ≡ pos begun → begun ≢ ended
-      → TakesChange from old place z (record { starts = starts_after; stops = stops_after })
-  takes-change place z place_is sum other = record {
-    key = key;
-    is = place_is;
-    low = key-low;
-    other = λ none. other (omega (arith, ints, sum, none));
-    sums = net-passed z sum;
-    later = record { starts = starts-passed.later; stops = stops-passed.later };
-  }
-
-  pub skips-next : begun ≡ ended → SkipsKeys from old (record { starts = starts_after; stops = stops_after })
-  skips-next same = record {
-    sums = λ passes. net-passed (pos 0) (omega (arith, ints, same)) passes ∙ none (passes key) _;
-    rise = record {
-      starts = rise-lower from (key + 1) starts_after (omega (arith, key-low)) starts-passed.later;
-      stops = rise-lower from (key + 1) stops_after (omega (arith, key-low)) stops-passed.later;
-    };
-  }
-    where
-      none : (here : Bool) (z : ℤ) → (if here then pos 0 else pos 0) +ℤ z ≡ z
-      none true z = omega (arith, ints)
-      none false z = omega (arith, ints)
-
--- something is passed
-pub fewer-left : (key begun ended : ℕ) (starts stops starts_after stops_after : List ℕ) → IsLeast starts stops key
-    → (begun ≡ 0 → BeginsElse key starts) → (ended ≡ 0 → BeginsElse key stops)
-    → begun + length starts_after ≡ length starts → ended + length stops_after ≡ length stops
-    → length starts_after + length stops_after < length starts + length stops
-fewer-left key begun ended starts stops starts_after stops_after is no_start no_stop starts_len stops_len = go (cases_lt 0 begun) (cases_lt 0 ended)
-  where
-    go : (0 < begun) ⊎ (begun ≤ 0) → (0 < ended) ⊎ (ended ≤ 0) → length starts_after + length stops_after < length starts + length stops
-    go (inl some) b = omega (arith, some, starts_len, stops_len)
-    go (inr none) (inl some) = omega (arith, some, starts_len, stops_len)
-    go (inr none) (inr nothing) = absurd (is.first (no_start (omega (arith, none))) (no_stop (omega (arith, nothing))))
-
--- no key is left
-pub nothing-left : (from : ℕ) (old : Keys) (starts stops : List ℕ) → starts ≡ [] → stops ≡ [] → SkipsKeys from old (record { starts = starts; stops = stops })
-    → (passes : ℕ → Bool) → net passes old ≡ pos 0
-nothing-left from old starts stops no_starts no_stops skips passes =
-    skips.sums passes
-    ∙ ap (λ (l : List ℕ). pos (count_by passes l) -ℤ pos (count_by passes stops)) no_starts
-    ∙ ap (λ (l : List ℕ). pos 0 -ℤ pos (count_by passes l)) no_stops
-
 -- ---- all changes that keys give
 
 -- they are past a key that is below
-given-past : (keys : Keys) (from k : ℕ) (es : Entries) (last : Keys) → k < from → RiseFrom from keys → Yields GivesChange keys es last
+given-past : (keys : Remaining) (from k : ℕ) (es : Entries) (last : Remaining) → k < from → RiseFrom from keys → Yields GivesKeyChange keys es last
     → AllByRecursion (λ y. pair_cmp (change_key_of k) y ≡ Less) (keys_of es)
 given-past keys from k [] last low rise y = tt
 given-past keys from k (e ∷ es) last low rise y =
-    let t : TakesChange from keys e.0 e.1 y.0 = y.1 from rise in (
-      subst (λ (p : ChangeKey). pair_cmp (change_key_of k) p ≡ Less) (sym t.is) (key-order k t.key (omega (arith, low, t.low))),
-      given-past y.0 (t.key + 1) k es last (omega (arith, low, t.low)) t.later y.2,
+    let key : ℕ = y.1.0 in
+    let t : TakesChange from keys key e.1 y.0 = y.1.2 from rise in (
+      subst (λ (p : ChangeKey). pair_cmp (change_key_of k) p ≡ Less) (sym y.1.1) (key-order k key (omega (arith, low, t.low))),
+      given-past y.0 (key + 1) k es last (omega (arith, low, t.low)) t.later y.2,
     )
 
-pub given-ledger : (keys : Keys) (from : ℕ) (es : Entries) (last : Keys) → RiseFrom from keys → Yields GivesChange keys es last → IsLedger pair_cmp es
+pub given-ledger : (keys : Remaining) (from : ℕ) (es : Entries) (last : Remaining) → RiseFrom from keys → Yields GivesKeyChange keys es last → IsLedger pair_cmp es
 unfolding IsStrictlySortedBy
 given-ledger keys from [] last rise y = tt
 given-ledger keys from (e ∷ es) last rise y =
-    let t : TakesChange from keys e.0 e.1 y.0 = y.1 from rise in (
-      subst (λ (p : ChangeKey). AllByRecursion (λ q. pair_cmp p q ≡ Less) (keys_of es)) (sym t.is) (given-past y.0 (t.key + 1) t.key es last (omega arith) t.later y.2),
-      given-ledger y.0 (t.key + 1) es last t.later y.2,
+    let key : ℕ = y.1.0 in
+    let t : TakesChange from keys key e.1 y.0 = y.1.2 from rise in (
+      subst (λ (p : ChangeKey). AllByRecursion (λ q. pair_cmp p q ≡ Less) (keys_of es)) (sym y.1.1) (given-past y.0 (key + 1) key es last (omega arith) t.later y.2),
+      given-ledger y.0 (key + 1) es last t.later y.2,
     )
 
-given-others : (keys : Keys) (from : ℕ) (es : Entries) (last : Keys) → RiseFrom from keys → Yields GivesChange keys es last → AllByRecursion (λ z. z ≢ pos 0) (values_of es)
+given-others : (keys : Remaining) (from : ℕ) (es : Entries) (last : Remaining) → RiseFrom from keys → Yields GivesKeyChange keys es last → AllByRecursion (λ z. z ≢ pos 0) (values_of es)
 given-others keys from [] last rise y = tt
 given-others keys from (e ∷ es) last rise y =
-    let t : TakesChange from keys e.0 e.1 y.0 = y.1 from rise in
-    (t.other, given-others y.0 (t.key + 1) es last t.later y.2)
+    let key : ℕ = y.1.0 in
+    let t : TakesChange from keys key e.1 y.0 = y.1.2 from rise in
+    (t.other, given-others y.0 (key + 1) es last t.later y.2)
 
 module _ (passes : ChangeKey → Bool) where
   abbrev at_key : ℕ → Bool
   at_key key = passes (change_key_of key)
 
-  given-sums : (keys : Keys) (from : ℕ) (es : Entries) (last : Keys) → RiseFrom from keys → Yields GivesChange keys es last
+  given-sums : (keys : Remaining) (from : ℕ) (es : Entries) (last : Remaining) → RiseFrom from keys → Yields GivesKeyChange keys es last
       → ((low : ℕ) → RiseFrom low last → net at_key last ≡ pos 0) → total passes es ≡ net at_key keys
   given-sums keys from [] last rise y none = sym (none from (subst (RiseFrom from) y rise)) ∙ ap (net at_key) (sym y)
   given-sums keys from (e ∷ es) last rise y none =
-      let t : TakesChange from keys e.0 e.1 y.0 = y.1 from rise in
-      let rest : total passes es ≡ net at_key y.0 = given-sums y.0 (t.key + 1) es last t.later y.2 none in
+      let key : ℕ = y.1.0 in
+      let t : TakesChange from keys key e.1 y.0 = y.1.2 from rise in
+      let rest : total passes es ≡ net at_key y.0 = given-sums y.0 (key + 1) es last t.later y.2 none in
       ap (λ (z : ℤ). (if passes e.0 then e.1 else pos 0) +ℤ z) rest
-      ∙ ap (λ (p : ChangeKey). (if passes p then e.1 else pos 0) +ℤ net at_key y.0) t.is
+      ∙ ap (λ (p : ChangeKey). (if passes p then e.1 else pos 0) +ℤ net at_key y.0) y.1.1
       ∙ sym (t.sums at_key)
 
 -- ledgers with the same values are one
@@ -270,15 +195,16 @@ one-ledger (e ∷ es) (f ∷ fs) s t same =
         tail k keys (inr apart) =
             sym (lookup_tail (is_at (pair_cmp k)) e es apart) ∙ same k ∙ lookup_tail (is_at (pair_cmp k)) f fs (ap (is_at (pair_cmp k)) (sym keys) ∙ apart)
 
-pub edges-rise : (rows : List RecordValue) (starts stops : List ℕ) → AreEdgesOf rows starts stops → RiseFrom 0 (record { starts = starts; stops = stops })
-edges-rise rows starts stops h = record { starts = h.starts_rise; stops = h.stops_rise }
+pub edges-rise : (rows : List RecordValue) (starts stops : List ℕ) → AreEdgesOf rows starts stops
+    → RiseFrom 0 (record { starts = map (λ key. key) starts; stops = map (λ key. key) stops })
+edges-rise rows starts stops h = rw (map-id starts, map-id stops) (record { starts = h.starts_rise; stops = h.stops_rise })
 
 -- the changes that the edges of records give are those of the records
 pub edges-changes : (rows : List RecordValue) (starts stops : List ℕ) (es entries : Entries) → AreEdgesOf rows starts stops
-    → Drains GivesChange (record { starts = starts; stops = stops }) es → IsLedger pair_cmp entries
+    → Drains GivesKeyChange (record { starts = map (λ key. key) starts; stops = map (λ key. key) stops }) es → IsLedger pair_cmp entries
     → ((k : ChangeKey) → value_at pair_cmp entries k ≡ value_at pair_cmp es k) → AreChangesOf rows entries
 edges-changes rows starts stops es entries h run ordered same =
-    let keys : Keys = record { starts = starts; stops = stops } in
+    let keys : Remaining = record { starts = map (λ key. key) starts; stops = map (λ key. key) stops } in
     let rise : RiseFrom 0 keys = edges-rise rows starts stops h in
     let up : IsLedger pair_cmp es = given-ledger keys 0 es run.1.0 rise run.1.1 in
     subst (AreChangesOf rows) (sym (one-ledger entries es ordered up same)) (record {
@@ -286,7 +212,7 @@ edges-changes rows starts stops es entries h run ordered same =
       changes = All-from_recursion (λ z. z ≢ pos 0) (values_of es) (given-others keys 0 es run.1.0 rise run.1.1);
       depths = λ rank p.
           given-sums (reaches rank p) keys 0 es run.1.0 rise run.1.1 (λ low past. run.1.2 low past (λ key. reaches rank p (change_key_of key)))
-          ∙ difference _ _ _ (h.depths rank p);
+          ∙ rw (map-id starts, map-id stops) (difference _ _ _ (h.depths rank p));
     })
   where
     difference : (d t s : ℕ) → d + t ≡ s → pos s -ℤ pos t ≡ pos d

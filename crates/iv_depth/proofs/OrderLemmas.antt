@@ -1,14 +1,13 @@
 -- Stops in order.
-use Rattle.std.proofs.Common.{◌≡◌, ℕ, zero, suc, ◌+◌, ◌≤◌, List, [], ◌∷◌, length, take, refl, sym, ◌∙◌, ap, arith, All}
+use Rattle.std.proofs.Common.{◌≡◌, ℕ, ◌+◌, ◌≤◌, List, [], ◌∷◌, length, take, refl, sym, ◌∙◌, ap, arith}
 use Rattle.std.specs.List.Sorted.{IsPermutation, IsSorted, IsNonDecreasing}
 use Rattle.std.specs.Ordering.{nat_cmp}
-use Rattle.std.proofs.lemmas.List.Sorted.{All-permutation, IsNonDecreasingBy-drop, IsNonDecreasingBy-from_sort, sum_by-IsPermutation}
+use Rattle.std.proofs.lemmas.List.Sorted.{IsNonDecreasingBy-drop, IsNonDecreasingBy-from_sort, sum_by-IsPermutation}
 use Rattle.std.proofs.lemmas.List.Sums.{sum_by-cons}
 use Rattle.std.specs.Prelude.{sum_by, nat_le, if◌then◌else◌}
 use Rattle.std.proofs.lemmas.List.{take_all, length-map}
-use Rattle.std.proofs.lemmas.List.Elements.{All-head, All-tail}
 use Rattle.iv_index.specs.declared.span.Span.{Span}
-use Rattle.iv_depth.specs.Inside.Edges.{Rise, AreWithin, AreStopsOf, up_to, stops_of}
+use Rattle.iv_depth.specs.Inside.Edges.{Rise, AreStopsOf, up_to, stops_of}
 
 pub up_to-sum : (p : ℕ) (ns : List ℕ) → up_to p ns ≡ sum_by (λ n. if nat_le n p then 1 else 0) ns
 up_to-sum p [] = refl
@@ -22,19 +21,9 @@ rise-sorted (n ∷ m ∷ ns) h =
     let rest : Rise 0 (m ∷ ns) = rise-sorted (m ∷ ns) (IsNonDecreasingBy-drop (λ x. x) 1 (n ∷ m ∷ ns) h) in
     (omega arith, (h 0 1 0 (omega arith) (omega arith), rest.1))
 
-within-all : (limit : ℕ) (ns : List ℕ) → AreWithin limit ns → All (λ n. n ≤ limit) ns
-within-all limit [] h k e low = absurd (omega arith)
-within-all limit (n ∷ ns) h zero e low = h.0
-within-all limit (n ∷ ns) h (suc k) e low = within-all limit ns h.1 k e (omega arith)
-
-all-within : (limit : ℕ) (ns : List ℕ) → All (λ n. n ≤ limit) ns → AreWithin limit ns
-all-within limit [] h = tt
-all-within limit (n ∷ ns) h = (All-head (λ n. n ≤ limit) n ns h, all-within limit ns (All-tail (λ n. n ≤ limit) n ns h))
-
 pub AreStopsOf-sorted : (places : List Span) (stops : List ℕ) → IsPermutation (stops_of places) stops → IsSorted nat_cmp stops → AreStopsOf places stops
 AreStopsOf-sorted places stops same sorted = record {
   rise = rise-sorted stops (IsNonDecreasingBy-from_sort (λ x. x) stops sorted);
-  within = λ limit w. all-within limit stops (All-permutation (λ n. n ≤ limit) (stops_of places) stops same (within-all limit (stops_of places) w));
   sums = λ p. up_to-sum p stops ∙ sum_by-IsPermutation (λ n. if nat_le n p then 1 else 0) (stops_of places) stops same ∙ sym (up_to-sum p (stops_of places));
 }
 

@@ -88,10 +88,10 @@ rows-split All name f value from mid to low high same ends =
 rows-split EachPosition name f value from mid to low high same ends = each-split (position_row name) f value from mid to low high same
 
 -- so it is at a change
-pub rows-next : (shown : DepthRows) (name : List ℕ) (f : ℕ → ℕ) (start to long d depth stop : ℕ) (c : ℕ × ℤ) → IsChange f start long d c → to ≡ long → depth ≡ d → stop ≡ c.0
-    → rows_between shown name f start to ≡ rows_between shown name (λ _. depth) start stop ++ rows_between shown name f stop to
-rows-next shown name f start to long d depth stop c s same_end same at =
-    rw (same_end, same, at) (rows-split shown name f d start c.0 long s.low s.high s.same (λ low _. s.other low))
+pub rows-next : (shown : DepthRows) (name : List ℕ) (f : ℕ → ℕ) (start to long d depth : ℕ) (c : ℕ × ℤ) → IsChange f start long d c → to ≡ long → depth ≡ d
+    → rows_between shown name f start to ≡ rows_between shown name (λ _. depth) start c.0 ++ rows_between shown name f c.0 to
+rows-next shown name f start to long d depth c s same_end same =
+    rw (same_end, same) (rows-split shown name f d start c.0 long s.low s.high s.same (λ low _. s.other low))
 
 -- the last step: f is value on all that is left
 pub rows-end : (shown : DepthRows) (name : List ℕ) (f : ℕ → ℕ) (value from to : ℕ)

@@ -32,7 +32,7 @@ pub(crate) trait DepthChanges {
     /// The next position of the sequence of this rank at which the depth changes, and by how much. `None` if there is none.
     ///
     /// At most one step for a change, and none if there is no change.
-    fn next_on(&mut self, rank: u32, meter: &mut Self::Meter) -> Option<(u32, i64)>
+    fn next_on(&mut self, rank: u32, meter: &mut Self::Meter) -> Option<(u64, i64)>
         ensures change { Gives are_of are_past rank self.old result self.new }
         ensures fewer { OnSome result (left self.new < left self.old) }
         ensures steps { TakesForEach (reading meter.old) (reading meter.new) (left self.old) (left self.new) };
@@ -86,13 +86,13 @@ impl<'a, A: Allocator + Copy> DepthChanges for ChangeCursor<'a, A> {
 
     ghost are_past = { λ entries g f rank. AreAhead g f rank 0 0 entries };
 
-    fn next_on(&mut self, rank: u32, meter: &mut Meter) -> Option<(u32, i64)> {
+    fn next_on(&mut self, rank: u32, meter: &mut Meter) -> Option<(u64, i64)> {
         let ((sequence, position), change) = self.ahead?;
         if sequence != rank {
             return None;
         }
         self.ahead = read(&mut self.walk, meter);
-        Some((position, change))
+        Some((u64::from(position), change))
     }
 }
 

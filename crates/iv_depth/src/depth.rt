@@ -12,7 +12,8 @@ ghost use Rattle.iv_depth.specs.RegionRows.{covered_runs_in};
 
 use crate::changes::{Changes, add_record, take_record};
 use crate::depth_rows::{DepthRows, put_genome};
-use crate::net_changes::{NetChanges, edges_of};
+use crate::edges::Edges;
+use crate::net_changes::edges_of;
 use crate::region::{length_of, put_region};
 use iv_bytes::{Sink, WriteFault};
 use iv_cover::Kept;
@@ -56,12 +57,12 @@ impl<A: Allocator + Copy> Kept<A> for Depth<A> {
         meter: &mut Meter,
     ) -> Result<Depth<A>, AllocError> {
         let (starts, stops) = edges_of(alloc, track, meter)?;
-        let changes = NetChanges {
+        let edges = Edges {
             starts: starts.as_slice(),
             stops: stops.as_slice(),
         };
         Ok(Depth {
-            changes: Ledger::from_entries(alloc, changes)?,
+            changes: Ledger::from_entries(alloc, edges)?,
         })
     }
 

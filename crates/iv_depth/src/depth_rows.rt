@@ -121,8 +121,7 @@ pub(crate) fn put_sequence<A: Allocator + Copy, C: DepthChanges, S: Sink>(
     let length = genome.length_of(rank);
     let mut start: u64 = 0;
     let mut depth: i64 = 0;
-    while let Some((position, change)) = changes.next_on(rank, meter) {
-        let stop = u64::from(position);
+    while let Some((stop, change)) = changes.next_on(rank, meter) {
         put_stretch(shown, name, start, stop, depth.unsigned_abs(), sink)?;
         start = stop;
         depth += change;

@@ -7,6 +7,7 @@ ghost use Rattle.iv_index.specs.Inside.Spans.{span_records};
 ghost use Rattle.iv_depth.specs.Inside.Texts.{depth_text};
 ghost use Rattle.iv_depth.specs.Inside.Edges.{AreStopsOf};
 
+use crate::change_cursor::DepthChanges;
 use crate::depth_rows::{DepthRows, put_sequence};
 use crate::edges::Edges;
 use iv_bytes::{Sink, WriteFault};
@@ -14,6 +15,25 @@ use iv_index::{Span, order_nearly, split_sequence};
 use iv_text::Genome;
 use std::alloc::{AllocError, Allocator, Global};
 use std::marker::Model;
+
+impl<'a> DepthChanges for Edges<'a, Span, u32> {
+    ghost use Rattle.iv_text.specs.Genome.{sequence_length};
+    ghost use Rattle.iv_depth.specs.Inside.Edges.{IsAhead, edge_count};
+
+    type Meter = ();
+
+    ghost reading = { λ _. 0 };
+
+    ghost left = { edge_count };
+
+    ghost are_of = { λ edges g f rank from d. IsAhead (f rank) from (sequence_length g rank) d edges };
+
+    ghost are_past = { λ _ _ _ _. Unit {0} };
+
+    fn next_on(&mut self, _rank: u32, _meter: &mut ()) -> Option<(u64, i64)> {
+        self.next_change()
+    }
+}
 
 /// How many records cover each position: the intervals of the records, and room for one stop of each, 4 bytes.
 #[derive(Drop)]

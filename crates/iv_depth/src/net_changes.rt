@@ -1,13 +1,12 @@
 //! Net changes of depth, from where the records of a track start and stop.
-ghost use Rattle.std.specs.Prelude.{◌≡◌, [], IfOk, MatchOption};
+ghost use Rattle.std.specs.Prelude.{◌≡◌, IfOk};
 ghost use Rattle.std.specs.Iterator.{at_most};
-ghost use Rattle.iv_depth.specs.Inside.NetChanges.{AreEdgesOf, GivesChange, IsLeast, key_of, change_key_of};
+ghost use Rattle.iv_depth.specs.Inside.NetChanges.{AreEdgesOf, GivesKeyChange, key_of, change_key_of};
 
-use crate::edges::pass;
+use crate::edges::Edges;
 use iv_index::order_neighbors;
 use iv_track::{Meter, Track};
 use std::alloc::{AllocError, Allocator};
-use std::marker::Model;
 
 /// How many positions a rank has among the keys.
 const POSITIONS: u64 = 1 << 32;
@@ -52,53 +51,18 @@ fn unpacked(key: u64) -> (u32, u32)
     ((key / POSITIONS) as u32, (key % POSITIONS) as u32)
 }
 
-/// An iterator over the net changes at keys of starts and stops, in order. None is 0.
-///
-/// Its model is the keys that are left.
-#[derive(Drop)]
-pub(crate) struct NetChanges<'a> {
-    pub(crate) starts: &'a [u64],
-    pub(crate) stops: &'a [u64],
-}
-
-impl<'a> Model for NetChanges<'a> {
-    ghost use Rattle.iv_depth.specs.Inside.NetChanges.{Keys};
-
-    ghost Value = { Keys };
-
-    ghost view = { λ n. record { starts = n.starts.now; stops = n.stops.now } };
-}
-
-impl<'a> Iterator for NetChanges<'a> {
-    ghost use Rattle.std.specs.Prelude.{◌+◌, length};
+impl<'a> Iterator for Edges<'a, u64, u64> {
+    ghost use Rattle.iv_depth.specs.Inside.Edges.{edge_count};
 
     type Item = ((u32, u32), i64);
 
-    ghost next_gives = { GivesChange };
+    ghost next_gives = { GivesKeyChange };
 
-    ghost remaining = { λ keys. at_most (length keys.starts + length keys.stops) };
+    ghost remaining = { λ keys. at_most (edge_count keys) };
 
+    /// The next net change at keys of starts and stops, in order. None is 0.
     fn next(&mut self) -> Option<((u32, u32), i64)> {
-        while let Some(key) = least(self.starts, self.stops) {
-            let (begun, starts) = pass(self.starts, key);
-            let (ended, stops) = pass(self.stops, key);
-            self.starts = starts;
-            self.stops = stops;
-            if begun != ended {
-                return Some((unpacked(key), begun as i64 - ended as i64));
-            }
-        }
-        None
-    }
-}
-
-/// The least key at which a record starts or stops.
-fn least(starts: &[u64], stops: &[u64]) -> Option<u64>
-    ensures { MatchOption result ((starts.now ≡ []) × (stops.now ≡ [])) (λ key. IsLeast starts.now stops.now key) }
-{
-    match (starts.first(), stops.first()) {
-        (Some(start), Some(stop)) => Some((*start).min(*stop)),
-        (Some(start), None) => Some(*start),
-        (None, stop) => stop.copied(),
+        let (key, change) = self.next_change()?;
+        Some((unpacked(key), change))
     }
 }

@@ -1,5 +1,7 @@
 pub mod ComplementLemmas
 pub mod HalvesLemmas
+pub mod BlockLemmas
+pub mod BaseLineLemmas
 pub mod LineLemmas
 pub mod CutLemmas
 pub mod CompactedLemmas

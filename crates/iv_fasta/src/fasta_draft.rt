@@ -15,93 +15,17 @@ ghost use Rattle.iv_fasta.specs.Inside.Fasta.{is_blank, is_no_base};
 ghost use Rattle.iv_fasta.specs.Inside.BaseRanges.{bases_at, placed, EndsWithin, IsPlacedWithin};
 ghost use Rattle.iv_fasta.specs.Inside.Drafts.{cut, end_at, StartInOrder, StartInOrder-prop, sequence_at, drafted, headed, with_compacted_line, after_compacted_lines, with_header};
 
-use iv_text::{
-    ContentSeed, Genome, LoadCause, LoadFault, NameMap, is_bad_name, lines_of, split_line,
-};
+use crate::base_lines::{FirstLine, first_line};
+use crate::compacted_text::CompactedText;
+use iv_text::{ContentSeed, Genome, LoadCause, LoadFault, NameMap, is_bad_name, lines_of};
 use std::alloc::{AllocError, Allocator};
 use std::hash::{DefaultHasher, Hasher};
-use std::marker::Model;
 
 /// Where the bases of a sequence lie among all that are held.
 #[derive(Clone, Copy)]
 pub(crate) struct BaseRange {
     pub(crate) start: usize,
     pub(crate) stop: usize,
-}
-
-/// The text of a FASTA file while it is read: in front the bases that are held of it, at its end what remains to be read.
-///
-/// So the bases take no memory of their own. Its model is the pair of both.
-#[derive(Drop)]
-pub(crate) struct CompactedText<A: Allocator> {
-    bytes: Vec<u8, A>,
-    compacted: usize,
-    read: usize,
-}
-
-impl<A: Allocator> Model for CompactedText<A> {
-    ghost use Rattle.std.specs.Prelude.{take, drop, length, ◌≤◌};
-    ghost use Rattle.iv_fasta.specs.Inside.Drafts.{Halves};
-
-    ghost Value = { Halves };
-
-    ghost view = { λ t. record { compacted = take t.compacted t.bytes.items; coming = drop t.read t.bytes.items } };
-
-    ghost invariant = { λ t. (t.compacted ≤ t.read) × (t.read ≤ length t.bytes.items) };
-}
-
-impl<A: Allocator> CompactedText<A> {
-    /// A text of which nothing was read.
-    pub(crate) fn of(bytes: Vec<u8, A>) -> Self
-        ensures { result ≡ record { compacted = []; coming = bytes.items } }
-    {
-        CompactedText {
-            bytes,
-            compacted: 0,
-            read: 0,
-        }
-    }
-
-    /// How many bases are held.
-    pub(crate) fn count(&self) -> usize
-        ensures { result ≡ length self.now.compacted }
-    {
-        self.compacted
-    }
-
-    /// What remains to be read.
-    pub(crate) fn coming(&self) -> &[u8]
-        ensures { result.now ≡ self.now.coming }
-    {
-        &self.bytes[self.read..]
-    }
-
-    /// Reads so many bytes, and holds so many in front of them.
-    pub(crate) fn read(&mut self, bytes: usize, compacted: usize)
-        requires front { compacted ≤ bytes }
-        requires within { bytes ≤ length self.old.coming }
-        ensures compacted { self.new.compacted ≡ self.old.compacted ++ take compacted self.old.coming }
-        ensures coming { self.new.coming ≡ drop bytes self.old.coming }
-    {
-        self.bytes
-            .copy_within(self.read..self.read + compacted, self.compacted);
-        self.compacted += compacted;
-        self.read += bytes;
-    }
-
-    /// The bases that are held. The memory of the rest is given back.
-    pub(crate) fn into_compacted(self) -> Vec<u8, A>
-        ensures { result.items ≡ self.compacted }
-    {
-        let CompactedText {
-            mut bytes,
-            compacted,
-            ..
-        } = self;
-        bytes.truncate(compacted);
-        bytes.shrink_to_fit();
-        bytes
-    }
 }
 
 /// Whether a name ends before this byte.
@@ -121,17 +45,6 @@ pub(crate) fn before_blank(text: &[u8]) -> &[u8]
         }
     }
     text
-}
-
-/// Whether some byte is no base. It looks at all of them, so that the compiler looks at many in one step.
-pub(crate) fn has_no_base(line: &[u8]) -> bool
-    ensures { result ≡ list_any is_no_base line.now }
-{
-    let mut found = false;
-    for b in line {
-        found = found | (*b < 33 || *b > 126);
-    }
-    found
 }
 
 /// How many names are hashed before the next headers are looked at. So few take no time, whether or not they collide.
@@ -247,7 +160,11 @@ impl<A: Allocator + Copy> FastaDraft<A> {
         ensures err { IfErr result (λ c. (c ≡ cause.Memory) ⊎ (after_compacted_lines genome.now number (drafted self.old.headers self.old.text.compacted self.old.named) (lines self.old.text.coming)
             ≡ Err (record { line = number; cause = c }))) }
     {
-        let (line, next) = split_line(self.text.coming());
+        let FirstLine {
+            line,
+            next,
+            has_no_base,
+        } = first_line(self.text.coming());
         let count = line.len();
         if count == 0 {
             self.text.read(next, 0);
@@ -258,7 +175,7 @@ impl<A: Allocator + Copy> FastaDraft<A> {
             self.text.read(next, 0);
             return Ok(());
         }
-        self.check_bases(line)?;
+        self.check_bases(line, has_no_base)?;
         let compacted = if self.named { count } else { 0 };
         self.text.read(next, compacted);
         Ok(())
@@ -296,8 +213,9 @@ impl<A: Allocator + Copy> FastaDraft<A> {
         Ok(())
     }
 
-    /// Whether a line of bases may come here, or its fault.
-    fn check_bases(&self, line: &[u8]) -> Result<(), LoadCause>
+    /// Whether a line of bases may come here, or its fault. It is said whether some byte of it is no base.
+    fn check_bases(&self, line: &[u8], has_no_base: bool) -> Result<(), LoadCause>
+        requires { has_no_base ≡ list_any is_no_base line.now }
         ensures ok { OnOk result (with_compacted_line (drafted self.now.headers self.now.text.compacted self.now.named) line.now
             ≡ Ok (drafted self.now.headers (self.now.text.compacted ++ cond self.now.named line.now []) self.now.named)) }
         ensures err { IfErr result (λ c. with_compacted_line (drafted self.now.headers self.now.text.compacted self.now.named) line.now ≡ Err c) }
@@ -305,7 +223,7 @@ impl<A: Allocator + Copy> FastaDraft<A> {
         if self.headers.len() == 0 {
             return Err(LoadCause::BasesFirst);
         }
-        if has_no_base(line) {
+        if has_no_base {
             return Err(LoadCause::Base);
         }
         Ok(())

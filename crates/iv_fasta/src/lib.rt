@@ -1,6 +1,8 @@
 //! The FASTA file of a session, and the rows that are made with it: getfasta.
 #![tactic(auto)]
 
+mod base_lines;
+mod compacted_text;
 mod fasta;
 mod fasta_draft;
 mod lemmas;

@@ -1,5 +1,7 @@
 //! What bedtools has and bedkeep has not, and what to do instead.
+use crate::hint::Hint;
 use crate::vocabulary::lists;
+use std::alloc::AllocError;
 
 /// Subcommands that only bedtools has.
 const SUBCOMMANDS: &[u8] =
@@ -105,4 +107,13 @@ pub(crate) fn instead_of_subcommand(word: &[u8]) -> &'static [u8] {
         b"bamtobed" => b"bedtools bamtobed -i BAM | cut -f1-6 > FILE, and then a subcommand",
         _ => b"bedtools does it, over rows of bedkeep too",
     }
+}
+
+/// Puts that a subcommand or an option of bedtools is not there, and what to do instead.
+pub(crate) fn put_not_there(
+    word: &[u8],
+    instead: &[u8],
+    hint: &mut Hint,
+) -> Result<(), AllocError> {
+    hint.line(b"{} of bedtools isn't there: {}", &[word, instead])
 }

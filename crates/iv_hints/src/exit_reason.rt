@@ -3,7 +3,7 @@ use crate::damage::{Damage, IN_PARTS, put_too_many};
 use crate::files::{FRONT_BYTES, HintFiles, NoFile, front_of, line_of};
 use crate::hint::Hint;
 use crate::losses::put_loss;
-use crate::mistake::value_after;
+use crate::options::value_after;
 use crate::records::{count_columns, first_record};
 use crate::words::put_words;
 use itoa::Buffer;
@@ -38,7 +38,7 @@ pub fn hint_of<F: HintFiles>(
             &mut hint,
         )?,
         (ExitReason::Output, _) => put_output(line, &mut hint)?,
-        (ExitReason::Memory, _) => hint.line(&[IN_PARTS])?,
+        (ExitReason::Memory, _) => hint.say(IN_PARTS)?,
         (_, Ok(plan)) => put_of_plan(alloc, &plan, exit_reason, files, &mut hint)?,
         (_, Err(_)) => {}
     }
@@ -53,7 +53,7 @@ pub fn hint_of<F: HintFiles>(
 pub fn hint_of_no_words(alloc: Global, exit_reason: ExitReason) -> Result<Hint, AllocError> {
     let mut hint = Hint::new(alloc);
     if matches!(exit_reason, ExitReason::Words(_)) {
-        hint.line(&[b"a word of the command line isn't UTF-8 text: give the file another name"])?;
+        hint.say(b"a word of the command line isn't UTF-8 text: give the file another name")?;
     }
     Ok(hint)
 }
@@ -66,9 +66,9 @@ pub fn hint_of_no_words(alloc: Global, exit_reason: ExitReason) -> Result<Hint, 
 pub fn hint_of_session(alloc: Global, words: &[&[u8]]) -> Result<Hint, AllocError> {
     let mut hint = Hint::new(alloc);
     if Plan::read(alloc, words).is_ok_and(|plan| plan.is_script()) {
-        hint.line(&[
+        hint.say(
             b"a session reads its script here; python3 -m bedkeep.curate is made for typing (see bedkeep session --help)",
-        ])?;
+        )?;
     }
     Ok(hint)
 }
@@ -76,12 +76,10 @@ pub fn hint_of_session(alloc: Global, words: &[&[u8]]) -> Result<Hint, AllocErro
 /// Puts the line of a script.
 fn put_script_line(line: u64, text: &[u8], hint: &mut Hint) -> Result<(), AllocError> {
     let mut digits = Buffer::new();
-    hint.line(&[
-        b"line ",
-        digits.format(line).as_bytes(),
-        b" of the script",
-        text,
-    ])
+    hint.line(
+        b"line {} of the script{}",
+        &[digits.format(line).as_bytes(), text],
+    )
 }
 
 /// Puts how far the output came.
@@ -89,9 +87,9 @@ fn put_output(line: u64, hint: &mut Hint) -> Result<(), AllocError> {
     if line > 0 {
         put_script_line(line, b": the lines before it were carried out", hint)?;
     }
-    hint.line(&[
+    hint.say(
         b"if the reader of a pipe has ended, as head does, it got all rows before; otherwise the disk may be full",
-    ])
+    )
 }
 
 /// Puts the hint of a run whose arguments ask for a plan.
@@ -112,8 +110,8 @@ fn put_of_plan<F: HintFiles>(
         ExitReason::Unreadable(_) if matches!(name, b"-" | b"stdin") => put_stdin(plan, hint),
         ExitReason::Unreadable(_) => put_unreadable(alloc, name, files, hint),
         ExitReason::TooLong(_) => {
-            hint.line(&[b"a file has at most 4294967295 bytes"])?;
-            hint.line(&[IN_PARTS])
+            hint.say(b"a file has at most 4294967295 bytes")?;
+            hint.say(IN_PARTS)
         }
         ExitReason::Words(fault) => put_columns(alloc, plan, fault.code(), files, hint),
         _ => Ok(()),
@@ -147,7 +145,7 @@ fn put_columns<F: HintFiles>(
     if has_record {
         return Ok(());
     }
-    hint.line(&[b"the file has no record: -width 6 says that records of it would have six columns"])
+    hint.say(b"the file has no record: -width 6 says that records of it would have six columns")
 }
 
 /// Puts which column the words of a view ask for, of records of this width.
@@ -160,21 +158,18 @@ pub(crate) fn put_missing_column(
     let mut digits = Buffer::new();
     let width_text = digits.format(width).as_bytes();
     if code == 18 {
-        return hint.line(&[
-            b"-s needs six columns, and the records have ",
-            width_text,
-            b": leave it out, or give records with a strand",
-        ]);
+        return hint.line(
+            b"-s needs six columns, and the records have {}: leave it out, or give records with a strand",
+            &[width_text],
+        );
     }
     let list = value_after(words, b"-c").unwrap_or(b"");
     for item in list.split(|byte| *byte == b',') {
         if read_number(item).is_none_or(|number| number == 0 || number as usize > width) {
-            return hint.line(&[
-                b"-c ",
-                item,
-                b": the records have columns 1 to ",
-                width_text,
-            ]);
+            return hint.line(
+                b"-c {}: the records have columns 1 to {}",
+                &[item, width_text],
+            );
         }
     }
     Ok(())
@@ -212,9 +207,9 @@ fn put_damage<F: HintFiles>(
 /// Puts how standard input is named.
 fn put_stdin(plan: &Plan<'_>, hint: &mut Hint) -> Result<(), AllocError> {
     if plan.is_script() {
-        return hint.line(&[b"standard input is the script: <(..) of bash is a file too"]);
+        return hint.say(b"standard input is the script: <(..) of bash is a file too");
     }
-    hint.line(&[b"standard input as a file is /dev/stdin"])
+    hint.say(b"standard input as a file is /dev/stdin")
 }
 
 /// Puts why a file can't be read.
@@ -227,30 +222,29 @@ fn put_unreadable<F: HintFiles>(
     match files.open(name) {
         Err(NoFile::Missing) => put_missing_file(alloc, name, hint),
         Err(NoFile::Directory) => {
-            hint.line(&[
-                b"it is a directory, and no file: ls ",
-                name,
-                b" shows its files",
-            ])
+            hint.line(
+                b"it is a directory, and no file: ls {} shows its files",
+                &[name],
+            )
         }
         Err(NoFile::Forbidden) => {
-            hint.line(&[b"the system doesn't allow to read it: ls -l shows whose it is"])
+            hint.say(b"the system doesn't allow to read it: ls -l shows whose it is")
         }
-        _ => hint.line(&[b"the system failed to read it to its end"]),
+        _ => hint.say(b"the system failed to read it to its end"),
     }
 }
 
 /// Puts that there is no file of a name, which may be several names.
 fn put_missing_file(alloc: Global, name: &[u8], hint: &mut Hint) -> Result<(), AllocError> {
     match name {
-        [] => return hint.line(&[b"the name is empty: is a variable of the shell not set?"]),
+        [] => return hint.say(b"the name is empty: is a variable of the shell not set?"),
         [b'~', ..] => {
-            return hint.line(&[
+            return hint.say(
                 b"there is no such file: the shell knows ~, and not in quotes: write the folder, or $HOME",
-            ]);
+            );
         }
         _ if !name.contains(&b',') => {
-            return hint.line(&[b"there is no such file: ls shows those that there are"]);
+            return hint.say(b"there is no such file: ls shows those that there are");
         }
         _ => {}
     }
@@ -258,9 +252,8 @@ fn put_missing_file(alloc: Global, name: &[u8], hint: &mut Hint) -> Result<(), A
     for byte in name {
         names.push(if *byte == b',' { b' ' } else { *byte })?;
     }
-    hint.line(&[
-        b"there is no such file; one file comes after an option: of several, <(cat ",
-        names.as_slice(),
-        b")",
-    ])
+    hint.line(
+        b"there is no such file; one file comes after an option: of several, <(cat {})",
+        &[names.as_slice()],
+    )
 }

@@ -3,39 +3,133 @@ use crate::hint::Hint;
 use crate::records::{column, count_columns, count_of, is_number};
 use std::alloc::AllocError;
 
-/// What a file looks like.
-#[derive(Clone, Copy, Debug, PartialEq, Eq)]
-pub(crate) enum FileKind {
-    Bam,
-    Bgzip,
-    Gzip,
-    Cram,
-    Mark,
-    Wide,
-    Packed,
-    Binary,
-    Page,
-    Sam,
-    Returns,
-    Vcf,
-    Gff,
-    Fasta,
-    Spaces,
-    Mixed,
-    Commas,
-    Semicolons,
-    Region,
-    Quotes,
-    Heading,
-    Blank,
-    MoreColumns,
+/// What a file or a line of it looks like, and what to do.
+#[derive(Clone, Copy)]
+pub(crate) struct FileKind {
+    what: &'static [u8],
+    remedy: &'static [u8],
 }
 
+const BAM: FileKind = FileKind {
+    what: b"the file is BAM",
+    remedy: b"bedtools bamtobed -i FILE writes BED, with /dev/stdin as the file",
+};
+
+const BGZIP: FileKind = FileKind {
+    what: b"the file is compressed by bgzip",
+    remedy: b"zcat FILE, with /dev/stdin as the file; if it is BAM, bedtools bamtobed -i FILE",
+};
+
+const GZIP: FileKind = FileKind {
+    what: b"the file is compressed by gzip",
+    remedy: b"zcat FILE, with /dev/stdin as the file, or <(zcat FILE)",
+};
+
+const CRAM: FileKind = FileKind {
+    what: b"the file is CRAM",
+    remedy: b"samtools view -b FILE | bedtools bamtobed -i stdin writes BED, with /dev/stdin as the file",
+};
+
+const MARK: FileKind = FileKind {
+    what: b"the line begins with a byte order mark",
+    remedy: b"sed '1s/^\\xEF\\xBB\\xBF//' FILE takes it away",
+};
+
+const WIDE: FileKind = FileKind {
+    what: b"the file is UTF-16",
+    remedy: b"iconv -f UTF-16 -t UTF-8 FILE writes what is read",
+};
+
+const PACKED: FileKind = FileKind {
+    what: b"the file is a workbook or another zip",
+    remedy: b"save the sheet as text separated by TABs, or take the file out by unzip",
+};
+
+const BINARY: FileKind = FileKind {
+    what: b"the file isn't text",
+    remedy: b"a file is TAB-separated text, as in bedkeep --help",
+};
+
+const PAGE: FileKind = FileKind {
+    what: b"the file is a page of the web",
+    remedy: b"download the file itself: curl -fLO ADDRESS",
+};
+
+const SAM: FileKind = FileKind {
+    what: b"the file looks like SAM",
+    remedy: b"samtools view -b FILE | bedtools bamtobed -i stdin writes BED, with /dev/stdin as the file",
+};
+
+const RETURNS: FileKind = FileKind {
+    what: b"lines end in CR alone",
+    remedy: b"tr '\\r' '\\n' < FILE mends them",
+};
+
+const VCF: FileKind = FileKind {
+    what: b"the file looks like VCF",
+    remedy: b"write BED: awk -F '\\t' -v OFS='\\t' '!/^#/ { print $1, $2 - 1, $2 - 1 + length($4) }' FILE",
+};
+
+const GFF: FileKind = FileKind {
+    what: b"the file looks like GFF or GTF",
+    remedy: b"write BED: awk -F '\\t' -v OFS='\\t' '!/^#/ { print $1, $4 - 1, $5, $3, \".\", $7 }' FILE",
+};
+
+const FASTA: FileKind = FileKind {
+    what: b"the file looks like FASTA",
+    remedy: b"a BED file has a sequence, a start and an end on each line",
+};
+
+const SPACES: FileKind = FileKind {
+    what: b"the line has spaces and no TAB",
+    remedy: b"sed 's/  */\\t/g' FILE writes TABs",
+};
+
+const MIXED: FileKind = FileKind {
+    what: b"the line has spaces beside its TABs",
+    remedy: b"sed 's/  */\\t/g' FILE writes TABs",
+};
+
+const COMMAS: FileKind = FileKind {
+    what: b"the line has commas and no TAB",
+    remedy: b"tr ',' '\\t' < FILE writes TABs",
+};
+
+const SEMICOLONS: FileKind = FileKind {
+    what: b"the line has semicolons and no TAB",
+    remedy: b"tr ';' '\\t' < FILE writes TABs",
+};
+
+const REGION: FileKind = FileKind {
+    what: b"the line has a sequence, a start and an end in one column",
+    remedy: b"sed -E 's/:([0-9]+)-/\\t\\1\\t/' FILE makes three of it; a start that counts from 1 is one too great",
+};
+
+const QUOTES: FileKind = FileKind {
+    what: b"the line has quotes",
+    remedy: b"tr -d '\"' < FILE takes them away",
+};
+
+pub(crate) const HEADING: FileKind = FileKind {
+    what: b"the line looks like a heading",
+    remedy: b"sed 1d FILE deletes the first line, or begin it with #",
+};
+
+const BLANK: FileKind = FileKind {
+    what: b"the line has TABs alone",
+    remedy: b"sed '/^\\t*$/d' FILE deletes such lines",
+};
+
+const MORE_COLUMNS: FileKind = FileKind {
+    what: b"the line has more than six columns, as BED12 and narrowPeak have",
+    remedy: b"cut -f1-6 FILE keeps six",
+};
+
 /// What a file that gzip has compressed begins with.
-pub(crate) const GZIP: &[u8] = b"\x1f\x8b";
+pub(crate) const GZIP_FRONT: &[u8] = b"\x1f\x8b";
 
 /// What bgzip and BAM begin with: a block of gzip with a field of its own.
-const BLOCKED_GZIP: &[u8] = b"\x1f\x8b\x08\x04";
+const BLOCKED_GZIP_FRONT: &[u8] = b"\x1f\x8b\x08\x04";
 
 /// What some editors put at the front of a file.
 pub(crate) const BYTE_ORDER_MARK: &[u8] = b"\xef\xbb\xbf";
@@ -67,28 +161,28 @@ impl FileKind {
 
     /// What any file looks like, given its name, its front and its damaged line.
     pub(crate) fn of_any(name: &[u8], front: &[u8], line: &[u8]) -> Option<FileKind> {
-        if front.starts_with(GZIP) {
+        if front.starts_with(GZIP_FRONT) {
             Some(FileKind::of_gzip(name, front))
         } else if front.starts_with(b"CRAM") {
-            Some(FileKind::Cram)
+            Some(CRAM)
         } else if line.starts_with(BYTE_ORDER_MARK) {
-            Some(FileKind::Mark)
+            Some(MARK)
         } else if front.starts_with(b"\xff\xfe") || front.starts_with(b"\xfe\xff") {
-            Some(FileKind::Wide)
+            Some(WIDE)
         } else if front.starts_with(b"PK\x03\x04") {
-            Some(FileKind::Packed)
+            Some(PACKED)
         } else if line.iter().any(|byte| is_binary(*byte)) {
-            Some(FileKind::Binary)
+            Some(BINARY)
         } else if has_inner_return(line) {
-            Some(FileKind::Returns)
+            Some(RETURNS)
         } else if line.starts_with(b"<") {
-            Some(FileKind::Page)
+            Some(PAGE)
         } else if count_columns(line) < 2 && count_of(line, b' ') > 0 && !line.starts_with(b">") {
-            Some(FileKind::Spaces)
+            Some(SPACES)
         } else if count_columns(line) < 2 && count_of(line, b',') > 0 {
-            Some(FileKind::Commas)
+            Some(COMMAS)
         } else if count_columns(line) < 2 && count_of(line, b';') > 0 {
-            Some(FileKind::Semicolons)
+            Some(SEMICOLONS)
         } else {
             None
         }
@@ -96,144 +190,48 @@ impl FileKind {
 
     /// What a compressed file holds: of a file of blocks its name shows whether that is BAM.
     pub(crate) fn of_gzip(name: &[u8], front: &[u8]) -> FileKind {
-        if !front.starts_with(BLOCKED_GZIP) {
-            FileKind::Gzip
+        if !front.starts_with(BLOCKED_GZIP_FRONT) {
+            GZIP
         } else if name.ends_with(b".bam") {
-            FileKind::Bam
+            BAM
         } else {
-            FileKind::Bgzip
+            BGZIP
         }
     }
 
     /// What a BED file looks like that is text.
     fn of_line(front: &[u8], line: &[u8]) -> Option<FileKind> {
         if front.starts_with(b"##fileformat=VCF") || front.starts_with(b"#CHROM") {
-            Some(FileKind::Vcf)
+            Some(VCF)
         } else if count_columns(line) >= 8
             && is_number(line, 3)
             && is_number(line, 4)
             && !is_number(line, 1)
         {
-            Some(FileKind::Gff)
+            Some(GFF)
         } else if line.starts_with(b">") {
-            Some(FileKind::Fasta)
+            Some(FASTA)
         } else if matches!(line, [b'@', b'A'..=b'Z', b'A'..=b'Z', b'\t', ..]) {
-            Some(FileKind::Sam)
+            Some(SAM)
         } else if count_columns(line) == 2 && count_of(line, b' ') > 0 {
-            Some(FileKind::Mixed)
+            Some(MIXED)
         } else if count_columns(line) < 2 && count_of(line, b':') > 0 && count_of(line, b'-') > 0 {
-            Some(FileKind::Region)
+            Some(REGION)
         } else if line.starts_with(b"\"") {
-            Some(FileKind::Quotes)
+            Some(QUOTES)
         } else if !line.is_empty() && line.iter().all(|byte| *byte == b'\t') {
-            Some(FileKind::Blank)
+            Some(BLANK)
         } else if is_heading(line) {
-            Some(FileKind::Heading)
+            Some(HEADING)
         } else if count_columns(line) > 6 && is_number(line, 1) && is_number(line, 2) {
-            Some(FileKind::MoreColumns)
+            Some(MORE_COLUMNS)
         } else {
             None
         }
     }
 
-    /// What it is, and what to do.
-    fn text(self) -> (&'static [u8], &'static [u8]) {
-        match self {
-            FileKind::Bam => (
-                b"the file is BAM",
-                b"bedtools bamtobed -i FILE writes BED, with /dev/stdin as the file",
-            ),
-            FileKind::Cram => (
-                b"the file is CRAM",
-                b"samtools view -b FILE | bedtools bamtobed -i stdin writes BED, with /dev/stdin as the file",
-            ),
-            FileKind::Bgzip => (
-                b"the file is compressed by bgzip",
-                b"zcat FILE, with /dev/stdin as the file; if it is BAM, bedtools bamtobed -i FILE",
-            ),
-            FileKind::Gzip => (
-                b"the file is compressed by gzip",
-                b"zcat FILE, with /dev/stdin as the file, or <(zcat FILE)",
-            ),
-            FileKind::Mark => (
-                b"the line begins with a byte order mark",
-                b"sed '1s/^\\xEF\\xBB\\xBF//' FILE takes it away",
-            ),
-            FileKind::Wide => (
-                b"the file is UTF-16",
-                b"iconv -f UTF-16 -t UTF-8 FILE writes what is read",
-            ),
-            FileKind::Packed => (
-                b"the file is a workbook or another zip",
-                b"save the sheet as text separated by TABs, or take the file out by unzip",
-            ),
-            FileKind::Page => (
-                b"the file is a page of the web",
-                b"download the file itself: curl -fLO ADDRESS",
-            ),
-            FileKind::Sam => (
-                b"the file looks like SAM",
-                b"samtools view -b FILE | bedtools bamtobed -i stdin writes BED, with /dev/stdin as the file",
-            ),
-            FileKind::Binary => (
-                b"the file isn't text",
-                b"a file is TAB-separated text, as in bedkeep --help",
-            ),
-            FileKind::Returns => (
-                b"lines end in CR alone",
-                b"tr '\\r' '\\n' < FILE mends them",
-            ),
-            FileKind::Vcf => (
-                b"the file looks like VCF",
-                b"write BED: awk -F '\\t' -v OFS='\\t' '!/^#/ { print $1, $2 - 1, $2 - 1 + length($4) }' FILE",
-            ),
-            FileKind::Gff => (
-                b"the file looks like GFF or GTF",
-                b"write BED: awk -F '\\t' -v OFS='\\t' '!/^#/ { print $1, $4 - 1, $5, $3, \".\", $7 }' FILE",
-            ),
-            FileKind::Fasta => (
-                b"the file looks like FASTA",
-                b"a BED file has a sequence, a start and an end on each line",
-            ),
-            FileKind::Spaces => (
-                b"the line has spaces and no TAB",
-                b"sed 's/  */\\t/g' FILE writes TABs",
-            ),
-            FileKind::Mixed => (
-                b"the line has spaces beside its TABs",
-                b"sed 's/  */\\t/g' FILE writes TABs",
-            ),
-            FileKind::Semicolons => (
-                b"the line has semicolons and no TAB",
-                b"tr ';' '\\t' < FILE writes TABs",
-            ),
-            FileKind::Region => (
-                b"the line has a sequence, a start and an end in one column",
-                b"sed -E 's/:([0-9]+)-/\\t\\1\\t/' FILE makes three of it; a start that counts from 1 is one too great",
-            ),
-            FileKind::Commas => (
-                b"the line has commas and no TAB",
-                b"tr ',' '\\t' < FILE writes TABs",
-            ),
-            FileKind::Quotes => (b"the line has quotes", b"tr -d '\"' < FILE takes them away"),
-            FileKind::Heading => (
-                b"the line looks like a heading",
-                b"sed 1d FILE deletes the first line, or begin it with #",
-            ),
-            FileKind::Blank => (
-                b"the line has TABs alone",
-                b"sed '/^\\t*$/d' FILE deletes such lines",
-            ),
-            FileKind::MoreColumns => (
-                b"the line has more than six columns, as BED12 and narrowPeak have",
-                b"cut -f1-6 FILE keeps six",
-            ),
-        }
-    }
-
     /// Puts it, in a line.
     pub(crate) fn put(self, hint: &mut Hint) -> Result<(), AllocError> {
-        let (what, remedy) = self.text();
-        hint.line(&[what, b": ", remedy])
+        hint.line(b"{}: {}", &[self.what, self.remedy])
     }
 }

@@ -96,8 +96,8 @@ impl Hint {
         Ok(())
     }
 
-    /// Adds a line of these pieces, one after another, unless there are three.
-    pub(crate) fn line(&mut self, pieces: &[&[u8]]) -> Result<(), AllocError> {
+    /// Adds a line, unless there are three: a text in which each `{}` stands for the next of the values.
+    pub(crate) fn line(&mut self, text: &[u8], values: &[&[u8]]) -> Result<(), AllocError> {
         if self.lines >= MOST_LINES {
             return Ok(());
         }
@@ -109,23 +109,42 @@ impl Hint {
             self.escape(digits.format(self.number).as_bytes())?;
             self.escape(b": ")?;
         }
-        for piece in pieces {
-            self.escape(piece)?;
-        }
+        self.fill(text, values)?;
         self.end_line()
     }
 
-    /// Adds a line of six pieces, which may live for different times; some may be empty.
+    /// Adds a text in which each `{}` stands for the next of the values.
+    fn fill(&mut self, text: &[u8], values: &[&[u8]]) -> Result<(), AllocError> {
+        let mut parts = text.split(|byte| *byte == b'{');
+        let mut values = values.iter();
+        self.escape(parts.next().unwrap_or(b""))?;
+        for part in parts {
+            if let Some(rest) = part.strip_prefix(b"}") {
+                self.escape(values.next().copied().unwrap_or(b""))?;
+                self.escape(rest)?;
+            } else {
+                self.push(b'{')?;
+                self.escape(part)?;
+            }
+        }
+        Ok(())
+    }
+
+    /// Adds a line without a value, unless there are three.
+    pub(crate) fn say(&mut self, text: &[u8]) -> Result<(), AllocError> {
+        self.line(b"{}", &[text])
+    }
+
+    /// Adds a line with four values, which may live for different times; some may be empty.
     pub(crate) fn join(
         &mut self,
+        text: &[u8],
         first: &[u8],
         second: &[u8],
         third: &[u8],
         fourth: &[u8],
-        fifth: &[u8],
-        sixth: &[u8],
     ) -> Result<(), AllocError> {
-        self.line(&[first, second, third, fourth, fifth, sixth])
+        self.line(text, &[first, second, third, fourth])
     }
 
     /// Ends a line, unless three have ended.
@@ -142,7 +161,10 @@ impl Hint {
         let cut = quoted_front(text);
         let more: &[u8] = if cut.len() < text.len() { b" .." } else { b"" };
         let mut digits = Buffer::new();
-        self.line(&[b"line ", digits.format(number).as_bytes(), b": ", cut, more])
+        self.line(
+            b"line {}: {}{}",
+            &[digits.format(number).as_bytes(), cut, more],
+        )
     }
 
     /// Adds a text, with an escape for each byte that is no character of ASCII that is shown.

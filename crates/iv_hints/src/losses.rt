@@ -1,7 +1,7 @@
 //! What a run that ended well has lost in silence.
 use crate::files::{FRONT_BYTES, HintFiles, front_of};
 use crate::hint::Hint;
-use crate::mistake::value_after;
+use crate::options::value_after;
 use crate::records::{alike_in, column, is_digits, is_record, length_in};
 use crate::values::shown;
 use itoa::Buffer;
@@ -26,9 +26,9 @@ pub(crate) fn put_loss<F: HintFiles>(
 ) -> Result<(), AllocError> {
     let genome = front_of(alloc, files, plan.sizes_file(), BYTES)?;
     if is_bed(genome.bytes.as_slice()) {
-        return hint.line(&[
+        return hint.say(
             b"all lengths of the genome file are 0; it looks like a BED file: cut -f1,3 GENOME makes a genome file of it",
-        ]);
+        );
     }
     match plan.run() {
         Subcommand::Merge => put_fraction(alloc, plan, files, hint),
@@ -59,12 +59,10 @@ fn put_headers<F: HintFiles>(
         return Ok(());
     }
     let mut digits = Buffer::new();
-    hint.line(&[
-        b"track and browser lines are no records, and no row has them; lines of ",
-        plan.first_file(),
-        b" that are such: ",
-        digits.format(count).as_bytes(),
-    ])
+    hint.line(
+        b"track and browser lines are no records, and no row has them; lines of {} that are such: {}",
+        &[plan.first_file(), digits.format(count).as_bytes()],
+    )
 }
 
 /// Whether the lines of a genome file have the length 0 and a number after it.
@@ -164,20 +162,16 @@ fn put_unread(
     hint: &mut Hint,
 ) -> Result<(), AllocError> {
     let shown_value = shown(value);
-    hint.line(&[
-        b"column ",
-        asked,
-        b" has ",
-        shown_value,
-        b", which is no whole number",
-    ])?;
+    hint.line(
+        b"column {} has {}, which is no whole number",
+        &[asked, shown_value],
+    )?;
     let mut digits = Buffer::new();
     let number = digits.format(count).as_bytes();
-    hint.line(&[
-        operation,
-        b" reads whole numbers alone, and prints . for a block with another value; such values in the first 1000 lines: ",
-        number,
-    ])
+    hint.line(
+        b"{} reads whole numbers alone, and prints . for a block with another value; such values in the first 1000 lines: {}",
+        &[operation, number],
+    )
 }
 
 /// The name of a header of a FASTA file, if the line is one.
@@ -281,28 +275,26 @@ fn put_count(bed: &[u8], fasta: &[u8], hint: &mut Hint) -> Result<(), AllocError
     }
     let mut first = Buffer::new();
     let mut second = Buffer::new();
-    hint.line(&[
-        b"records without a row: ",
-        first.format(missing).as_bytes(),
-        b" of the first ",
-        second.format(all).as_bytes(),
-    ])
+    hint.line(
+        b"records without a row: {} of the first {}",
+        &[
+            first.format(missing).as_bytes(),
+            second.format(all).as_bytes(),
+        ],
+    )
 }
 
 /// Puts that a FASTA file lacks a name.
 fn put_names(name: &[u8], header: &[u8], hint: &mut Hint) -> Result<(), AllocError> {
-    hint.line(&[
-        b"the FASTA file has no ",
-        name,
-        b" (its first sequence is ",
-        header,
-        b"), and getfasta prints nothing for it",
-    ])?;
+    hint.line(
+        b"the FASTA file has no {} (its first sequence is {}), and getfasta prints nothing for it",
+        &[name, header],
+    )?;
     if name.strip_prefix(b"chr").is_some_and(|rest| rest == header) {
-        return hint.line(&[b"names have to be the same: sed 's/^>/>chr/' FASTA"]);
+        return hint.say(b"names have to be the same: sed 's/^>/>chr/' FASTA");
     }
     if header.strip_prefix(b"chr").is_some_and(|rest| rest == name) {
-        return hint.line(&[b"names have to be the same: sed 's/^>chr/>/' FASTA"]);
+        return hint.say(b"names have to be the same: sed 's/^>chr/>/' FASTA");
     }
-    hint.line(&[b"names have to be the same: grep '^>' FASTA prints those of the FASTA file"])
+    hint.say(b"names have to be the same: grep '^>' FASTA prints those of the FASTA file")
 }

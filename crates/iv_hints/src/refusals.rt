@@ -181,7 +181,7 @@ impl<'a> Refused<'a> {
         let found = first.format(fields).as_bytes();
         let width = second.format(self.width).as_bytes();
         let columns = columns_and(fields);
-        hint.line(&[found, columns, file, b" has ", width, remedy])
+        hint.line(b"{}{}{} has {}{}", &[found, columns, file, width, remedy])
     }
 
     /// Puts which sequence is unknown.
@@ -194,21 +194,16 @@ impl<'a> Refused<'a> {
             return put_spaced(b"the name", name, hint);
         }
         if has_name(self.genome, next) && !self.has_region() {
-            return hint.line(&[
-                next,
-                b" is a sequence, and ",
-                name,
-                b" before it isn't: a record begins with its sequence",
-            ]);
+            return hint.line(
+                b"{} is a sequence, and {} before it isn't: a record begins with its sequence",
+                &[next, name],
+            );
         }
         match alike_in(self.genome, name) {
-            Some(known) => hint.line(&[
-                b"the genome file has no ",
-                name,
-                b", and has ",
-                known,
-                b": write that",
-            ]),
+            Some(known) => hint.line(
+                b"the genome file has no {}, and has {}: write that",
+                &[name, known],
+            ),
             None => put_no_name(name, hint),
         }
     }
@@ -234,19 +229,15 @@ impl<'a> Refused<'a> {
         let start = self.column_of(is_second, 1);
         let end = self.column_of(is_second, 2);
         if start == end {
-            return hint.line(&[
-                b"start and end are ",
-                start,
-                b": an interval has at least one base",
-            ]);
+            return hint.line(
+                b"start and end are {}: an interval has at least one base",
+                &[start],
+            );
         }
-        hint.line(&[
-            b"the start ",
-            start,
-            b" isn't below the end ",
-            end,
-            b": exchange the two, if that is meant",
-        ])
+        hint.line(
+            b"the start {} isn't below the end {}: exchange the two, if that is meant",
+            &[start, end],
+        )
     }
 
     /// Whether a record ends in its sequence.
@@ -264,13 +255,10 @@ impl<'a> Refused<'a> {
         let name = self.column_of(is_second, 0);
         let end = self.column_of(is_second, 2);
         if !self.has_two() && self.is_inside(false) {
-            return hint.line(&[
-                b"the end is ",
-                end,
-                b", and a resize before has made ",
-                name,
-                b" shorter",
-            ]);
+            return hint.line(
+                b"the end is {}, and a resize before has made {} shorter",
+                &[end, name],
+            );
         }
         let remedy: &[u8] = if self.has_region() {
             b"a region ends there at most"
@@ -278,7 +266,10 @@ impl<'a> Refused<'a> {
             b"resize corrects a length"
         };
         match length_in(self.genome, name) {
-            Some(length) => put_past(end, name, length, remedy, hint),
+            Some(length) => hint.line(
+                b"the end is {}, and {} has {} bases in the genome file: {}",
+                &[end, name, length, remedy],
+            ),
             None => put_no_name(name, hint),
         }
     }
@@ -288,9 +279,9 @@ impl<'a> Refused<'a> {
         let is_second = self.has_two() && !self.column_of(false, place).is_empty();
         let value = self.column_of(is_second, place);
         if value.is_empty() {
-            return hint.line(&[subject, b" is empty: a . says that there is none"]);
+            return hint.line(b"{} is empty: a . says that there is none", &[subject]);
         }
-        hint.line(&[subject, b" holds a CR or a NUL: ", value])
+        hint.line(b"{} holds a CR or a NUL: {}", &[subject, value])
     }
 
     /// Puts which strand is none.
@@ -298,31 +289,28 @@ impl<'a> Refused<'a> {
         let is_first = matches!(self.column_of(false, 5), b"+" | b"-" | b".");
         let value = self.column_of(self.has_two() && is_first, 5);
         if value.contains(&b'#') {
-            return hint.line(&[b"the strand is \"", value, b"\": ", COMMENT]);
+            return hint.line(b"the strand is \"{}\": {}", &[value, COMMENT]);
         }
         if is_spaced(value) {
             return put_spaced(b"the strand", value, hint);
         }
-        hint.line(&[b"the strand is +, - or ., and not ", said(value)])
+        hint.line(b"the strand is +, - or ., and not {}", &[said(value)])
     }
 
     /// Puts a record that ends after a new length.
     fn put_left_out(&self, hint: &mut Hint) -> Result<(), AllocError> {
         let name = field(self.line, 1);
         let length = field(self.line, 2);
-        hint.line(&[
-            b"a record of ",
-            name,
-            b" ends after ",
-            length,
-            b": remove or replace it before, or take a greater length",
-        ])?;
+        hint.line(
+            b"a record of {} ends after {}: remove or replace it before, or take a greater length",
+            &[name, length],
+        )?;
         for line in lines_of(self.records) {
             let end = field(line, 2);
             let is_past = read_number(end) > read_number(length);
             let text = front(line);
             if is_record(line) && field(line, 0) == name && is_past {
-                return hint.line(&[self.name, b" has ", text]);
+                return hint.line(b"{} has {}", &[self.name, text]);
             }
         }
         Ok(())
@@ -357,18 +345,26 @@ impl<'a> Refused<'a> {
 
     /// Puts which record is nearest to one that is absent.
     fn put_absent(&self, hint: &mut Hint) -> Result<(), AllocError> {
+        let mut digits = Buffer::new();
+        let width = digits.format(self.width).as_bytes();
         match self.nearest() {
-            Some((count, _)) if count == self.width => hint.line(&[
-                self.name,
-                b" has it: an earlier line removed or replaced it, or names it too often",
-            ])?,
-            Some((_, line)) => put_nearest(self.width, self.name, line, hint)?,
+            Some((count, _)) if count == self.width => hint.line(
+                b"{} has it: an earlier line removed or replaced it, or names it too often",
+                &[self.name],
+            )?,
+            Some((_, line)) => hint.line(
+                b"all {} columns count, and {} has {}",
+                &[width, self.name, front(line)],
+            )?,
             None if first_record(self.records).is_none() => {
-                hint.line(&[self.name, b" has no record"])?;
+                hint.line(b"{} has no record", &[self.name])?;
             }
-            None => put_none_like(self.width, self.name, hint)?,
+            None => hint.line(
+                b"all {} columns count, and no record of {} is like it",
+                &[width, self.name],
+            )?,
         }
-        hint.line(&[b"python3 -m bedkeep replay shows the nearest record of each such line"])
+        hint.say(b"python3 -m bedkeep replay shows the nearest record of each such line")
     }
 }
 
@@ -388,59 +384,10 @@ fn columns_and(number: usize) -> &'static [u8] {
 
 /// Puts that a genome file has no such name.
 fn put_no_name(name: &[u8], hint: &mut Hint) -> Result<(), AllocError> {
-    hint.line(&[
-        b"the genome file has no ",
-        name,
-        b": cut -f1 GENOME prints its names",
-    ])
-}
-
-/// Puts that an end is past the end of its sequence, and what to do.
-fn put_past(
-    end: &[u8],
-    name: &[u8],
-    length: &[u8],
-    remedy: &[u8],
-    hint: &mut Hint,
-) -> Result<(), AllocError> {
-    hint.line(&[
-        b"the end is ",
-        end,
-        b", and ",
-        name,
-        b" has ",
-        length,
-        b" bases in the genome file: ",
-        remedy,
-    ])
-}
-
-/// Puts which record of a file is nearest.
-fn put_nearest(width: usize, name: &[u8], line: &[u8], hint: &mut Hint) -> Result<(), AllocError> {
-    let mut digits = Buffer::new();
-    let number = digits.format(width).as_bytes();
-    let text = front(line);
-    hint.line(&[
-        b"all ",
-        number,
-        b" columns count, and ",
-        name,
-        b" has ",
-        text,
-    ])
-}
-
-/// Puts that no record of a file is near.
-fn put_none_like(width: usize, name: &[u8], hint: &mut Hint) -> Result<(), AllocError> {
-    let mut digits = Buffer::new();
-    let number = digits.format(width).as_bytes();
-    hint.line(&[
-        b"all ",
-        number,
-        b" columns count, and no record of ",
-        name,
-        b" is like it",
-    ])
+    hint.line(
+        b"the genome file has no {}: cut -f1 GENOME prints its names",
+        &[name],
+    )
 }
 
 /// Puts what is wrong with the words of a view.
@@ -469,28 +416,28 @@ fn put_view_words<F: HintFiles>(
 fn put_other(code: u8, line: &[u8], hint: &mut Hint) -> Result<(), AllocError> {
     let name = said(field(line, 1));
     match code {
-        12 => hint.line(&[
+        12 => hint.say(
             b"the track has as many records as -limit allows, 4000000 if it isn't given: -limit N, up to 100000000",
-        ]),
-        13 => hint.line(&[
-            b"a view's name has 1 to 32 characters and no space, and not \"",
-            shown(field(line, 1)),
-            b"\"",
-        ]),
-        14 => hint.line(&[name, b" is open: close it before, or take another name"]),
-        15 => hint.line(&[b"64 views are open: close one before"]),
-        19 => hint.line(&[b"the session has no second file: start it with -b BED"]),
-        20 => hint.line(&[b"the session has no FASTA file: start it with -fi FASTA"]),
-        21 => hint.line(&[
-            b"no view ",
-            name,
-            b" is open: its open was refused, it was closed, or it has another name",
-        ]),
-        22 => hint.line(&[b"close a view, or allow more memory: ulimit -v unlimited"]),
-        _ => hint.line(&[
-            b"the FASTA file has another number of bases for ",
-            name,
-            b": its .fai has the length",
-        ]),
+        ),
+        13 => hint.line(
+            b"a view's name has 1 to 32 characters and no space, and not \"{}\"",
+            &[shown(field(line, 1))],
+        ),
+        14 => hint.line(
+            b"{} is open: close it before, or take another name",
+            &[name],
+        ),
+        15 => hint.say(b"64 views are open: close one before"),
+        19 => hint.say(b"the session has no second file: start it with -b BED"),
+        20 => hint.say(b"the session has no FASTA file: start it with -fi FASTA"),
+        21 => hint.line(
+            b"no view {} is open: its open was refused, it was closed, or it has another name",
+            &[name],
+        ),
+        22 => hint.say(b"close a view, or allow more memory: ulimit -v unlimited"),
+        _ => hint.line(
+            b"the FASTA file has another number of bases for {}: its .fai has the length",
+            &[name],
+        ),
     }
 }

@@ -90,25 +90,21 @@ pub(crate) fn put_no_command(
     let word = first_word(line);
     if let Some(rest) = line.strip_prefix(BYTE_ORDER_MARK) {
         let next = first_word(rest);
-        return hint.line(&[
-            b"a byte order mark is before ",
-            next,
-            b": sed '1s/^\\xEF\\xBB\\xBF//' FILE takes it away",
-        ]);
+        return hint.line(
+            b"a byte order mark is before {}: sed '1s/^\\xEF\\xBB\\xBF//' FILE takes it away",
+            &[next],
+        );
     }
     if matches!(line, [b' ' | b'\t', ..]) {
-        return hint.line(&[
+        return hint.say(
             b"the line begins with a space or a TAB: sed 's/^[ \\t]*//' FILE takes it away",
-        ]);
+        );
     }
     if let Some((command, mark)) = marked_command(line) {
-        return hint.line(&[
-            b"a TAB follows ",
-            command,
-            b": tr '",
-            mark,
-            b"' '\\t' < FILE writes TABs",
-        ]);
+        return hint.line(
+            b"a TAB follows {}: tr '{}' '\\t' < FILE writes TABs",
+            &[command, mark],
+        );
     }
     if is_command(field) {
         return put_fields(field, line, hint);
@@ -116,18 +112,17 @@ pub(crate) fn put_no_command(
     if is_command(word) {
         let remedy = tabs_for(word);
         return hint.join(
-            b"a TAB, and no space, follows ",
+            b"a TAB, and no space, follows {}: {}",
             word,
-            b": ",
             remedy,
             b"",
             b"",
         );
     }
     if is_number(line, 1) && is_number(line, 2) {
-        return hint.line(&[
+        return hint.say(
             b"the line is a record, and no command: sed 's/^/add\\t/' FILE makes edits of such lines",
-        ]);
+        );
     }
     put_unknown(alloc, word, hint)
 }
@@ -144,10 +139,9 @@ fn put_fields(command: &[u8], line: &[u8], hint: &mut Hint) -> Result<(), AllocE
     let mut digits = Buffer::new();
     let number = digits.format(fields).as_bytes();
     hint.join(
+        b"{} has after it {}; fields here: {}{}",
         command,
-        b" has after it ",
         meaning,
-        b"; fields here: ",
         number,
         note,
     )
@@ -157,17 +151,17 @@ fn put_fields(command: &[u8], line: &[u8], hint: &mut Hint) -> Result<(), AllocE
 fn put_unknown(alloc: Global, word: &[u8], hint: &mut Hint) -> Result<(), AllocError> {
     let text = shown(word);
     if let Some(instead) = other_word(word) {
-        return hint.join(text, b" is no command: ", instead, b"", b"", b"");
+        return hint.join(b"{} is no command: {}", text, instead, b"", b"");
     }
     let mut nearest = Nearest::to(word);
     for known in COMMANDS.split(is_between) {
         nearest.look_at(alloc, known)?;
     }
     match nearest.found() {
-        Some(known) => hint.join(text, b" is no command: is ", known, b" meant?", b"", b""),
-        None => hint.line(&[
-            text,
-            b" is no command: add, remove, replace, addb, removeb, replaceb, resize, open, close, print, printall, show or showall",
-        ]),
+        Some(known) => hint.join(b"{} is no command: is {} meant?", text, known, b"", b""),
+        None => hint.line(
+            b"{} is no command: add, remove, replace, addb, removeb, replaceb, resize, open, close, print, printall, show or showall",
+            &[text],
+        ),
     }
 }

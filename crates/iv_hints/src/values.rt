@@ -8,16 +8,51 @@ use std::alloc::AllocError;
 const MOST_VALUE_BYTES: usize = 40;
 
 /// What is wrong with the text of a number.
-#[derive(Clone, Copy, Debug, PartialEq, Eq)]
-pub(crate) enum NumberFault {
-    Empty,
-    Spaced,
-    Comment,
-    Commas,
-    Negative,
-    Fraction,
-    Other,
+#[derive(Clone, Copy)]
+struct NumberFault {
+    /// What to write instead, in a few words.
+    instead: &'static [u8],
+    /// What mends all numbers of a BED file.
+    remedy: &'static [u8],
 }
+
+/// What the columns of a BED file are.
+const COLUMNS: &[u8] = b"column 2 is the start and column 3 the end";
+
+const EMPTY: NumberFault = NumberFault {
+    instead: b"it is empty",
+    remedy: COLUMNS,
+};
+
+const SPACED: NumberFault = NumberFault {
+    instead: b"it has a space at an end",
+    remedy: SPACES_AWAY,
+};
+
+const WITH_COMMENT: NumberFault = NumberFault {
+    instead: COMMENT,
+    remedy: COLUMNS,
+};
+
+const COMMAS: NumberFault = NumberFault {
+    instead: b"without commas",
+    remedy: b"awk -F '\\t' -v OFS='\\t' '!/^#/ { gsub(\",\", \"\", $2); gsub(\",\", \"\", $3) } 1' FILE takes the commas away",
+};
+
+const NEGATIVE: NumberFault = NumberFault {
+    instead: b"the first position is 0",
+    remedy: b"awk -F '\\t' -v OFS='\\t' '$2 ~ /^-/ { $2 = 0 } 1' FILE begins such records at 0",
+};
+
+const FRACTION: NumberFault = NumberFault {
+    instead: b"without a point or an exponent",
+    remedy: b"awk -F '\\t' -v OFS='\\t' 'NF > 2 { $2 = sprintf(\"%.0f\", $2); $3 = sprintf(\"%.0f\", $3) } 1' FILE writes whole numbers",
+};
+
+const OTHER: NumberFault = NumberFault {
+    instead: b"it has 1 to 10 digits",
+    remedy: COLUMNS,
+};
 
 /// As much of a value as is shown.
 pub(crate) fn shown(value: &[u8]) -> &[u8] {
@@ -44,52 +79,21 @@ pub(crate) fn trimmed(value: &[u8]) -> &[u8] {
 
 impl NumberFault {
     /// What is wrong with this text, which is no position.
-    pub(crate) fn of(value: &[u8]) -> NumberFault {
+    fn of(value: &[u8]) -> NumberFault {
         if value.is_empty() {
-            NumberFault::Empty
+            EMPTY
         } else if is_spaced(value) {
-            NumberFault::Spaced
+            SPACED
         } else if value.contains(&b'#') {
-            NumberFault::Comment
+            WITH_COMMENT
         } else if value.contains(&b',') {
-            NumberFault::Commas
+            COMMAS
         } else if value.strip_prefix(b"-").is_some_and(is_digits) {
-            NumberFault::Negative
+            NEGATIVE
         } else if is_decimal(value) {
-            NumberFault::Fraction
+            FRACTION
         } else {
-            NumberFault::Other
-        }
-    }
-
-    /// What to write instead, in a few words.
-    pub(crate) fn instead(self) -> &'static [u8] {
-        match self {
-            NumberFault::Empty => b"it is empty",
-            NumberFault::Spaced => b"it has a space at an end",
-            NumberFault::Comment => COMMENT,
-            NumberFault::Commas => b"without commas",
-            NumberFault::Negative => b"the first position is 0",
-            NumberFault::Fraction => b"without a point or an exponent",
-            NumberFault::Other => b"it has 1 to 10 digits",
-        }
-    }
-
-    /// What mends all numbers of a BED file.
-    fn remedy(self) -> &'static [u8] {
-        match self {
-            NumberFault::Spaced => SPACES_AWAY,
-            NumberFault::Commas => {
-                b"awk -F '\\t' -v OFS='\\t' '!/^#/ { gsub(\",\", \"\", $2); gsub(\",\", \"\", $3) } 1' FILE takes the commas away"
-            }
-            NumberFault::Negative => {
-                b"awk -F '\\t' -v OFS='\\t' '$2 ~ /^-/ { $2 = 0 } 1' FILE begins such records at 0"
-            }
-            NumberFault::Fraction => {
-                b"awk -F '\\t' -v OFS='\\t' 'NF > 2 { $2 = sprintf(\"%.0f\", $2); $3 = sprintf(\"%.0f\", $3) } 1' FILE writes whole numbers"
-            }
-            NumberFault::Empty | NumberFault::Comment | NumberFault::Other =>
-                b"column 2 is the start and column 3 the end",
+            OTHER
         }
     }
 }
@@ -115,8 +119,8 @@ pub(crate) fn put_no_number(
     hint: &mut Hint,
 ) -> Result<(), AllocError> {
     let text = shown(value);
-    let instead = NumberFault::of(value).instead();
-    hint.join(subject, b" is \"", text, b"\": ", instead, b"")
+    let instead = NumberFault::of(value).instead;
+    hint.join(b"{} is \"{}\": {}", subject, text, instead, b"")
 }
 
 /// Puts what is wrong with the start or the end of a record of a file, and what mends it.
@@ -127,7 +131,7 @@ pub(crate) fn put_number(
 ) -> Result<(), AllocError> {
     let value = value.unwrap_or(b"");
     put_no_number(subject, value, hint)?;
-    hint.line(&[NumberFault::of(value).remedy()])
+    hint.say(NumberFault::of(value).remedy)
 }
 
 /// Puts what is wrong with the length of a sequence.
@@ -135,15 +139,14 @@ pub(crate) fn put_length(value: &[u8], hint: &mut Hint) -> Result<(), AllocError
     if read_number(value).is_none() {
         return put_no_number(b"the length", value, hint);
     }
-    hint.line(&[
-        b"the length ",
-        value,
-        b" is above the limit: a sequence has at most 4000000000 positions",
-    ])
+    hint.line(
+        b"the length {} is above the limit: a sequence has at most 4000000000 positions",
+        &[value],
+    )
 }
 
 /// Puts that a value has a space at an end.
 pub(crate) fn put_spaced(subject: &[u8], value: &[u8], hint: &mut Hint) -> Result<(), AllocError> {
     let text = shown(value);
-    hint.line(&[subject, b" has a space at an end: \"", text, b"\""])
+    hint.line(b"{} has a space at an end: \"{}\"", &[subject, text])
 }

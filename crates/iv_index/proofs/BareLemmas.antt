@@ -56,7 +56,7 @@ le_first Equal Equal Equal d h = refl
 bare-le : (x y : RecordValue) → is_le (record_cmp x y) ≡ true → is_le (record_cmp (bare x) (bare y)) ≡ true
 bare-le x y h = le_first (nat_cmp x.seq y.seq) (nat_cmp x.start y.start) (nat_cmp x.stop y.stop) (beside_cmp x y) h
 
-in_order-bare : (rows : List RecordValue) → AreInOrder rows → AreInOrder (map bare rows)
+pub in_order-bare : (rows : List RecordValue) → AreInOrder rows → AreInOrder (map bare rows)
 in_order-bare [] up = tt
 in_order-bare (r ∷ rows) up = (by rows up.0, in_order-bare rows up.1)
   where

@@ -1,5 +1,5 @@
 //! The records of a BED file as locators into its text.
-ghost use Rattle.std.specs.Prelude.{◌≡◌, cond, ◌<◌, ◌≤◌, ◌^◌, ◌⊎◌, ℕ, All, length, map, Ok, Err, IfOk, IfErr, OnOk};
+ghost use Rattle.std.specs.Prelude.{◌≡◌, [], cond, ◌<◌, ◌≤◌, ◌^◌, ◌⊎◌, ℕ, All, length, map, Ok, Err, IfOk, IfErr, OnOk};
 ghost use Rattle.iv_text.specs.BedFile.{bed_of};
 ghost use Rattle.iv_text.specs.Ordered.{AreInOrder, ordered};
 ghost use Rattle.iv_text.specs.Read.{Fits};
@@ -7,6 +7,7 @@ ghost use Rattle.iv_text.specs.declared.fault.LoadCause.TheVariants as cause;
 ghost use Rattle.iv_index.specs.Inside.Joins.{grown, joined, touches};
 ghost use Rattle.iv_index.specs.Cover.{is_covered};
 ghost use Rattle.iv_index.specs.Inside.Cover.{AreApart};
+ghost use Rattle.iv_index.specs.Inside.Locators.{HasBase, records_at};
 ghost use Rattle.iv_index.specs.Locators.{bare};
 ghost use Rattle.iv_text.specs.Widths.{IsWidth};
 
@@ -90,6 +91,20 @@ impl<'t, A: Allocator + Copy> BedText<'t, A> {
             locators,
             width: width.unwrap_or(empty_width),
         })
+    }
+
+    /// Records of which only the intervals are known, in the order of these locators.
+    ///
+    /// Their width is 3, and they have no text, so where their lines begin is not looked at.
+    pub fn of_intervals(locators: Vec<Locator, A>) -> BedText<'t, A>
+        requires { All HasBase locators.items }
+        ensures { result ≡ record { width = 3; rows = records_at 3 [] locators.items } }
+    {
+        BedText {
+            text: b"",
+            locators,
+            width: 3,
+        }
     }
 
     /// The number of columns of each record, 3 to 6.

@@ -70,7 +70,7 @@ depth-zero (q ∷ rows) seq p =
       | false ↦ ap (λ n. n == 0) (zero-add (depth rows seq p)) ∙ depth-zero rows seq p
     ])
 
-uncovered-alike : (g : Sequences) (a : RecordValue) (second other : List RecordValue) → CoverAlike second other → pair_rows (Subtract false) g a second ≡ pair_rows (Subtract false) g a other
+pub uncovered-alike : (g : Sequences) (a : RecordValue) (second other : List RecordValue) → CoverAlike second other → pair_rows (Subtract false) g a second ≡ pair_rows (Subtract false) g a other
 uncovered-alike g a second other alike =
     ap (flat_map (λ (run : Run). record_line g (part a run.start run.stop)))
     (empty-alike (depth second a.seq) (depth other a.seq) (λ p. depth-zero second a.seq p ∙ ap not (alike a.seq p) ∙ sym (depth-zero other a.seq p)) a.start a.stop)

@@ -10,3 +10,4 @@ mod ReachLemmas
 mod StepLemmas
 mod EmptyAlike
 mod CoverLemmas
+mod CopyLemmas

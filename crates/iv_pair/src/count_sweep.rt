@@ -87,7 +87,7 @@ impl<'t, A: Allocator + Copy> CountSweep<'t, A> {
 
 /// Where a record ends. Ends are in order by the rank of the sequence, and then by the stop.
 #[derive(Clone, Copy, PartialEq, Eq, PartialOrd, Ord)]
-struct End {
+pub(crate) struct End {
     /// The rank of the sequence in the genome.
     seq: u32,
     /// The stop of the record, not included.
@@ -95,7 +95,7 @@ struct End {
 }
 
 /// The ends of these locators, in order: 8 bytes for each.
-fn ends_of<A: Allocator>(alloc: A, places: &[Locator]) -> Result<Vec<End, A>, AllocError>
+pub(crate) fn ends_of<A: Allocator>(alloc: A, places: &[Locator]) -> Result<Vec<End, A>, AllocError>
     ensures moved { IfOk result (λ ends. IsPermutation (map end_of places.now) ends.items) }
     ensures ordered { IfOk result (λ ends. EndsAscend ends.items) }
 {
@@ -133,10 +133,18 @@ fn is_by(end: &End, seq: u32, at: u64) -> bool
     end.seq < seq || end.seq == seq && u64::from(end.stop) <= at
 }
 
+/// How many of the ends are at a position or before it. They are searched.
+pub(crate) fn count_ends(ends: &[End], seq: u32, at: u64) -> usize
+    requires { EndsAscend ends.now }
+    ensures { result ≡ count_by (end_by seq at) ends.now }
+{
+    ends.partition_point(|end| is_by(end, seq, at))
+}
+
 /// How many locators begin before a position, if it is known that so many do.
 ///
 /// The next few are looked at one after another. If all of them begin before it, the others are searched.
-fn count_starts(places: &[Locator], from: usize, seq: u32, at: u64) -> usize
+pub(crate) fn count_starts(places: &[Locator], from: usize, seq: u32, at: u64) -> usize
     requires ordered { StartsAscend places.now }
     requires from { from ≤ count_by (place_before seq at) places.now }
     ensures { result ≡ count_by (place_before seq at) places.now }

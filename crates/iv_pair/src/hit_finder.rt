@@ -132,7 +132,7 @@ impl<'a, A: Allocator + Copy> HitFinder<'a, A> {
 }
 
 /// Whether the position `to` of the sequence of rank `to_seq` is the position `at` of sequence `seq` or after it.
-fn is_onward(seq: u32, at: u64, to_seq: u32, to: u64) -> bool
+pub(crate) fn is_onward(seq: u32, at: u64, to_seq: u32, to: u64) -> bool
     ensures { result ≡ true → IsOnward seq at to_seq to }
 {
     seq < to_seq || seq == to_seq && at <= to

@@ -63,6 +63,11 @@ impl<'a, A: Allocator + Copy> Hits<'a, A> {
         }
     }
 
+    /// How many records were looked at that are not carried, a record with its copies once.
+    pub(crate) fn steps(&self) -> u64 {
+        self.meter.steps()
+    }
+
     /// A lemma for callers' proofs: 33 bits count those that are left. The call does nothing.
     pub(crate) fn lemma_of_few(&self)
         ensures { length self.now < 2 ^ 33 }

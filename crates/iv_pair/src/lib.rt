@@ -2,11 +2,15 @@
 //! re-exported, with the rows of getfasta over a track.
 #![tactic(auto)]
 
+mod beside;
 mod count_sweep;
 mod getfasta;
+mod hit_counts;
 mod hit_finder;
 mod hits;
 mod intersect;
+mod intervals;
+mod joined_cover;
 mod lemmas;
 mod lengths;
 mod pair_rows;

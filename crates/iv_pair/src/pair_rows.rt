@@ -8,7 +8,7 @@ ghost use Rattle.iv_pair.specs.CoverAlone.{DependsOnCoverAlone, needs_cover_alon
 ghost use Rattle.iv_pair.specs.Hits.{hits_of};
 ghost use Rattle.iv_pair.specs.PairRows.{pair_rows, pair_text};
 
-use crate::hit_finder::HitFinder;
+use crate::beside::Beside;
 use crate::intersect::{IntersectRows, put_intersect};
 use crate::second::Second;
 use crate::subtract::put_subtract;
@@ -43,7 +43,8 @@ pub fn needs_cover_alone(rows: PairRows) -> bool
 
 /// Puts the rows of each record of the track, in its order, as bedtools intersect or subtract does.
 ///
-/// One walk over the track, and no memory. On a fault the sink has taken a prefix of the text.
+/// One walk over the track. It needs no memory: if many hits of `intersect -c` or `subtract` were looked at, it tries to copy the
+/// intervals of the second file, and goes on without if an allocation fails. On a fault the sink has taken a prefix of the text.
 pub fn print_pairs<A: Allocator + Copy, S: Sink>(
     rows: PairRows,
     track: &Track<A>,
@@ -54,15 +55,11 @@ pub fn print_pairs<A: Allocator + Copy, S: Sink>(
 ) -> Result<(), WriteFault>
     ensures { Puts (S.state sink.old) (S.state sink.new) result (pair_text rows genome.now track.now.rows second.now.rows) }
 {
-    // The records of the second file are in order.
-    let _count = second.len();
-    let mut finder = HitFinder::of(second, meter);
+    let mut beside = Beside::of(rows, second, meter);
+    let mut copy = None;
     let mut walk = track.walk(0, 0, meter);
     while let Some(row) = walk.next(meter) {
-        finder.seek(row.seq(), row.start(), row.stop(), meter);
-        let hits = finder.hits();
-        hits.lemma_of_few();
-        put_pair_rows(rows, genome, row, hits, sink)?;
+        beside.put_rows(&mut copy, genome, row, meter, sink)?;
     }
     Ok(())
 }

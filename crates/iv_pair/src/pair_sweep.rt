@@ -3,6 +3,7 @@ ghost use Rattle.std.specs.Prelude.{◌≡◌, ◌+◌, ◌<◌, ◌≤◌, ◌^
 ghost use Rattle.std.specs.Iterator.{YieldsFirst, item_count};
 ghost use Rattle.iv_bytes.specs.Sinks.{Puts};
 ghost use Rattle.iv_text.specs.Ordered.{AreInOrder};
+ghost use Rattle.iv_track.specs.Regions.{hits};
 ghost use Rattle.iv_pair.specs.Hits.{hits_of};
 ghost use Rattle.iv_pair.specs.PairRows.{pair_rows, pair_text};
 ghost use Rattle.iv_pair.specs.Inside.Pairs.{Gives};
@@ -164,7 +165,7 @@ impl<'t, A: Allocator + Copy> PairSweep<'t, A> {
 
 /// The hits of a record that are left, in the order of the second list: an iterator. Its model is their list.
 #[derive(Drop)]
-struct ActiveHits<'a, 't> {
+pub(crate) struct ActiveHits<'a, 't> {
     /// Hits that start at the start of the record or before it.
     active: &'a [TextRecord<'t>],
     /// The records after them, among which are the other hits.
@@ -189,8 +190,24 @@ impl<'a, 't> Model for ActiveHits<'a, 't> {
 }
 
 impl<'a, 't> ActiveHits<'a, 't> {
+    /// The hits of an interval among these records alone, none of which is active.
+    pub(crate) fn among(rest: TextRecords<'t>, seq: u32, start: u64, stop: u64) -> Self
+        requires { AreInOrder rest }
+        ensures { result ≡ hits rest.entry seq start stop }
+    {
+        // 64 bits count them.
+        let _few = rest.len();
+        ActiveHits {
+            active: &[],
+            rest,
+            seq,
+            start,
+            stop,
+        }
+    }
+
     /// A lemma for callers' proofs: 64 bits count those that are left. The call does nothing.
-    fn lemma_of_few(&self)
+    pub(crate) fn lemma_of_few(&self)
         ensures { length self.now < 2 ^ 64 }
     {
         // After this read the type's invariant is known.

@@ -19,6 +19,7 @@ use std::marker::Model;
 /// Its model is that of its track.
 #[derive(Drop)]
 pub struct Second<A: Allocator + Copy = Global> {
+    alloc: A,
     track: Track<A>,
     lengths: Lengths<A>,
 }
@@ -68,7 +69,11 @@ impl<A: Allocator + Copy> Second<A> {
         let mut meter = Meter::new();
         let track = Track::from_batches(alloc, width, limit, records)?;
         let lengths = lengths_of(alloc, &track, &mut meter)?;
-        Ok(Second { track, lengths })
+        Ok(Second {
+            alloc,
+            track,
+            lengths,
+        })
     }
 
     /// How many records there are, copies counted.
@@ -184,6 +189,11 @@ impl<A: Allocator + Copy> Second<A> {
         ensures { AreUpTo seq result self.now.rows }
     {
         longest(&self.lengths, seq, meter)
+    }
+
+    /// The allocator of its memory.
+    pub(crate) fn allocator(&self) -> A {
+        self.alloc
     }
 
     /// The records on the sequence of this rank from this start on, and on later sequences.

@@ -1,5 +1,5 @@
 -- Files that were read, and what a run does with them.
-use Rattle.std.proofs.Common.{◌≡◌, ◌⊎◌, inl, inr, ◌<◌, ◌≤◌, ◌^◌, ℕ, List, [], ◌∷◌, ◌++◌, length, false, Option, None, Some, Result, Ok, Err, IfOk, IfErr, IfSome, refl, sym, ap, ◌∙◌, subst, arith}
+use Rattle.std.proofs.Common.{◌≡◌, ◌⊎◌, inl, inr, ◌<◌, ℕ, List, [], ◌∷◌, ◌++◌, length, false, Option, None, Some, Result, Ok, Err, IfOk, IfErr, IfSome, refl, sym, ap, ◌∙◌, subst}
 use Rattle.std.proofs.lemmas.List.Elements.{All-nil, All-cons}
 use Rattle.std.specs.List.{All}
 use Rattle.std.specs.Option.{option_to_list}
@@ -133,21 +133,6 @@ module _ (plan : RunPlan) (f0 f1 : FilesState) (sizes : List ℕ) (has_sizes : I
       pub all-read : (f4 : FilesState) → f4 ≡ after_reading (option_to_list plan.bases) f3 → f4 ≡ after_reading (names_of plan) f0
       all-read f4 read_bases =
           read_bases ∙ ap (after_reading (option_to_list plan.bases)) read-three ∙ sym (reading-append (names_before plan Bases) (option_to_list plan.bases) f0)
-
-short : (n : ℕ) → n ≤ most_file_bytes → n < 2 ^ 32
-short n few = omega arith
-
-pub short-first : (files : FilesState) (plan : RunPlan) (texts : Texts) → AreTexts files plan texts → length texts.first < 2 ^ 32
-short-first files plan texts are = short (length texts.first) are.first.1
-
-pub short-other : (files : FilesState) (plan : RunPlan) (texts : Texts) → AreTexts files plan texts → IfSome texts.other (λ text. length text < 2 ^ 32)
-short-other files plan texts are = by plan.other texts.other are.other
-  where
-    by : (name text : Option (List ℕ)) → IsTextIfNamed files name text → IfSome text (λ t. length t < 2 ^ 32)
-    by None None is = tt
-    by None (Some text) is = absurd (cc is)
-    by (Some name) None is = absurd is
-    by (Some name) (Some text) is = short (length text) is.1
 
 -- ---- scripts
 

@@ -1,20 +1,21 @@
 //! Files that are opened by their names, and reading those of a plan.
-ghost use Rattle.std.specs.Prelude.{◌≡◌, List, [], ◌∷◌, ℕ, Option, None, Some, IfOk, IfErr, OnOk, OnErr, true};
-ghost use Rattle.std.specs.Option.{option_copied, option_map, option_to_list};
+ghost use Rattle.std.specs.Prelude.{◌≡◌, List, [], ◌∷◌, ℕ, Option, None, Some, IfOk, IfErr, OnOk, OnErr, true, IfSome};
+ghost use Rattle.std.specs.Option.{option_map, option_to_list};
 ghost use Rattle.iv_args.specs.Words.{file_of};
 ghost use Rattle.iv_run.specs.SoFar.{AreProjected, IsOfOneRun, IsSaid, SaysSecond};
 ghost use Rattle.iv_run.specs.Inside.SoFar.{SaysFirst};
+ghost use Rattle.iv_run.specs.Inside.Held.{AreIntervals, IsHeld, IsHeldIfNamed};
 ghost use Rattle.iv_program.specs.Files.{FilesState, IsText, opened, after_opening, after_closing, after_one, after_reading};
 ghost use Rattle.iv_program.specs.Inside.Files.{StopsAt, StopsFile, names_of};
-ghost use Rattle.iv_program.specs.Inside.Runs.{Says};
+ghost use Rattle.iv_program.specs.Inside.Runs.{Says, SaysHeld};
 ghost use Rattle.iv_program.specs.Texts.{Texts, AreTexts, IsTextIfNamed};
 
 use iv_args::{Plan, Slot};
 use iv_bytes::{ReadFault, Source};
-use iv_run::{FileFault, Inputs, Loading, ParsedFile, read_all};
+use iv_index::Locator;
+use iv_run::{FileFault, HeldBed, HeldFiles, Loading, ParsedFile, hold_source, read_all};
 use iv_text::{FromRecord, LoadFault};
 use std::alloc::{Allocator, Global};
-use std::marker::Model;
 
 /// How many bytes a file may have.
 const MOST_FILE_BYTES: u64 = 4_294_967_295;
@@ -96,71 +97,83 @@ fn read_slot<A: Allocator + Copy, F: InputFiles>(
     }
 }
 
-/// The bytes of the files of a plan that are lent to a run, the FASTA file aside.
-#[derive(Drop)]
-pub(crate) struct LentTexts<A: Allocator + Copy = Global> {
-    sizes: Vec<u8, A>,
-    first: Vec<u8, A>,
-    other: Option<Vec<u8, A>>,
+/// The BED file of this name, for a view that needs the columns of records.
+fn hold_file<A: Allocator + Copy, F: InputFiles>(
+    files: &mut F,
+    name: &[u8],
+    loading: &Loading<Locator, A>,
+) -> Result<HeldBed<A>, FileFault>
+    ensures ok { IfOk result (λ held. (text : List ℕ) × IsText (F.state files.old) name.now text × IsHeld loading.now.genome loading.now.width loading.now.limit text held) }
+    ensures intervals { IfOk result (AreIntervals loading.now.genome) }
+    ensures after { OnOk result (F.state files.new ≡ after_reading (name.now ∷ []) (F.state files.old)) }
+    ensures err { IfErr result (λ fault. StopsFile (F.state files.old) name.now fault (F.state files.new)) }
+{
+    let mut file = files.open(name)?;
+    let read = hold_source(loading, &mut file, MOST_FILE_BYTES);
+    files.close(file);
+    read
 }
 
-impl<A: Allocator + Copy> LentTexts<A> {
-    /// The bytes, lent.
-    pub(crate) fn inputs(&self) -> Inputs<'_>
-        ensures sizes { result.sizes.now ≡ self.now.sizes.items }
-        ensures first { result.first.now ≡ self.now.first.items }
-        ensures other { option_copied result.other ≡ option_map (λ bytes. bytes.items) self.now.other }
-    {
-        let other = match &self.other {
-            Some(bytes) => Some(bytes.as_slice()),
-            None => None,
-        };
-        Inputs {
-            sizes: self.sizes.as_slice(),
-            first: self.first.as_slice(),
-            other,
-        }
+/// The BED file of this name, which is in this slot of a plan, for a view that needs the columns of records.
+fn hold_named<A: Allocator + Copy, F: InputFiles>(
+    files: &mut F,
+    slot: Slot,
+    name: &[u8],
+    loading: &Loading<Locator, A>,
+) -> Result<HeldBed<A>, SlotFault>
+    ensures ok { IfOk result (λ held. (text : List ℕ) × IsText (F.state files.old) name.now text × IsHeld loading.now.genome loading.now.width loading.now.limit text held) }
+    ensures intervals { IfOk result (AreIntervals loading.now.genome) }
+    ensures after { OnOk result (F.state files.new ≡ after_reading (name.now ∷ []) (F.state files.old)) }
+    ensures err { IfErr result (λ why. (why.0 ≡ slot) × StopsFile (F.state files.old) name.now why.1 (F.state files.new)) }
+{
+    match hold_file(files, name, loading) {
+        Ok(held) => Ok(held),
+        Err(fault) => Err((slot, fault)),
     }
 }
 
-/// The bytes of the files of a plan.
-#[derive(Drop)]
-pub(crate) struct FileTexts<A: Allocator + Copy = Global> {
-    pub(crate) lent: LentTexts<A>,
-    pub(crate) bases: Option<Vec<u8, A>>,
-}
-
-impl<A: Allocator + Copy> Model for FileTexts<A> {
-    ghost use Rattle.std.specs.Option.{option_copied, option_map};
-    ghost use Rattle.iv_program.specs.Texts.{Texts};
-
-    ghost Value = { Texts };
-
-    ghost view = { λ t. record { sizes = t.lent.sizes.items; first = t.lent.first.items; other = option_map (λ bytes. bytes.items) t.lent.other; bases = option_map (λ bytes. bytes.items) t.bases } };
-}
-
-impl<A: Allocator + Copy> FileTexts<A> {
-    /// Reads all files of a plan, in the order of their slots.
-    pub(crate) fn read<F: InputFiles>(
-        alloc: A,
-        files: &mut F,
-        plan: &Plan<'_, A>,
-    ) -> Result<FileTexts<A>, SlotFault>
-        ensures ok { IfOk result (λ texts. AreTexts (F.state files.old) plan.now texts) }
-        ensures after { OnOk result (F.state files.new ≡ after_reading (names_of plan.now) (F.state files.old)) }
-        ensures err { IfErr result (λ why. StopsAt plan.now (F.state files.old) (F.state files.new) why.0 why.1) }
-    {
-        let sizes = read_named(alloc, files, Slot::Sizes, plan.sizes_file())?;
-        let first = read_named(alloc, files, Slot::First, plan.first_file())?;
-        let other = read_slot(alloc, files, plan, Slot::Other)?;
-        let bases = read_slot(alloc, files, plan, Slot::Bases)?;
-        let lent = LentTexts {
-            sizes,
-            first,
-            other,
-        };
-        Ok(FileTexts { lent, bases })
+/// The second file of a plan, if it names one, for a view that needs the columns of records.
+fn hold_second<A: Allocator + Copy, F: InputFiles>(
+    files: &mut F,
+    plan: &Plan<'_, A>,
+    loading: &Loading<Locator, A>,
+) -> Result<Option<HeldBed<A>>, SlotFault>
+    ensures ok { IfOk result (λ held. (other : Option (List ℕ)) × IsTextIfNamed (F.state files.old) plan.now.other other × IsHeldIfNamed loading.now.genome loading.now.width loading.now.limit other held) }
+    ensures intervals { IfOk result (λ held. IfSome held (AreIntervals loading.now.genome)) }
+    ensures after { OnOk result (F.state files.new ≡ after_reading (option_to_list plan.now.other) (F.state files.old)) }
+    ensures err { IfErr result (λ why. (why.0 ≡ Slot.Other)
+        × ((name : List ℕ) × (plan.now.other ≡ Some name) × StopsFile (F.state files.old) name why.1 (F.state files.new))) }
+{
+    match plan.file(Slot::Other) {
+        Some(name) => Ok(Some(hold_named(files, Slot::Other, name, loading)?)),
+        None => Ok(None),
     }
+}
+
+/// Reads all files of a plan for a view that needs the columns of records, in the order of their slots.
+pub(crate) fn hold_files<A: Allocator + Copy, F: InputFiles>(
+    alloc: A,
+    files: &mut F,
+    plan: &Plan<'_, A>,
+) -> Result<HeldFiles<A>, SlotFault>
+    ensures ok { IfOk result (λ read. (texts : Texts) × AreTexts (F.state files.old) plan.now texts
+        × SaysHeld plan.now texts read.loading read.first read.second (option_map (λ bytes. bytes.items) read.bases)) }
+    ensures first { IfOk result (λ read. AreIntervals read.loading.genome read.first) }
+    ensures second { IfOk result (λ read. IfSome read.second (AreIntervals read.loading.genome)) }
+    ensures after { OnOk result (F.state files.new ≡ after_reading (names_of plan.now) (F.state files.old)) }
+    ensures err { IfErr result (λ why. StopsAt plan.now (F.state files.old) (F.state files.new) why.0 why.1) }
+{
+    let sizes = read_named(alloc, files, Slot::Sizes, plan.sizes_file())?;
+    let loading = Loading::begin(alloc, plan, sizes.as_slice(), plan.limit());
+    let first = hold_named(files, Slot::First, plan.first_file(), &loading)?;
+    let second = hold_second(files, plan, &loading)?;
+    let bases = read_slot(alloc, files, plan, Slot::Bases)?;
+    Ok(HeldFiles {
+        loading,
+        first,
+        second,
+        bases,
+    })
 }
 
 /// The BED file of this name.

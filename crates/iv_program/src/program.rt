@@ -1,5 +1,5 @@
 //! The whole program: what the arguments ask for, the run of one subcommand, and how each run ends.
-ghost use Rattle.std.specs.Prelude.{◌≡◌, ◌≢◌, ◌<◌, ◌^◌, ◌⊎◌, ℕ, List, [], Some, None, IfOk, IfErr, IfSome, MatchResult, OnOk, OnErr, length, map, true, false};
+ghost use Rattle.std.specs.Prelude.{◌≡◌, ◌≢◌, ◌⊎◌, ℕ, List, [], Some, None, IfOk, IfErr, IfSome, MatchResult, OnOk, OnErr, map, true, false};
 ghost use Rattle.std.specs.Option.{option_map};
 ghost use Rattle.iv_bytes.specs.Sinks.{FailsIn, Takes, waiting};
 ghost use Rattle.iv_index.specs.Locators.{bare};
@@ -16,17 +16,18 @@ ghost use Rattle.iv_program.specs.Outcomes.{AreSound, DoesAll, Hold, PrintsJust}
 ghost use Rattle.iv_program.specs.Program.{Runs, world};
 ghost use Rattle.iv_program.specs.Runs.{World};
 ghost use Rattle.iv_program.specs.Inside.Files.{StopsAt, names_of};
-ghost use Rattle.iv_program.specs.Inside.Runs.{EndsRun, PrintsView, ReadsAll, Says, StopsPlan};
+ghost use Rattle.iv_run.specs.Inside.Held.{AreIntervals};
+ghost use Rattle.iv_program.specs.Inside.Runs.{EndsRun, PrintsView, ReadsAll, Says, SaysHeld, StopsPlan};
 ghost use Rattle.iv_program.specs.Texts.{Texts, AreTexts};
 ghost use Rattle.iv_program.specs.declared.program.Ended.{Ended};
 
-use crate::files::{FileTexts, InputFiles, ReadFiles, SlotFault};
+use crate::files::{InputFiles, ReadFiles, SlotFault, hold_files};
 use crate::script_run::run_session;
 use iv_args::{InfoRequest, Plan};
 use iv_bytes::{Flush, Sink, Source, put_all};
 use iv_cli::ExitReason;
 use iv_index::Span;
-use iv_run::{CliFault, IntervalsView, shot_of_columns};
+use iv_run::{CliFault, HeldFiles, IntervalsView, shot_of_held};
 use std::alloc::Allocator;
 
 /// How a run has ended, its output flushed.
@@ -90,20 +91,20 @@ fn shot_of_intervals<A: Allocator + Copy, W: Sink>(
     ending_of(loading.print(view, bases, output))
 }
 
-/// Prints a view that needs the columns of records, given the texts of all files of a plan.
-fn print_texts<A: Allocator + Copy, W: Sink>(
+/// Prints a view that needs the columns of records, of the files that were read.
+fn shot_of_columns<A: Allocator + Copy, W: Sink>(
     alloc: A,
     plan: &Plan<'_, A>,
-    texts: FileTexts<A>,
+    read: HeldFiles<A>,
     output: &mut W,
 ) -> ExitReason
     requires columns { AskForColumns plan.now.view }
-    requires first { length texts.first < 2 ^ 32 }
-    requires other { IfSome texts.other (λ text. length text < 2 ^ 32) }
-    ensures { PrintsView plan.now texts (W.state output.old) (W.state output.new) result }
+    requires first { AreIntervals read.loading.genome read.first }
+    requires second { IfSome read.second (AreIntervals read.loading.genome) }
+    ensures { (texts : Texts) → SaysHeld plan.now texts read.loading read.first read.second (option_map (λ bytes. bytes.items) read.bases)
+        → PrintsView plan.now texts (W.state output.old) (W.state output.new) result }
 {
-    let FileTexts { lent, bases } = texts;
-    ending_of(shot_of_columns(alloc, plan, &lent.inputs(), bases, plan.limit(), output))
+    ending_of(shot_of_held(alloc, plan, read, output))
 }
 
 /// Prints the view of a plan.
@@ -123,8 +124,8 @@ fn print_view<A: Allocator + Copy, F: InputFiles, W: Sink>(
         let read = ReadFiles::read(alloc, files, plan)?;
         return Ok(shot_of_intervals(view, read, output));
     }
-    let texts = FileTexts::read(alloc, files, plan)?;
-    Ok(print_texts(alloc, plan, texts, output))
+    let read = hold_files(alloc, files, plan)?;
+    Ok(shot_of_columns(alloc, plan, read, output))
 }
 
 /// Does what a plan asks for.

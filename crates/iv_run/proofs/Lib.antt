@@ -4,3 +4,5 @@ pub mod ShotLemmas
 mod IntervalsAlone
 pub mod PieceLemmas
 pub mod IntervalsLemmas
+mod HeldLemmas
+mod HeldFilesLemmas

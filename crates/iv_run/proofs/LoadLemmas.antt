@@ -1,6 +1,5 @@
 -- Damaged files.
-use Rattle.std.proofs.Common.{◌≡◌, ◌≤◌, ℕ, List, [], ◌∷◌, map, length, IfSome, Option, None, Some, Result, Ok, Err, refl, sym, ap, subst, ◌∙◌, ◌⊎◌, inl, inr, IfOk, IfErr}
-use Rattle.std.specs.Prelude.{All}
+use Rattle.std.proofs.Common.{◌≡◌, ℕ, List, Option, None, Some, Result, Ok, Err, refl, sym, ap, subst, ◌∙◌, ◌⊎◌, inl, inr}
 use Rattle.iv_text.specs.Genome.{Sequences}
 use Rattle.iv_text.specs.GenomeFile.{genome_of}
 use Rattle.iv_text.specs.BedFile.{Bed, bed_of}
@@ -15,12 +14,10 @@ use Rattle.iv_fasta.specs.Fasta as Fasta
 use Rattle.iv_text.specs.Chains.{if_ok, map_fault}
 use Rattle.iv_run.specs.Inside.Shots.{bases_said}
 use Rattle.iv_run.specs.Loading.{IsAnswer, Parsed, parsed, second_of, fault_of, damage_of}
-use Rattle.std.specs.Option.{option_map, option_transpose}
+use Rattle.std.specs.Option.{option_transpose}
 use Rattle.iv_text.specs.BedReading.{projected_bed, projected_or_fault}
-use Rattle.iv_text.specs.Read.{Fits}
 use Rattle.iv_text.specs.RecordValue.{RecordValue}
-use Rattle.iv_text.proofs.BedReadingLemmas.{fit-all}
-use Rattle.iv_run.specs.SoFar.{SoFar, AreBoth, AreProjected, IsSaid, ReportsProjected, SaysSecond, SaysSecondBy, SaysSizes, SaysSizesBy, projected_files, noted, taken_first, taken_second}
+use Rattle.iv_run.specs.SoFar.{SoFar, AreBoth, IsSaid, ReportsProjected, SaysSecond, SaysSecondBy, SaysSizes, SaysSizesBy, noted, taken_first, taken_second}
 use Rattle.iv_run.specs.Inside.SoFar.{SaysFirst, SaysFirstBy}
 
 -- a fault is reported as damage, unless it is out of memory

@@ -6,3 +6,4 @@ pub mod Intervals
 pub mod IntervalsViews
 pub mod SoFar
 pub mod Pieces
+pub mod Held

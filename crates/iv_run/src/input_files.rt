@@ -5,6 +5,7 @@ ghost use Rattle.iv_bytes.specs.Sources.{SourceState};
 ghost use Rattle.iv_text.specs.declared.fault.LoadCause.TheVariants as cause;
 ghost use Rattle.iv_text.specs.declared.fault.LoadFault.{LoadFault};
 ghost use Rattle.iv_text.specs.BedReading.{AreSound, projected_bed_of, size_of};
+ghost use Rattle.iv_index.specs.Inside.Locators.{row_of};
 ghost use Rattle.iv_index.specs.Inside.Spans.{span_records};
 ghost use Rattle.iv_run.specs.Files.{ReadsWhole, StopsReading};
 ghost use Rattle.iv_run.specs.Inside.Files.{EndsReading, HadMemory, IsPieceFault, IsTooLong};
@@ -19,7 +20,7 @@ use crate::fault::{CliFault, FileFault};
 use iv_args::Slot;
 use iv_bytes::Source;
 use iv_fasta::Fasta;
-use iv_index::Span;
+use iv_index::{Locator, Span};
 use iv_text::{Batches, BedBatches, BedReader, FromRecord, Genome, LoadFault, Record};
 use std::alloc::{AllocError, Allocator, Global};
 use std::marker::Model;
@@ -124,8 +125,21 @@ impl<A: Allocator + Copy> ParsedFile<Span, A> {
     }
 }
 
+impl<A: Allocator + Copy> ParsedFile<Locator, A> {
+    /// The locators of the file's records, of which only the intervals are known.
+    ///
+    /// # Errors
+    ///
+    /// An allocation failed.
+    pub(crate) fn into_locators(self) -> Result<Vec<Locator, A>, AllocError>
+        ensures { IfOk result (λ locators. map (row_of 3 []) locators.items ≡ self.rows) }
+    {
+        self.kept.into_vec()
+    }
+}
+
 /// Takes the next bytes, unless there was a fault before.
-fn take_next<K: FromRecord<A>, A: Allocator + Copy>(
+pub(crate) fn take_next<K: FromRecord<A>, A: Allocator + Copy>(
     genome: &Genome<A>,
     limit: u32,
     so_far: Result<BedReader<K, A>, LoadFault>,
@@ -141,7 +155,7 @@ fn take_next<K: FromRecord<A>, A: Allocator + Copy>(
 }
 
 /// What is held of a whole file, or its fault, once all bytes have come. Without a record it has the width that is handed in.
-fn finish<K: FromRecord<A>, A: Allocator + Copy>(
+pub(crate) fn finish<K: FromRecord<A>, A: Allocator + Copy>(
     so_far: Result<BedReader<K, A>, LoadFault>,
     genome: &Genome<A>,
     empty_width: u8,

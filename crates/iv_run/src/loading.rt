@@ -1,12 +1,14 @@
 //! The files of a run while they are read, one after another.
-ghost use Rattle.std.specs.Prelude.{◌≡◌, ◌<◌, ◌≤◌, ◌^◌, List, ℕ, [], Option, None, Ok, Err, IfOk, IfErr};
+ghost use Rattle.std.specs.Prelude.{◌≡◌, ◌<◌, ◌≤◌, ◌^◌, List, ℕ, [], Option, None, Some, Ok, Err, IfOk, IfErr};
 ghost use Rattle.std.specs.Option.{option_copied, option_map};
 ghost use Rattle.iv_run.specs.Files.{ReadsWhole, StopsReading};
+ghost use Rattle.iv_run.specs.Inside.Held.{AreIntervals, IsHeld};
 ghost use Rattle.iv_run.specs.Loading.{parsed};
 ghost use Rattle.iv_run.specs.SoFar.{AreProjected, IsOfOneRun, IsSaid, ReportsProjected, SaysSecond, SaysSizes, noted, taken_first, taken_second};
 ghost use Rattle.iv_text.specs.Widths.{IsWidth};
 
 use crate::fault::{CliFault, FileFault};
+use crate::held_bed::{HeldBed, hold_bed};
 use crate::input_files::{ParsedFile, in_slot, parse_bed, parse_fasta, read_bed};
 use iv_args::{Plan, Slot};
 use iv_bytes::Source;
@@ -198,6 +200,17 @@ impl<K: FromRecord<A>, A: Allocator + Copy> Loading<K, A> {
         loading
     }
 
+    /// The genome, or the fault of the first damaged file.
+    pub(crate) fn into_genome(self) -> Result<Genome<A>, CliFault>
+        ensures ok { IfOk result (λ genome. (self.damage ≡ None) × (genome ≡ self.genome)) }
+        ensures err { IfErr result (λ fault. self.damage ≡ Some fault) }
+    {
+        match self.damage {
+            Some(fault) => Err(fault),
+            None => Ok(self.genome),
+        }
+    }
+
     /// All files, once the BED files are read, or the fault of the first damaged one. `bases` are the bytes of the FASTA
     /// file, if there is one. They are taken: the bases stay in their memory.
     pub fn finish(self, bases: Option<Vec<u8, A>>) -> Result<LoadedFiles<K, A>, CliFault>
@@ -227,4 +240,29 @@ impl<K: FromRecord<A>, A: Allocator + Copy> Loading<K, A> {
             limit,
         })
     }
+}
+
+/// A BED file for a view that needs the columns of records, read from a source to its end, at most `most` bytes.
+///
+/// # Errors
+///
+/// As of [`Loading::read`], or an allocation failed.
+pub fn hold_source<K: FromRecord<A>, A: Allocator + Copy, R: Source>(
+    loading: &Loading<K, A>,
+    source: &mut R,
+    most: u64,
+) -> Result<HeldBed<A>, FileFault>
+    requires { most < 2 ^ 32 }
+    ensures ok { IfOk result (λ held. (text : List ℕ) × ReadsWhole (R.state source.old) (R.state source.new) most text × IsHeld loading.now.genome loading.now.width loading.now.limit text held) }
+    ensures intervals { IfOk result (AreIntervals loading.now.genome) }
+    ensures err { IfErr result (λ fault. StopsReading (R.state source.old) (R.state source.new) most fault) }
+{
+    hold_bed(
+        loading.alloc,
+        &loading.genome,
+        loading.empty_width,
+        loading.limit,
+        source,
+        most,
+    )
 }

@@ -1,19 +1,21 @@
 //! A run of one subcommand, without a script, over the bytes of its files.
-ghost use Rattle.std.specs.Prelude.{◌≡◌, ◌<◌, ◌≤◌, ◌^◌, ◌⊎◌, All, List, ℕ, [], None, Ok, Err, IsSome, IfSome, IfOk, IfErr, OnOk, length};
+ghost use Rattle.std.specs.Prelude.{◌≡◌, ◌<◌, ◌≤◌, ◌^◌, All, List, ℕ, Option, [], None, Ok, Err, IsSome, IfSome, IfOk, IfErr, OnOk, length};
 ghost use Rattle.std.specs.Option.{option_copied, option_map, unwrap_or};
 ghost use Rattle.iv_bytes.specs.Sinks.{Puts};
 ghost use Rattle.iv_text.specs.Genome.{Sequences};
 ghost use Rattle.iv_text.specs.Ordered.{AreInOrder, ordered};
 ghost use Rattle.iv_text.specs.Read.{IsOnGenome};
 ghost use Rattle.iv_text.specs.RecordValue.{RecordValue};
-ghost use Rattle.iv_text.specs.declared.fault.LoadCause.TheVariants as cause;
 ghost use Rattle.iv_track.specs.Tracked.{most_records};
 ghost use Rattle.iv_fasta.specs.FastaRows.{fasta_text};
 ghost use Rattle.iv_pair.specs.CoverAlone.{DependsOnCoverAlone, HaveBases};
 ghost use Rattle.iv_pair.specs.PairRows.{pair_text};
 ghost use Rattle.iv_view.specs.Inside.Texts.{records_text};
 ghost use Rattle.iv_view.specs.Views.{kept_text};
-ghost use Rattle.iv_run.specs.Loading.{parsed, second_of};
+ghost use Rattle.iv_run.specs.Loading.{IsAnswer, IsReport, parsed, second_of};
+ghost use Rattle.iv_run.specs.SoFar.{SaysSizes};
+ghost use Rattle.iv_run.specs.Inside.Held.{AreIntervals, IsHeld, IsHeldIfNamed};
+ghost use Rattle.iv_text.specs.GenomeFile.{genome_of};
 ghost use Rattle.iv_run.specs.Inside.IntervalsViews.{AskForColumns, NeedsColumns};
 ghost use Rattle.iv_run.specs.Inside.Prints.{Prints};
 ghost use Rattle.iv_run.specs.Inside.Shots.{ordered_other, text_beside, view_beside};
@@ -21,6 +23,7 @@ ghost use Rattle.iv_run.specs.Shots.{Shows, shown};
 ghost use Rattle.iv_text.specs.Widths.{IsWidth};
 
 use crate::fault::CliFault;
+use crate::held_bed::{HeldBed, HeldFiles, LentBed};
 use crate::input_files::{in_slot, parse_fasta};
 use crate::intervals_view::IntervalsView;
 use crate::loading::{Inputs, Loading};
@@ -28,7 +31,7 @@ use iv_args::{Plan, Slot};
 use iv_blocks::{MergeSweep, put_cluster};
 use iv_bytes::{Buffered, Sink, WriteFault};
 use iv_fasta::{Fasta, FastaRows, put_fasta};
-use iv_index::{BedText, Span, TextRecords};
+use iv_index::{BedText, Locator, Span, TextRecords};
 use iv_pair::{CountSweep, IntersectRows, PairRows, PairSweep, needs_cover_alone};
 use iv_text::{Fault, Genome, LoadFault, put_line};
 use iv_view::{Beside, KeptView, View, ViewFault, WrittenView};
@@ -58,49 +61,60 @@ impl<'t, A: Allocator + Copy> Model for TextFiles<'t, A> {
     ghost invariant = { λ files. All (IsOnGenome files.genome) files.first.rows };
 }
 
-/// The second file, if there is one, or its first fault.
-fn parse_second<'t, A: Allocator + Copy>(
+/// The records of the second file, if there is one, or its first fault.
+fn second_records<'t, A: Allocator + Copy>(
     alloc: A,
     genome: &Genome<A>,
     width: u8,
     limit: u32,
-    text: Option<&'t [u8]>,
+    held: Option<LentBed<'t, A>>,
 ) -> Result<Option<BedText<'t, A>>, LoadFault>
     requires width { IsWidth width }
-    requires small { IfSome (option_copied text) (λ bytes. length bytes < 2 ^ 32) }
-    ensures ok { IfOk result (λ second. second_of genome.now width limit (option_copied text.entry) ≡ Ok second) }
-    ensures err { IfErr result (λ fault. (fault ≡ record { line = 0; cause = cause.Memory }) ⊎
-        (second_of genome.now width limit (option_copied text.entry) ≡ Err fault)) }
+    requires intervals { IfSome held (AreIntervals genome.now) }
+    ensures { (text : Option (List ℕ)) → IsHeldIfNamed genome.now width limit text held.entry → IsAnswer result (second_of genome.now width limit text) }
+{
+    match held {
+        None => Ok(None),
+        Some(held) => Ok(Some(held.records(alloc, genome, width, limit)?)),
+    }
+}
+
+/// The second file of a text, if there is one.
+fn lent_second<'t, A: Allocator + Copy>(text: Option<&'t [u8]>) -> Option<LentBed<'t, A>>
+    requires { IfSome (option_copied text) (λ bytes. length bytes < 2 ^ 32) }
+    ensures { result ≡ option_map (λ bytes. record { text = bytes; intervals = None }) (option_copied text.entry) }
 {
     match text {
-        None => Ok(None),
-        Some(text) => Ok(Some(BedText::parse(alloc, genome, width, limit, text)?)),
+        Some(text) => Some(LentBed::of_text(text)),
+        None => None,
     }
 }
 
 impl<'t, A: Allocator + Copy> TextFiles<'t, A> {
-    /// The files, or the fault of the first damaged one, in the order genome file, first file, second file,
-    /// FASTA file.
-    fn read(
+    /// The files on this genome, or the fault of the first damaged one, in the order first file, second file, FASTA file.
+    fn on(
         alloc: A,
-        plan: &Plan<'_, A>,
-        inputs: &Inputs<'t>,
-        bases: Option<Vec<u8, A>>,
+        genome: Genome<A>,
+        empty_width: u8,
         limit: u32,
+        first: LentBed<'t, A>,
+        second: Option<LentBed<'t, A>>,
+        bases: Option<Vec<u8, A>>,
     ) -> Result<TextFiles<'t, A>, CliFault>
-        requires first { length inputs.now.first.now < 2 ^ 32 }
-        requires other { IfSome (option_copied inputs.now.other) (λ text. length text < 2 ^ 32) }
-        ensures ok { IfOk result (λ files.
-            parsed plan.now.width inputs.now.sizes.now inputs.now.first.now (option_copied inputs.now.other) (option_map (λ text. text.items) bases) limit ≡ Ok files) }
-        ensures err { IfErr result (λ fault. (fault ≡ CliFault.Memory) ⊎
-            (parsed plan.now.width inputs.now.sizes.now inputs.now.first.now (option_copied inputs.now.other) (option_map (λ text. text.items) bases) limit ≡ Err fault)) }
+        requires width { IsWidth empty_width }
+        requires first { AreIntervals genome first }
+        requires second { IfSome second (AreIntervals genome) }
+        ensures { (sizes text : List ℕ) (other : Option (List ℕ)) → genome_of sizes ≡ Ok genome → IsHeld genome empty_width limit text first.entry → IsHeldIfNamed genome empty_width limit other second.entry
+            → IsReport result (parsed empty_width sizes text other (option_map (λ bytes. bytes.items) bases) limit) }
     {
-        let width = plan.width();
-        let genome = in_slot(Slot::Sizes, Genome::parse(alloc, inputs.sizes))?;
-        let first = BedText::parse(alloc, &genome, width, limit, inputs.first);
-        let first = in_slot(Slot::First, first)?;
-        let second = parse_second(alloc, &genome, width, limit, inputs.other);
-        let second = in_slot(Slot::Other, second)?;
+        let first = in_slot(
+            Slot::First,
+            first.records(alloc, &genome, empty_width, limit),
+        )?;
+        let second = in_slot(
+            Slot::Other,
+            second_records(alloc, &genome, empty_width, limit, second),
+        )?;
         let fasta = in_slot(Slot::Bases, parse_fasta(alloc, &genome, bases))?;
         Ok(TextFiles {
             genome,
@@ -337,31 +351,92 @@ fn put_lines<A: Allocator + Copy, S: Sink>(
     Ok(())
 }
 
-/// Prints a view that needs the columns of records, as [`shot`] does.
-///
-/// # Errors
-///
-/// As of [`shot`].
-pub fn shot_of_columns<A: Allocator + Copy, S: Sink>(
+/// Prints a view that needs the columns of records, of files that are sound.
+fn print_files<A: Allocator + Copy, S: Sink>(
     alloc: A,
     plan: &Plan<'_, A>,
-    inputs: &Inputs<'_>,
-    bases: Option<Vec<u8, A>>,
-    limit: u32,
+    files: TextFiles<'_, A>,
     sink: &mut S,
 ) -> Result<(), CliFault>
     requires columns { AskForColumns plan.now.view }
-    requires first { length inputs.now.first.now < 2 ^ 32 }
-    requires other { IfSome (option_copied inputs.now.other) (λ text. length text < 2 ^ 32) }
-    ensures { Shows (S.state sink.old) (S.state sink.new) result
-        (shown plan.now inputs.now.sizes.now inputs.now.first.now (option_copied inputs.now.other) (option_map (λ text. text.items) bases) limit) }
+    ensures { (sizes text : List ℕ) (other bases : Option (List ℕ)) (limit : ℕ) → parsed plan.now.width sizes text other bases limit ≡ Ok files.entry
+        → Shows (S.state sink.old) (S.state sink.new) result (shown plan.now sizes text other bases limit) }
 {
-    let files = TextFiles::read(alloc, plan, inputs, bases, limit)?;
     let view = files.view(plan)?;
     let mut buffer = Buffered::new(sink);
     files.put(alloc, view, &mut buffer)?;
     buffer.finish()?;
     Ok(())
+}
+
+/// Prints a view that needs the columns of records, once the genome file is read, of BED files whose texts are lent.
+fn shot_of_lent<'t, A: Allocator + Copy, S: Sink>(
+    alloc: A,
+    plan: &Plan<'_, A>,
+    loading: Loading<Locator, A>,
+    first: LentBed<'t, A>,
+    second: Option<LentBed<'t, A>>,
+    bases: Option<Vec<u8, A>>,
+    limit: u32,
+    sink: &mut S,
+) -> Result<(), CliFault>
+    requires columns { AskForColumns plan.now.view }
+    requires first { AreIntervals loading.genome first }
+    requires second { IfSome second (AreIntervals loading.genome) }
+    ensures { (sizes text : List ℕ) (other : Option (List ℕ)) → SaysSizes sizes loading → loading.width ≡ plan.now.width → loading.limit ≡ limit
+        → IsHeld loading.genome plan.now.width limit text first.entry → IsHeldIfNamed loading.genome plan.now.width limit other second.entry
+        → Shows (S.state sink.old) (S.state sink.new) result (shown plan.now sizes text other (option_map (λ bytes. bytes.items) bases) limit) }
+{
+    let genome = loading.into_genome()?;
+    let files = TextFiles::on(alloc, genome, plan.width(), limit, first, second, bases)?;
+    print_files(alloc, plan, files, sink)
+}
+
+/// The second file, if there is one, its text lent.
+fn lend_second<A: Allocator + Copy>(held: &mut Option<HeldBed<A>>) -> Option<LentBed<'_, A>>
+    ensures { result ≡ held.old }
+{
+    match held {
+        Some(held) => Some(held.lend()),
+        None => None,
+    }
+}
+
+/// Prints a view that needs the columns of records, once all files are read: all of its text, and nothing else.
+///
+/// # Errors
+///
+/// As of [`shot`].
+pub fn shot_of_held<A: Allocator + Copy, S: Sink>(
+    alloc: A,
+    plan: &Plan<'_, A>,
+    files: HeldFiles<A>,
+    sink: &mut S,
+) -> Result<(), CliFault>
+    requires columns { AskForColumns plan.now.view }
+    requires first { AreIntervals files.loading.genome files.first }
+    requires second { IfSome files.second (AreIntervals files.loading.genome) }
+    ensures { (sizes text : List ℕ) (other : Option (List ℕ)) → SaysSizes sizes files.loading → files.loading.width ≡ plan.now.width → files.loading.limit ≡ plan.now.limit
+        → IsHeld files.loading.genome plan.now.width plan.now.limit text files.first → IsHeldIfNamed files.loading.genome plan.now.width plan.now.limit other files.second
+        → Shows (S.state sink.old) (S.state sink.new) result (shown plan.now sizes text other (option_map (λ bytes. bytes.items) files.bases) plan.now.limit) }
+{
+    let HeldFiles {
+        loading,
+        mut first,
+        mut second,
+        bases,
+    } = files;
+    let other = lend_second(&mut second);
+    shot_of_lent(
+        alloc,
+        plan,
+        loading,
+        first.lend(),
+        other,
+        bases,
+        plan.limit(),
+        sink,
+    )
 }
 
 /// Prints what the plan's subcommand shows of the files, given their bytes: all of it, and nothing else.
@@ -391,5 +466,8 @@ pub fn shot<A: Allocator + Copy, S: Sink>(
         let loading: Loading<Span, A> = Loading::of_inputs(alloc, plan, inputs, limit);
         return loading.print(view, bases, sink);
     }
-    shot_of_columns(alloc, plan, inputs, bases, limit, sink)
+    let loading = Loading::begin(alloc, plan, inputs.sizes, limit);
+    let first = LentBed::of_text(inputs.first);
+    let second = lent_second(inputs.other);
+    shot_of_lent(alloc, plan, loading, first, second, bases, limit, sink)
 }

@@ -19,7 +19,7 @@ use Rattle.iv_text.specs.Inside.Fields.{HasNoTab, is_separator}
 use Rattle.iv_text.specs.Genome.{Sequences, length_at}
 use Rattle.iv_text.specs.Lines.{lines, HasNoFeed, begins_with}
 use Rattle.iv_text.specs.Inside.OnePass.{ArePassed, BeginsWithInterval, BeginsWithCell, BeginsWithCells, IsCell, ends_cell, laid}
-use Rattle.iv_text.specs.Read.{column, bad_text}
+use Rattle.iv_text.specs.Read.{bad_text}
 use Rattle.iv_text.specs.Inside.Read.{is_line_byte}
 use Rattle.iv_text.specs.RecordValue.{IsRecord, strand_of}
 use Rattle.iv_text.specs.FastLine.{IsFastLine}

@@ -12,7 +12,7 @@ use Rattle.iv_text.specs.Fields.{columns}
 use Rattle.iv_text.specs.Number.{number}
 use Rattle.iv_text.specs.Inside.Number.{decimal_from}
 use Rattle.iv_text.specs.Inside.Fields.{HasNoTab, is_separator}
-use Rattle.iv_text.specs.Inside.OnePass.{ArePassed, BeginsWithName, BeginsWithNumber, BeginsWithInterval, IsNamed}
+use Rattle.iv_text.specs.Inside.OnePass.{ArePassed, BeginsWithName, BeginsWithNumber, BeginsWithInterval}
 use Rattle.iv_text.specs.declared.record_ref.Strand.{Strand}
 use Rattle.std.specs.Borrow.{Bor}
 use Rattle.std.specs.Prelude.{MatchOption, IfSome, IsSome}

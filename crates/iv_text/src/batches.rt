@@ -167,10 +167,22 @@ impl<T: Drop, A: Allocator + Copy> Batches<T, A> {
     }
 
     /// Begins a new vector, with room for `most` items, if the last one has as many.
+    #[inline(always)]
     fn make_room(&mut self, most: usize) -> Result<(), AllocError>
         ensures { self.new ≡ self.old }
     {
-        if self.last.len() < most || self.last.is_empty() {
+        if self.last.len() < most {
+            return Ok(());
+        }
+        self.begin_vector(most)
+    }
+
+    /// Begins a new vector, with room for `most` items, unless the last one is empty.
+    #[inline(never)]
+    fn begin_vector(&mut self, most: usize) -> Result<(), AllocError>
+        ensures { self.new ≡ self.old }
+    {
+        if self.last.is_empty() {
             return Ok(());
         }
         self.full.reserve(1)?;
@@ -184,6 +196,7 @@ impl<T: Drop, A: Allocator + Copy> Batches<T, A> {
     /// # Errors
     ///
     /// An allocation failed, and the list is as it was.
+    #[inline(always)]
     pub fn push(&mut self, most: usize, one: T) -> Result<(), AllocError>
         ensures ok { OnOk result (self.new ≡ self.old ++ one ∷ []) }
         ensures err { OnErr result (self.new ≡ self.old) }
@@ -263,6 +276,7 @@ impl<T: Drop, A: Allocator> Iterator for BatchItems<T, A> {
 
     ghost remaining = { item_count (λ items. items) };
 
+    #[inline(always)]
     fn next(&mut self) -> Option<T> {
         if let Some(one) = self.current.next() {
             return Some(one);

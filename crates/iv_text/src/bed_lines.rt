@@ -57,6 +57,7 @@ impl<A: Allocator + Copy> FromRecord<A> for Record<A> {
 
     ghost stands = { λ r at. refl };
 
+    #[inline(always)]
     fn from_record(alloc: A, read: &RecordRef<'_>, _at: u32) -> Result<Self, AllocError> {
         read.to_record(alloc)
     }
@@ -74,8 +75,7 @@ impl<A: Allocator + Copy> FromRecord<A> for Record<A> {
         if width != 3 {
             return None;
         }
-        let record = RecordRef::of_columns(line.seq, line.start, line.stop, b"", b"", None, 3);
-        record.to_record(alloc).ok()
+        Some(Record::of_interval(alloc, line.seq, line.start, line.stop))
     }
 }
 
@@ -99,6 +99,7 @@ impl<K: FromRecord<A>, A: Allocator + Copy> Model for BedLines<K, A> {
 }
 
 /// What is held of a record whose line begins at this byte.
+#[inline(always)]
 fn held_of<K: FromRecord<A>, A: Allocator + Copy>(
     alloc: A,
     read: &RecordRef<'_>,
@@ -124,7 +125,7 @@ impl<K: FromRecord<A>, A: Allocator + Copy> BedLines<K, A> {
     }
 
     /// How many columns the records have, once there is one.
-    fn width(&self) -> Option<u8>
+    pub(crate) fn width(&self) -> Option<u8>
         ensures { result ≡ self.now.width }
     {
         self.width
@@ -148,6 +149,7 @@ impl<K: FromRecord<A>, A: Allocator + Copy> BedLines<K, A> {
     }
 
     /// Takes what is held of one more record of this width, unless there are as many as the limit.
+    #[inline(always)]
     fn take_one(&mut self, limit: u32, width: u8, one: K) -> Result<(), LoadCause>
         ensures ok { OnOk result (self.new ≡ record self.old { width = Some width; kept = self.old.kept ++ one ∷ [] }) }
         ensures free { OnOk result (length self.old.kept < limit) }

@@ -81,6 +81,13 @@ impl<K: FromRecord<A>, A: Allocator + Copy> BedReader<K, A> {
         }
     }
 
+    /// How many columns the records have, once one of them was read.
+    pub fn width(&self) -> Option<u8>
+        ensures { result ≡ self.now.read.width }
+    {
+        self.read.width()
+    }
+
     /// Takes the next bytes of the file: all lines that end in them.
     ///
     /// # Errors

@@ -193,7 +193,9 @@ fn word_at(text: &[u8], at: usize) -> u32
     requires { at + 4 ≤ length text.now }
     ensures { (k : ℕ) → k < 4 → slice_index text.now (at + k) ≡ result / 256 ^ k % 256 }
 {
-    u32::from_le_bytes([text[at], text[at + 1], text[at + 2], text[at + 3]])
+    // That there is a last byte says so of the others, and all four are read at once.
+    let last = text[at + 3];
+    u32::from_le_bytes([text[at], text[at + 1], text[at + 2], last])
 }
 
 /// What follows a name that a line begins with.

@@ -1,6 +1,6 @@
 -- A list in order, its equal neighbours taken as one entry each.
 use Rattle.std.proofs.Common.{◌≡◌, ℕ, ◌+◌, ◌<◌, ◌^◌, Bool, true, false, not, List, [], ◌∷◌, ◌++◌, length, refl, sym, ap, ◌∙◌, subst, arith, zero, suc}
-use Rattle.std.specs.Prelude.{All, Option, map, replicate, if◌then◌else◌}
+use Rattle.std.specs.Prelude.{Option, map, replicate, if◌then◌else◌}
 use Rattle.std.specs.Iterator.{Yields, Drains}
 use Rattle.std.specs.List.{AllByRecursion}
 use Rattle.std.specs.List.Sorted.{IsStrictlySortedBy}
@@ -20,15 +20,8 @@ use Rattle.iv_text.proofs.BatchLemmas.{strictly-sorted, strictly-rest, strictly-
 use Rattle.iv_text.proofs.OrderedLemmas.{ordered-in_order, ordered-sorted}
 use Rattle.iv_text.proofs.RecordLemmas.{rows_exact}
 use Rattle.iv_track.specs.Copies.{expanded}
-use Rattle.iv_track.specs.Inside.Counted.{grouped_from, grouped, AreDistinct, GivesEntry}
+use Rattle.iv_track.specs.Inside.Counted.{grouped_from, grouped, AreCounted, AreDistinct, GivesEntry}
 use Rattle.iv_track.specs.Entries.{IsLedger}
-
--- the entries of a list in order: its different records in order, which are placed, each with the number of its copies
-pub record AreCounted (es : List (RecordValue × ℕ)) (rows : List RecordValue) : Type 0 where
-  pub rows_are : expanded es ≡ rows
-  pub ordered : IsLedger record_cmp es
-  pub present : All (λ n. 0 < n) (values_of es)
-  pub placed : All IsPlaced (keys_of es)
 
 -- what holds on either side of a test
 either_way : {X : Type 0} (P : X → Type 0) (b : Bool) (x y : X) → (b ≡ true → P x) → (b ≡ false → P y) → P (if b then x else y)

@@ -1,7 +1,7 @@
 -- A list of which a few items were replaced.
-use Rattle.std.proofs.Common.{◌≡◌, ℕ, zero, suc, ◌+◌, ◌-◌, ◌<◌, ◌≤◌, Bool, true, false, nat_lt, List, [], ◌∷◌, ◌++◌, length, take, drop, set, refl, sym, ap, ◌∙◌, subst, append_assoc, arith}
+use Rattle.std.proofs.Common.{◌≡◌, ℕ, zero, suc, ◌+◌, ◌-◌, ◌<◌, ◌≤◌, Bool, true, false, nat_lt, List, [], ◌∷◌, ◌++◌, length, take, drop, set, refl, sym, ap, ◌∙◌, append_assoc, arith}
 use Rattle.std.specs.List.{insert, remove}
-use Rattle.std.proofs.Math.Seq.{set_out, take-length, take-append-add, drop-append-add}
+use Rattle.std.proofs.Math.Seq.{take-length, take-append-add, drop-append-add}
 use Rattle.std.proofs.Math.ListN.{drop_of_length-le}
 use Rattle.std.proofs.lemmas.Bool.{ltb-true, ltb-false}
 use Rattle.std.proofs.lemmas.List.{take-append-drop, take-append-le, drop_at, drop-drop, take-take, set_split, set-append_left, set-append_right, take-set, drop-set-lt, length-take-le, length-drop, length-append, length-set, append-nil}

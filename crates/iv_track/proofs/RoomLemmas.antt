@@ -7,7 +7,7 @@ use Rattle.std.proofs.Math.Seq.{take-add}
 use Rattle.std.proofs.lemmas.List.{take-append-drop, take-append-le, drop-append-le, take_at, drop_at, get_or_at, take_more_set, drop-set-lt, take-take, drop-drop, append-nil, length-append, length-take-le, length-drop, length_push}
 use Rattle.std.proofs.lemmas.List.Concat.{flat_map-append}
 use Rattle.iv_track.specs.Inside.Chunks.{joined, before, from, IsFilled, AreFilled, IsSplit, IsWithin, IsIndexWithRoom, most_in_chunk}
-use Rattle.iv_track.specs.Inside.Replaced.{IsReplaced, IsAmong}
+use Rattle.iv_track.specs.Inside.Replaced.{IsAmong}
 use Rattle.iv_track.proofs.ChunkLemmas.{before_at, from_at, filled-insert, filled-set}
 
 -- an index in a chunk between others

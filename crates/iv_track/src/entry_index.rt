@@ -290,6 +290,7 @@ pub(crate) fn insert_at<T: Drop, A: Allocator + Clone + Drop>(
 }
 
 /// Adds an entry after all others, of which the last are not among the chunks yet.
+#[inline(always)]
 pub(crate) fn append<T: Drop, A: Allocator + Clone + Drop>(
     chunks: &mut Vec<Vec<T, A>, A>,
     last: &mut Vec<T, A>,

@@ -12,7 +12,7 @@ ghost use Rattle.iv_track.specs.Copies.{expanded};
 ghost use Rattle.iv_track.specs.Tracked.{different_records, most_records};
 ghost use Rattle.iv_track.specs.Inside.Tracked.{BeginsFrom};
 
-use crate::counted::Counted;
+use crate::counted::count_copies;
 use crate::ledger::Ledger;
 use crate::length_classes::{LengthClasses, length_class};
 use crate::meter::Meter;
@@ -107,8 +107,7 @@ impl<A: Allocator + Copy> Track<A> {
         ensures { IfOk result (λ t. t ≡ record { rows = ordered rows; width = width; limit = limit }) }
     {
         let len = rows.len() as u32;
-        let entries = Counted::of(rows)?;
-        let ledger = Ledger::from_entries(alloc, entries)?;
+        let ledger = count_copies(alloc, rows)?;
         let lengths = LengthClasses::of(ledger.all());
         Ok(Track {
             ledger,

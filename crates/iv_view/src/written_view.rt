@@ -29,7 +29,7 @@ pub enum WrittenView {
 }
 
 impl WrittenView {
-    /// Prints the view. It takes no memory; on a fault the sink has taken a prefix of the text.
+    /// Prints the view. It needs no memory; on a fault the sink has taken a prefix of the text.
     ///
     /// A view that needs a second file has one. Without a FASTA file `getfasta` prints nothing. `records` takes at most two steps, and
     /// one for each different record.

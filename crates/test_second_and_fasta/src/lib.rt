@@ -6,6 +6,8 @@ mod allocations;
 #[cfg(test)]
 mod bases;
 #[cfg(test)]
+mod deep_prints;
+#[cfg(test)]
 mod fasta_faults;
 #[cfg(test)]
 mod fasta_files;

@@ -1,5 +1,5 @@
 -- The blocks of a walk with strands together, as they are kept.
-use Rattle.std.specs.Prelude.{ℕ, ◌++◌, false, List, [], map, Option, Some}
+use Rattle.std.specs.Prelude.{ℕ, ◌++◌, false, List, map, Option, Some}
 use Rattle.std.specs.Iterator.{YieldsFirst}
 use Rattle.iv_text.specs.Genome.{Sequences, sequence_name}
 use Rattle.iv_text.specs.RecordValue.{RecordValue}
@@ -17,10 +17,10 @@ kept_entry g summaries b = ((b.sequence, false, b.start), kept_block (sequence_n
 abbrev pub entries_with : Sequences → List ColumnSummary → ℕ → Entries → Block → List RecordValue → List RecordValue → Entries
 entries_with g summaries distance entries block members rows = entries ++ map (kept_entry g summaries) (coming distance (Some (with_members block members)) rows)
 
--- the key of a block without summaries, and what is kept of it
-abbrev pub plain_entry : Group → Key × Kept
-plain_entry b = ((b.sequence, false, b.start), record { stop = b.stop; results = [] })
+-- the key of a block, and where it stops
+abbrev pub stop_entry : Group → Key × ℕ
+stop_entry b = ((b.sequence, false, b.start), b.stop)
 
--- a call gave the first of these blocks as it is kept, or none if none is left
-abbrev pub GivesKept : List Group → Option (Key × Kept) → List Group → Type 0
-GivesKept old given new = YieldsFirst (map plain_entry) old given new
+-- a call gave the first of these blocks, or none if none is left
+abbrev pub GivesStops : List Group → Option (Key × ℕ) → List Group → Type 0
+GivesStops old given new = YieldsFirst (map stop_entry) old given new

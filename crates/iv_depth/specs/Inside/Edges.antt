@@ -1,6 +1,6 @@
--- Starts and stops of records, as numbers in order. This is the state of a sweep, as seen by its proof.
-use Rattle.std.specs.Prelude.{◌≡◌, ◌≢◌, ℕ, ◌+◌, ◌≤◌, nat_le, Bool, List, [], ◌∷◌, map, count_by, if◌then◌else◌}
-use Rattle.std.specs.List.{AllByRecursion}
+-- Starts and stops of records, as numbers in order, and the net changes of depth there. This is the state of a sweep and of a build,
+-- as seen by their proofs.
+use Rattle.std.specs.Prelude.{◌≡◌, ◌≢◌, ℕ, ◌+◌, ◌<◌, ◌≤◌, ◌^◌, nat_le, Bool, List, [], ◌∷◌, Option, Some, None, length, map, count_by, if◌then◌else◌, ℤ, pos, ◌+ℤ◌, ◌-ℤ◌}
 use Rattle.iv_index.specs.declared.span.Span.{Span}
 
 -- where the intervals start
@@ -26,40 +26,62 @@ abbrev pub BeginsElse : ℕ → List ℕ → Type 0
 BeginsElse p [] = Unit {0}
 BeginsElse p (n ∷ ns) = n ≢ p
 
--- no number is beyond the limit
-abbrev pub AreWithin : ℕ → List ℕ → Type 0
-AreWithin limit ns = AllByRecursion (λ n. n ≤ limit) ns
-
 -- these are the stops of the intervals, from the least to the greatest
 pub record AreStopsOf (places : List Span) (stops : List ℕ) : Type 0 where
   pub rise : Rise 0 stops
-  pub within : (limit : ℕ) → AreWithin limit (stops_of places) → AreWithin limit stops
   pub sums : (p : ℕ) → up_to p stops ≡ up_to p (stops_of places)
 
--- the position is the least of these numbers
-pub record IsEdge (starts stops : List ℕ) (position : ℕ) : Type 0 where
-  pub least : (from : ℕ) → Rise from starts → Rise from stops → from ≤ position
-  pub starts_rise : (from : ℕ) → Rise from starts → Rise position starts
-  pub stops_rise : (from : ℕ) → Rise from stops → Rise position stops
-  pub within : (limit : ℕ) → AreWithin limit stops → position ≤ limit
-  pub first : BeginsElse position starts → BeginsElse position stops → ⊥
+-- so many of the old numbers are passed, all of them this one, and the new numbers, which rise from another one on, are left
+pub record Passes (n count from : ℕ) (old new : List ℕ) : Type 0 where
+  pub sums : (passes : ℕ → Bool) → count_by passes old ≡ (if passes n then count else 0) + count_by passes new
+  pub rise : Rise from new
 
--- the new numbers are the old ones without those at the position, of which there are so many
-pub record PassesEdge (position count : ℕ) (old new : List ℕ) : Type 0 where
-  pub sums : (passes : ℕ → Bool) → count_by passes old ≡ (if passes position then count else 0) + count_by passes new
-  pub later : Rise (position + 1) new
-  pub within : (limit : ℕ) → AreWithin limit old → AreWithin limit new
+-- the number is the least of these
+pub record IsLeast (starts stops : List ℕ) (n : ℕ) : Type 0 where
+  pub least : (from : ℕ) → Rise from starts → Rise from stops → from ≤ n
+  pub starts_rise : (from : ℕ) → Rise from starts → Rise n starts
+  pub stops_rise : (from : ℕ) → Rise from stops → Rise n stops
+  pub first : BeginsElse n starts → BeginsElse n stops → ⊥
 
--- a loop is past so many of the old numbers, all at the position, and these are left
-pub record IsPassing (position count : ℕ) (old left : List ℕ) : Type 0 where
-  pub sums : (passes : ℕ → Bool) → count_by passes old ≡ (if passes position then count else 0) + count_by passes left
-  pub rise : Rise position left
-  pub within : (limit : ℕ) → AreWithin limit old → AreWithin limit left
+-- the starts and stops that remain
+pub record Remaining : Type 0 where
+  pub starts : List ℕ
+  pub stops : List ℕ
+
+-- how many there are
+abbrev pub edge_count : Remaining → ℕ
+edge_count edges = length edges.starts + length edges.stops
+
+-- both rise from this number on
+pub record RiseFrom (from : ℕ) (edges : Remaining) : Type 0 where
+  pub starts : Rise from edges.starts
+  pub stops : Rise from edges.stops
+
+-- how many starts there are more than stops, among the numbers that pass
+abbrev pub net : (ℕ → Bool) → Remaining → ℤ
+net passes edges = pos (count_by passes edges.starts) -ℤ pos (count_by passes edges.stops)
+
+-- the new ones are left of the old ones, and at the others as many start as stop
+pub record SkipsEdges (from : ℕ) (old new : Remaining) : Type 0 where
+  pub sums : (passes : ℕ → Bool) → net passes old ≡ net passes new
+  pub rise : RiseFrom from new
+
+-- the first of the old numbers with a change that is not 0 is this one, and the new ones are those after it
+pub record TakesChange (from : ℕ) (old : Remaining) (n : ℕ) (change : ℤ) (new : Remaining) : Type 0 where
+  pub low : from ≤ n
+  pub other : change ≢ pos 0
+  pub sums : (passes : ℕ → Bool) → net passes old ≡ (if passes n then change else pos 0) +ℤ net passes new
+  pub later : RiseFrom (n + 1) new
+
+-- a call gave the next change that is not 0, or there is none
+abbrev pub GivesChange : Remaining → Option (ℕ × ℤ) → Remaining → Type 0
+GivesChange old (Some c) new = (from : ℕ) → RiseFrom from old → TakesChange from old c.0 c.1 new
+GivesChange old None new = (from : ℕ) → RiseFrom from old → (passes : ℕ → Bool) → net passes old ≡ pos 0
 
 -- f is the depth that goes up at the starts and down at the stops, from a position of this depth on, and is 0 from the length on
-pub record IsAhead (f : ℕ → ℕ) (from length depth : ℕ) (starts stops : List ℕ) : Type 0 where
-  pub starts_rise : Rise from starts
-  pub stops_rise : Rise from stops
-  pub within : AreWithin length stops
-  pub depths : (p : ℕ) → from ≤ p → f p + up_to p stops ≡ depth + up_to p starts
+pub record IsAhead (f : ℕ → ℕ) (from length depth : ℕ) (edges : Remaining) : Type 0 where
+  pub rise : RiseFrom from edges
+  pub low : from ≤ length
+  pub depths : (p : ℕ) → from ≤ p → pos (f p) ≡ pos depth +ℤ net (λ n. nat_le n p) edges
+  pub small : (p : ℕ) → f p < 2 ^ 63
   pub ends : (p : ℕ) → length ≤ p → f p ≡ 0

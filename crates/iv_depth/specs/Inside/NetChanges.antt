@@ -1,10 +1,9 @@
--- Where records start and stop, as numbers in order, and the net changes of depth there. This is the state of a build, as
--- seen by its proof.
-use Rattle.std.specs.Prelude.{◌≡◌, ◌≢◌, ℕ, ◌+◌, ◌*◌, ◌/◌, ◌%◌, ◌^◌, ◌≤◌, Bool, if◌then◌else◌, List, Option, Some, None, count_by, ℤ, pos, ◌+ℤ◌, ◌-ℤ◌}
+-- Where records start and stop, as keys in order, and the net changes of depth there. This is the state of a build, as seen by its proof.
+use Rattle.std.specs.Prelude.{◌≡◌, ℕ, ◌+◌, ◌*◌, ◌/◌, ◌%◌, ◌^◌, List, Option, Some, None, count_by, ℤ}
 use Rattle.iv_text.specs.RecordValue.{RecordValue}
 use Rattle.iv_cover.specs.Depth.{depth}
 use Rattle.iv_depth.specs.Changes.{ChangeKey, reaches}
-use Rattle.iv_depth.specs.Inside.Edges.{Rise, BeginsElse}
+use Rattle.iv_depth.specs.Inside.Edges.{Rise, Remaining, GivesChange}
 
 -- a rank and a position as one number, a key: keys ascend as they do
 abbrev pub key_of : ℕ → ℕ → ℕ
@@ -24,42 +23,7 @@ pub record AreEdgesOf (rows : List RecordValue) (starts stops : List ℕ) : Type
   pub stops_rise : Rise 0 stops
   pub depths : (rank p : ℕ) → depth rows rank p + reached rank p stops ≡ reached rank p starts
 
--- the keys of starts and of stops that remain
-pub record Keys : Type 0 where
-  pub starts : List ℕ
-  pub stops : List ℕ
-
--- both rise from this number on
-pub record RiseFrom (from : ℕ) (keys : Keys) : Type 0 where
-  pub starts : Rise from keys.starts
-  pub stops : Rise from keys.stops
-
--- how many starts there are more than stops, at the keys that pass
-abbrev pub net : (ℕ → Bool) → Keys → ℤ
-net passes keys = pos (count_by passes keys.starts) -ℤ pos (count_by passes keys.stops)
-
--- the key is the least of these numbers
-pub record IsLeast (starts stops : List ℕ) (key : ℕ) : Type 0 where
-  pub least : (from : ℕ) → Rise from starts → Rise from stops → from ≤ key
-  pub starts_rise : (from : ℕ) → Rise from starts → Rise key starts
-  pub stops_rise : (from : ℕ) → Rise from stops → Rise key stops
-  pub first : BeginsElse key starts → BeginsElse key stops → ⊥
-
--- the new keys are left of the old ones, and at the others there are as many starts as stops
-pub record SkipsKeys (from : ℕ) (old new : Keys) : Type 0 where
-  pub sums : (passes : ℕ → Bool) → net passes old ≡ net passes new
-  pub rise : RiseFrom from new
-
--- the first of the old keys with a change that is not 0 is this one, and the new keys are those after it
-pub record TakesChange (from : ℕ) (old : Keys) (place : ChangeKey) (change : ℤ) (new : Keys) : Type 0 where
-  pub key : ℕ
-  pub is : place ≡ change_key_of key
-  pub low : from ≤ key
-  pub other : change ≢ pos 0
-  pub sums : (passes : ℕ → Bool) → net passes old ≡ (if passes key then change else pos 0) +ℤ net passes new
-  pub later : RiseFrom (key + 1) new
-
--- a call gave the next change that is not 0, or there is none
-abbrev pub GivesChange : Keys → Option (ChangeKey × ℤ) → Keys → Type 0
-GivesChange old (Some c) new = (from : ℕ) → RiseFrom from old → TakesChange from old c.0 c.1 new
-GivesChange old None new = (from : ℕ) → RiseFrom from old → (passes : ℕ → Bool) → net passes old ≡ pos 0
+-- a call gave the next change that is not 0 with the rank and position of its key, or there is none
+abbrev pub GivesKeyChange : Remaining → Option (ChangeKey × ℤ) → Remaining → Type 0
+GivesKeyChange old (Some c) new = (key : ℕ) × (c.0 ≡ change_key_of key) × GivesChange old (Some (key, c.1)) new
+GivesKeyChange old None new = GivesChange old None new

@@ -1,5 +1,5 @@
 -- Bytes of a FASTA file, and a header with the lines of bases after it.
-use Rattle.std.specs.Prelude.{◌≡◌, ℕ, ◌+◌, ◌++◌, ◌==◌, ◌||◌, nat_lt, Bool, true, false, List, [], ◌∷◌, None}
+use Rattle.std.specs.Prelude.{◌≡◌, ℕ, ◌++◌, ◌==◌, ◌||◌, nat_lt, Bool, true, false, List, [], ◌∷◌, None}
 use Rattle.iv_text.specs.Bytes.{tab, space}
 use Rattle.std.specs.List.{list_any, concat}
 use Rattle.iv_text.specs.Named.{name_index}

@@ -58,3 +58,8 @@ pub record IsCountSweep (ends : List End) (first second : List RecordValue) : Ty
   pub ends_are : AreEndsOf ends second
   pub first_ordered : AreInOrder first
   pub second_ordered : AreInOrder second
+
+-- records in order, and where they end
+pub record AreCounted (ends : List End) (rows : List RecordValue) : Type 0 where
+  pub ends_are : AreEndsOf ends rows
+  pub ordered : AreInOrder rows

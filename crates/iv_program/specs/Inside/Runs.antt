@@ -9,7 +9,8 @@ use Rattle.iv_args.specs.Words.{RunPlan, is_session}
 use Rattle.iv_args.specs.declared.plan.Slot.{Slot}
 use Rattle.iv_args.specs.declared.subcommand.Subcommand.TheVariants as kind
 use Rattle.iv_run.specs.Shots.{Shows, shown}
-use Rattle.iv_run.specs.SoFar.{SaysSecond, SoFar}
+use Rattle.iv_run.specs.SoFar.{SaysSecond, SaysSizes, SoFar}
+use Rattle.iv_run.specs.Inside.Held.{Held, IsHeld, IsHeldIfNamed}
 use Rattle.iv_run.specs.declared.fault.CliFault.{CliFault}
 use Rattle.iv_run.specs.declared.fault.FileFault.{FileFault}
 use Rattle.iv_cli.specs.ExitReasons.{ending_after, ending_of, ending_of_file, is_through, line_of}
@@ -25,6 +26,16 @@ pub record Says (projected : RecordValue → RecordValue) (plan : RunPlan) (text
   pub width_is : known.width ≡ plan.width
   pub limit_is : known.limit ≡ plan.limit
   pub known_is : SaysSecond projected texts.sizes texts.first texts.other known
+  pub bases_are : bases ≡ texts.bases
+
+-- what is known of the genome file of a plan and held of its BED files is that of these texts, and the bytes of its FASTA file are those of
+-- its text
+pub record SaysHeld (plan : RunPlan) (texts : Texts) (known : SoFar) (first : Held) (second : Option Held) (bases : Option (List ℕ)) : Type 0 where
+  pub width_is : known.width ≡ plan.width
+  pub limit_is : known.limit ≡ plan.limit
+  pub sizes_is : SaysSizes texts.sizes known
+  pub first_is : IsHeld known.genome plan.width plan.limit texts.first first
+  pub second_is : IsHeldIfNamed known.genome plan.width plan.limit texts.other second
   pub bases_are : bases ≡ texts.bases
 
 -- the view of a plan was printed for its texts, or its first fault is reported

@@ -1,11 +1,14 @@
--- Equal neighbours of a list as one entry each. This is the state of the iterator that a track is built from, as seen by
--- its proof.
-use Rattle.std.specs.Prelude.{◌≡◌, ℕ, ◌+◌, true, List, [], ◌∷◌, Option, Some, None, if◌then◌else◌, IfSome}
+-- Equal neighbours of a list as one entry each. This is the state of the iterators that a track is built from, as seen by
+-- their proofs.
+use Rattle.std.specs.Prelude.{◌≡◌, ℕ, ◌+◌, ◌<◌, true, List, [], ◌∷◌, Option, Some, None, All, if◌then◌else◌, IfSome}
 use Rattle.std.specs.Iterator.{YieldsFirst}
+use Rattle.std.specs.Map.{keys_of, values_of}
 use Rattle.std.specs.declared.cmp.Ordering.{Ordering}
 use Rattle.std.specs.Ordering.{is_eq}
 use Rattle.iv_text.specs.Ascending.{ascends}
 use Rattle.iv_text.specs.RecordValue.{RecordValue, IsPlaced, record_cmp}
+use Rattle.iv_track.specs.Copies.{expanded}
+use Rattle.iv_track.specs.Entries.{IsLedger}
 
 module _ {K : Type 0} (cmp : K → K → Ordering) where
   -- the entries of a list of which n neighbours alike k were taken, and these are left
@@ -30,3 +33,10 @@ left (Some k) ks = k ∷ ks
 -- a call gave the first of the entries, whose record is placed, or none if none was left
 abbrev pub GivesEntry : List (RecordValue × ℕ) → Option (RecordValue × ℕ) → List (RecordValue × ℕ) → Type 0
 GivesEntry old given new = YieldsFirst (λ es. es) old given new × IfSome given (λ e. IsPlaced e.0)
+
+-- the entries of a list in order: its different records in order, which are placed, each with the number of its copies
+pub record AreCounted (es : List (RecordValue × ℕ)) (rows : List RecordValue) : Type 0 where
+  pub rows_are : expanded es ≡ rows
+  pub ordered : IsLedger record_cmp es
+  pub present : All (λ n. 0 < n) (values_of es)
+  pub placed : All IsPlaced (keys_of es)

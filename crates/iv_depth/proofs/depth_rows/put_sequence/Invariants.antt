@@ -5,8 +5,8 @@ use Rattle.iv_depth.specs.Inside.Texts.{rows_between}
 use Rattle.iv_depth.proofs.depth_rows.put_sequence.Given as goal
 
 -- the rows from `start` on remain to be written, and the changes that are left are those of the depth from there on
-abbrev pub invariant-loop-position : goal.invariant-loop-position
-invariant-loop-position g l = record {
+abbrev pub invariant-loop-stop : goal.invariant-loop-stop
+invariant-loop-stop g l = record {
   put : (f : ℕ → ℕ → ℕ) → g.C.DepthChanges.are_of l.fn.changes l.genome f l.rank 0 0
       → Underway (g.S.Sink.state l.fn.sink) (g.S.Sink.state l.sink) (rows_between l.shown l.name (f l.rank) l.start l.length) (rows_between l.shown l.name (f l.rank) 0 l.length);
   at : (f : ℕ → ℕ → ℕ) → g.C.DepthChanges.are_of l.fn.changes l.genome f l.rank 0 0
@@ -14,5 +14,5 @@ invariant-loop-position g l = record {
   steps : TakesForEach (g.C.DepthChanges.reading l.fn.meter) (g.C.DepthChanges.reading l.meter) (g.C.DepthChanges.left l.fn.changes) (g.C.DepthChanges.left l.changes);
 }
 
-abbrev pub decreases-loop-position : goal.decreases-loop-position
-decreases-loop-position g l = g.C.DepthChanges.left l.changes
+abbrev pub decreases-loop-stop : goal.decreases-loop-stop
+decreases-loop-stop g l = g.C.DepthChanges.left l.changes

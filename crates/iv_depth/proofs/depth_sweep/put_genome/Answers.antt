@@ -1,4 +1,4 @@
-use Rattle.std.proofs.Common.{◌≤◌, ◌<◌, ◌∙◌, nat_lt, List, All, filter, length, refl, ap, sym, subst, arith, rules}
+use Rattle.std.proofs.Common.{◌≤◌, ◌<◌, ◌^◌, ◌∙◌, nat_lt, List, All, filter, length, refl, ap, sym, subst, arith, rules}
 use Rattle.iv_bytes.proofs.PutLemmas.{Underway-begin, Underway-more, Underway-fails, Puts-err}
 use Rattle.iv_text.specs.Genome.{seq_count}
 use Rattle.iv_text.specs.Ordered.{AreInOrder}
@@ -47,19 +47,21 @@ write_stops-requires g c =
     search rules
 
 pub put_sequence-requires : goal.put_sequence-requires
-put_sequence-requires g c = (
-  depth (span_records c.args.spans.now),
-  IsAhead-begin c.args.genome.now c.loop-rank.rank (span_records c.args.spans.now) _ _ _ c.loop-rank.invariant.left_is c.split_sequence.ensures.here refl
-      _ c.requires.order c.requires.on_genome c.write_stops.ensures.stops,
-)
+put_sequence-requires g c =
+    let few : length c.args.spans.now < 2 ^ 63 = search rules in (
+      depth (span_records c.args.spans.now),
+      IsAhead-begin c.args.genome.now c.loop-rank.rank (span_records c.args.spans.now) _ _ _ c.loop-rank.invariant.left_is c.split_sequence.ensures.here refl
+          _ c.requires.order c.requires.on_genome (omega (arith, few, length-map c.args.spans.now record_of_span)) c.write_stops.ensures.stops,
+    )
 
 pub returns-in_err-put_sequence-clause-text : goal.returns-in_err-put_sequence-clause-text
 returns-in_err-put_sequence-clause-text g c =
     let i = c.loop-rank.invariant in
     let by = depth (span_records c.args.spans.now) in
+    let few : length c.args.spans.now < 2 ^ 63 = search rules in
     let low : c.loop-rank.rank < seq_count c.args.genome.now = omega (arith, c.loop-rank-test.true, c.count-rank-end.ensures.value) in
     let ahead = IsAhead-begin c.args.genome.now c.loop-rank.rank (span_records c.args.spans.now) _ _ _ i.left_is c.split_sequence.ensures.here refl
-    _ c.requires.order c.requires.on_genome c.write_stops.ensures.stops in
+    _ c.requires.order c.requires.on_genome (omega (arith, few, length-map c.args.spans.now record_of_span)) c.write_stops.ensures.stops in
     Puts-err _ _ c.from_residual.result _ c.from_residual.ensures.0
     (Underway-fails _ _ _ _ _ _ (rw (texts-next c.args.shown c.args.genome.now by c.loop-rank.rank low) at i.put) (c.in_err-put_sequence.ensures.text by ahead))
 
@@ -67,9 +69,10 @@ pub loop-rank-preserved : goal.loop-rank-preserved
 loop-rank-preserved g c =
     let i = c.loop-rank.invariant in
     let by = depth (span_records c.args.spans.now) in
+    let few : length c.args.spans.now < 2 ^ 63 = search rules in
     let low : c.loop-rank.rank < seq_count c.args.genome.now = omega (arith, c.loop-rank-test.true, c.count-rank-end.ensures.value) in
     let ahead = IsAhead-begin c.args.genome.now c.loop-rank.rank (span_records c.args.spans.now) _ _ _ i.left_is c.split_sequence.ensures.here refl
-    _ c.requires.order c.requires.on_genome c.write_stops.ensures.stops in
+    _ c.requires.order c.requires.on_genome (omega (arith, few, length-map c.args.spans.now record_of_span)) c.write_stops.ensures.stops in
     record {
       put = Underway-more _ _ _ _ _ _ (rw (texts-next c.args.shown c.args.genome.now by c.loop-rank.rank low) at i.put) (c.in_ok-put_sequence.ensures.text by ahead);
       left_is = c.split_sequence.ensures.later ∙ ap (filter (λ r. nat_lt c.loop-rank.rank r.seq)) i.left_is ∙ from-later c.loop-rank.rank (span_records c.args.spans.now);

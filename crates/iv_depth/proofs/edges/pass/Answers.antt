@@ -1,11 +1,11 @@
 use Rattle.std.proofs.Common.{arith, ap, map, refl, sym, subst, ◌∙◌}
 use Rattle.iv_depth.specs.Inside.Edges.{BeginsElse}
-use Rattle.iv_depth.proofs.EdgeLemmas.{IsPassing-begin, IsPassing-next, PassesEdge-stop}
+use Rattle.iv_depth.proofs.EdgeLemmas.{Passes-begin, Passes-next, Passes-stop}
 use Rattle.iv_depth.proofs.edges.pass.Goals as goal
 
 pub loop-item-init : goal.loop-item-init
 loop-item-init g c = record {
-  passing = λ rise. IsPassing-begin c.args.position (map g.T.Positioned.at c.args.items.now) rise;
+  passing = λ rise. Passes-begin c.args.position (map g.T.Positioned.at c.args.items.now) rise;
   first = λ none. refl;
   len = omega arith;
 }
@@ -15,7 +15,7 @@ loop-item-preserved g c =
     let i = c.loop-item.invariant in
     let at = g.T.Positioned.at in
     let first = c.in-Some.ensures.cases in record {
-      passing = λ rise. IsPassing-next c.args.position c.loop-item.count (at c.in-Some.item.now) (map at c.args.items.now) (map at c.loop-item.left.now) (map at c.in-Some.others.now)
+      passing = λ rise. Passes-next c.args.position c.loop-item.count (at c.in-Some.item.now) (map at c.args.items.now) (map at c.loop-item.left.now) (map at c.in-Some.others.now)
           (i.passing rise) (ap (map at) first.0) (sym c.position.ensures ∙ c.if-position.false);
       first = λ none. absurd (omega (arith, none));
       len = omega (arith, i.len, first.1);
@@ -24,7 +24,7 @@ loop-item-preserved g c =
 pub returns-then-position-clause-passed : goal.returns-then-position-clause-passed
 returns-then-position-clause-passed g c = λ rise.
     let at = g.T.Positioned.at in
-    PassesEdge-stop c.args.position c.loop-item.count (at c.in-Some.item.now) (map at c.args.items.now) (map at c.loop-item.left.now) (map at c.in-Some.others.now)
+    Passes-stop c.args.position c.loop-item.count (at c.in-Some.item.now) (map at c.args.items.now) (map at c.loop-item.left.now) (map at c.in-Some.others.now)
     (c.loop-item.invariant.passing rise) (ap (map at) c.in-Some.ensures.cases.0) (λ here. c.if-position.true (c.position.ensures ∙ here))
 
 pub returns-then-position-clause-none : goal.returns-then-position-clause-none

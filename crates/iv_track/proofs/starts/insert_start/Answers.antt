@@ -1,4 +1,4 @@
-use Rattle.std.proofs.Common.{rules, arith, subst, sym}
+use Rattle.std.proofs.Common.{rules, arith, subst}
 use Rattle.iv_track.specs.Inside.Replaced.{IsReplaced}
 use Rattle.iv_track.proofs.ReplacedLemmas.{replaced_none, replaced_inserted}
 use Rattle.iv_track.proofs.starts.insert_start.Goals as goal

@@ -33,13 +33,13 @@ loop-row-init g c =
 
 pub count_until-number-requires : goal.count_until-number-requires
 count_until-number-requires g c =
-    let entries : c.self.inside.ledger ≡ c.args.self.now.entries = ap (λ (b : KeptBlocks). b.entries) c.self.view_is in
+    let entries : c.self.inside.ledger.entries ≡ c.args.self.now.entries = ap (λ (b : KeptBlocks). b.entries) c.self.view_is in
     let few = IsPassed-few c.loop-row.number _ _ c.loop-row.ahead c.loop-row.hits.rows c.in-Some.row.now c.loop-row.invariant.passed refl in
     record { few = omega (arith, few.1, length-map c.args.self.now.entries interval_of, ap (λ (l : Entries). length l) entries, c.len-few.ensures.len, c.len-few.ensures.small) }
 
 pub overflow_add-number : goal.overflow_add-number
 overflow_add-number g c =
-    let entries : c.self.inside.ledger ≡ c.args.self.now.entries = ap (λ (b : KeptBlocks). b.entries) c.self.view_is in
+    let entries : c.self.inside.ledger.entries ≡ c.args.self.now.entries = ap (λ (b : KeptBlocks). b.entries) c.self.view_is in
     let r = c.in-Some.row.now in
     let counted : c.count_until-number.result ≡ length (take_while (starts_until r.seq r.start) c.loop-row.ahead) = rw (← c.seq.ensures, ← c.start.ensures) c.count_until-number.ensures.count in
     let few = IsPassed-few c.loop-row.number c.count_until-number.result _ c.loop-row.ahead c.loop-row.hits.rows r c.loop-row.invariant.passed counted in

@@ -15,8 +15,8 @@ use Rattle.iv_blocks.proofs.RegionLemmas.{Ascends, is_early}
 use Rattle.iv_blocks.proofs.blocks.Blocks.print_side_in.Given as goal
 
 -- the rows of the entries that are left and start before the region stops remain to be written
-abbrev pub invariant-loop-key : goal.invariant-loop-key
-invariant-loop-key g l = record {
+abbrev pub invariant-loop-block : goal.invariant-loop-block
+invariant-loop-block g l = record {
   put : Underway (g.S.Sink.state l.fn.sink) (g.S.Sink.state l.sink)
       (flat_map (entry_row l.genome) (filter (is_early l.group.rank (is_minus l.group.side) l.stop) l.walk))
       (flat_map (block_row (sequence_name l.genome l.group.rank) (listed l.self.options.summaries)) (side_blocks_in l.self.options l.genome l.track.rows l.group.rank l.start l.stop (is_minus l.group.side)));
@@ -27,5 +27,5 @@ invariant-loop-key g l = record {
       ≤ l.fn.meter + (2 + length (side_blocks_in l.self.options l.genome l.track.rows l.group.rank l.start l.stop (is_minus l.group.side)));
 }
 
-abbrev pub decreases-loop-key : goal.decreases-loop-key
-decreases-loop-key g l = length l.walk
+abbrev pub decreases-loop-block : goal.decreases-loop-block
+decreases-loop-block g l = length l.walk

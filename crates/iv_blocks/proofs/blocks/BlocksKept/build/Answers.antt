@@ -1,4 +1,4 @@
-use Rattle.std.proofs.Common.{◌≡◌, ◌∙◌, List, map, sym, ap, subst, arith}
+use Rattle.std.proofs.Common.{◌≡◌, ◌∙◌, ℕ, false, List, map, sym, ap, subst, arith}
 use Rattle.std.specs.Prelude.{All}
 use Rattle.iv_text.specs.Named.{names_of}
 use Rattle.iv_text.specs.Ordered.{AreInOrder}
@@ -8,13 +8,15 @@ use Rattle.iv_cover.specs.TrackBlocks.{blocks_of}
 use Rattle.iv_cover.proofs.WalkLemmas.{merge-all}
 use Rattle.iv_track.specs.Entries.{IsLedger, value_at}
 use Rattle.iv_track.proofs.WalkLemmas.{filter-from_first}
-use Rattle.iv_blocks.specs.KeptBlocks.{AreBlocksOf, Entries, key_cmp}
+use Rattle.iv_blocks.specs.KeptBlocks.{AreBlocksOf, Entries, Key, key_cmp}
 use Rattle.iv_blocks.specs.Groups.{listed}
-use Rattle.iv_blocks.specs.Inside.UnstrandedBlocks.{kept_entry, plain_entry}
+use Rattle.iv_blocks.specs.Inside.StoredBlocks.{StoredBlocks, plain_entry}
+use Rattle.iv_blocks.specs.Inside.UnstrandedBlocks.{kept_entry, stop_entry}
 use Rattle.iv_blocks.specs.IntervalOptions.{IsByIntervals}
 use Rattle.iv_blocks.specs.declared.options.BlockOptions.{BlockOptions}
 use Rattle.iv_blocks.proofs.Builds.{built-none, built-next, built-all}
-use Rattle.iv_blocks.proofs.UnstrandedLemmas.{all-lie, drained, drained-items, kept-ordered, kept-found, plain-ordered, plain-found}
+use Rattle.iv_blocks.proofs.UnstrandedLemmas.{all-lie, drained, drained-items, kept-ordered, kept-found, stops-ordered, stops-found}
+use Rattle.iv_blocks.proofs.StoredLemmas.{plain-ordered}
 use Rattle.iv_blocks.proofs.blocks.BlocksKept.build.Goals as goal
 
 -- ---- if the options are plain
@@ -31,25 +33,25 @@ from_entries-requires-clause-ascend g c es run =
     let all = c.walk.ensures.rows ∙ filter-from_first rows in
     let lie = subst (λ (l : List RecordValue). All (IsOnGenome s) l) (sym all) (all-lie s c.args.track.now.width rows c.requires.fit) in
     let left : c.of.result ≡ blocks_of c.args.options.distance s rows = c.of.ensures ∙ c.of-sweep.ensures s lie ∙ ap (blocks_of c.args.options.distance s) all in
-    subst (IsLedger key_cmp) (sym (drained c.of.result es run ∙ ap (map plain_entry) left))
-    (plain-ordered c.args.options s c.args.track.now.width rows c.requires.fit plain.together plain.nothing)
+    subst (IsLedger key_cmp) (sym (drained c.of.result es run ∙ ap (map stop_entry) left))
+    (stops-ordered c.args.options s c.args.track.now.width rows c.requires.fit plain.together plain.nothing)
 
 pub returns-then-is_by_intervals-clause-right : goal.returns-then-is_by_intervals-clause-right
 returns-then-is_by_intervals-clause-right g c =
     let plain : IsByIntervals c.args.options.distance c.args.options = c.is_by_intervals.ensures.0 c.if-is_by_intervals.true in
     let s = c.args.genome.now in
     let rows = c.args.track.now.rows in
-    let e = c.in_ok-from_entries.ensures in
+    let e = c.in_ok-stops.ensures in
     let all = c.walk.ensures.rows ∙ filter-from_first rows in
     let lie = subst (λ (l : List RecordValue). All (IsOnGenome s) l) (sym all) (all-lie s c.args.track.now.width rows c.requires.fit) in
     let left : c.of.result ≡ blocks_of c.args.options.distance s rows = c.of.ensures ∙ c.of-sweep.ensures s lie ∙ ap (blocks_of c.args.options.distance s) all in
-    record {
-      ordered = e.ordered;
-      blocks = λ k.
+    let made : c.plain.result ≡ record { with_results = false; entries = map plain_entry c.in_ok-stops.stops } = c.plain.ensures in
+    subst (λ (b : StoredBlocks). AreBlocksOf c.args.options (names_of s) rows b.entries) (sym made) (record {
+      ordered = plain-ordered c.in_ok-stops.stops e.ordered;
+      blocks = stops-found c.args.options s c.args.track.now.width rows c.requires.fit plain.together plain.nothing c.in_ok-stops.stops (λ k.
           e.values.2 k
-          ∙ ap (λ (l : Entries). value_at key_cmp l k) (drained c.of.result e.values.0 e.values.1 ∙ ap (map plain_entry) left)
-          ∙ plain-found c.args.options s c.args.track.now.width rows c.requires.fit plain.together plain.nothing k;
-    }
+          ∙ ap (λ (l : List (Key × ℕ)). value_at key_cmp l k) (drained c.of.result e.values.0 e.values.1 ∙ ap (map stop_entry) left));
+    })
 
 -- ---- if strands are together
 
@@ -68,21 +70,21 @@ returns-then-not-options-clause-right g c =
     let o = c.args.options in
     let s = c.args.genome.now in
     let rows = c.args.track.now.rows in
-    let e = c.in_ok-from_entries-2.ensures in
+    let e = c.in_ok-blocks.ensures in
     let made : c.in_ok-entries.entries ≡ map (kept_entry s (listed o.summaries)) (blocks_of o.distance s rows) =
     c.in_ok-entries.ensures.entries ∙ ap (map (kept_entry s (listed o.summaries))) (merge-all o.distance s rows c.in_ok-entries.ensures.order (all-lie s c.args.track.now.width rows c.requires.fit)) in
-    record {
+    subst (λ (b : StoredBlocks). AreBlocksOf o (names_of s) rows b.entries) (sym c.with_results.ensures) (record {
       ordered = e.ordered;
       blocks = λ k.
           e.values.2 k
           ∙ ap (λ (l : Entries). value_at key_cmp l k) (drained-items c.into_iter.result e.values.0 e.values.1 ∙ c.into_iter.ensures ∙ made)
           ∙ kept-found o s c.args.track.now.width rows c.requires.fit c.if-not-options.true k;
-    }
+    })
 
 -- ---- if they are apart
 
 pub loop-rank-init : goal.loop-rank-init
-loop-rank-init g c = built-none c.args.genome.now c.args.track.now.rows (record { options = c.args.options; entries = c.new.result }) c.new.ensures
+loop-rank-init g c = built-none c.args.genome.now c.args.track.now.rows (record { options = c.args.options; entries = c.new.result.entries }) (ap (λ (b : StoredBlocks). b.entries) c.new.ensures)
 
 pub insert_sequence-requires-clause-apart : goal.insert_sequence-requires-clause-apart
 insert_sequence-requires-clause-apart g c = ap (λ (o : BlockOptions). o.stranded) c.loop-rank.invariant.for_options ∙ c.if-not-options.false

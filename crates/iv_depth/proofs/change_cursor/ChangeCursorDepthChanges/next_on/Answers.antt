@@ -23,4 +23,4 @@ returns-clause-change t c = λ g f from d h.
     = sym c.self.view_is ∙ ap (λ (a : Option (ChangeKey × ℤ)). ahead_of a c.self.inside.walk) (e.was)
     ∙ ap (λ (k : ℕ). ((k, e.position), e.change) ∷ c.self.inside.walk) c.if-sequence-rank.false
     ∙ ap (λ (l : Entries). ((c.args.rank, e.position), e.change) ∷ l) (sym (ahead-read _ _ _ c.read-self-inside.ensures.next)) in
-    rw same (AreAhead-next g f c.args.rank from d e.position e.change c.args.self.now rest now h)
+    rw (same, c.from.ensures) (AreAhead-next g f c.args.rank from d e.position e.change c.args.self.now rest now h)

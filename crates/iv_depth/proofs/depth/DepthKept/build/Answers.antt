@@ -8,7 +8,7 @@ from_entries-requires-clause-ascend g c es run =
     let starts = c.as_slice.result.now in
     let stops = c.as_slice-2.result.now in
     let edges : AreEdgesOf rows starts stops = rw (c.as_slice.ensures.value, c.as_slice-2.ensures.value) c.in_ok-starts.ensures in
-    given-ledger (record { starts = starts; stops = stops }) 0 es run.1.0 (edges-rise rows starts stops edges) run.1.1
+    given-ledger _ 0 es run.1.0 (edges-rise rows starts stops edges) run.1.1
 
 pub returns-clause-right : goal.returns-clause-right
 returns-clause-right g c =

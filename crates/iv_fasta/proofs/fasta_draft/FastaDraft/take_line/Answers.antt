@@ -12,21 +12,21 @@ use Rattle.iv_fasta.proofs.fasta_draft.FastaDraft.take_line.Goals.{then-self, el
 pub returns-then-count-eq0-clause-ok : goal.returns-then-count-eq0-clause-ok
 returns-then-count-eq0-clause-ok g c =
     let self = c.args.self.now in
-    let line = c.split_line-next.result.0.now in
-    let next = c.split_line-next.result.1 in
+    let line = c.first_line-next.result.line.now in
+    let next = c.first_line-next.result.next in
     let said = drafted self.headers self.text.compacted self.named in
-    let first = ap lines (sym c.coming.ensures) ∙ c.split_line-next.ensures.lines ∙ ap (λ l. line ∷ lines (drop next l)) c.coming.ensures in
+    let first = ap lines (sym c.coming.ensures) ∙ c.first_line-next.ensures.lines ∙ ap (λ l. line ∷ lines (drop next l)) c.coming.ensures in
     line-read c.args.genome.now c.args.number said self.headers self.text.compacted c.read.new.self.compacted self.named line self.text.coming c.read.new.self.coming next first
     c.read.ensures.coming (c.read.ensures.compacted ∙ append-nil self.text.compacted) (compacted-empty c.args.genome.now c.args.number said line (eq-eqb (length line) 0 c.if-count-eq0.true))
 
 pub returns-in_err-take_header-clause-err : goal.returns-in_err-take_header-clause-err
 returns-in_err-take_header-clause-err g c =
     let self = c.args.self.now in
-    let line = c.split_line-next.result.0.now in
-    let next = c.split_line-next.result.1 in
+    let line = c.first_line-next.result.line.now in
+    let next = c.first_line-next.result.next in
     let said = drafted self.headers self.text.compacted self.named in
-    let first = ap lines (sym c.coming.ensures) ∙ c.split_line-next.ensures.lines ∙ ap (λ l. line ∷ lines (drop next l)) c.coming.ensures in
-    let whole = c.split_line-next.ensures.first ∙ ap (take (length line)) c.coming.ensures in
+    let first = ap lines (sym c.coming.ensures) ∙ c.first_line-next.ensures.lines ∙ ap (λ l. line ∷ lines (drop next l)) c.coming.ensures in
+    let whole = c.first_line-next.ensures.first ∙ ap (take (length line)) c.coming.ensures in
     let some = ne_eqb (length line) 0 c.if-count-eq0.false in
     let p = err_from_is_err_and c.from_residual.result c.from_residual.ensures.1 in
     rw (p.1, p.2) (elim c.in_err-take_header.ensures.err [
@@ -39,11 +39,11 @@ returns-in_err-take_header-clause-err g c =
 pub returns-then-line-eq62-clause-ok : goal.returns-then-line-eq62-clause-ok
 returns-then-line-eq62-clause-ok g c =
     let self = c.args.self.now in
-    let line = c.split_line-next.result.0.now in
-    let next = c.split_line-next.result.1 in
+    let line = c.first_line-next.result.line.now in
+    let next = c.first_line-next.result.next in
     let said = drafted self.headers self.text.compacted self.named in
-    let first = ap lines (sym c.coming.ensures) ∙ c.split_line-next.ensures.lines ∙ ap (λ l. line ∷ lines (drop next l)) c.coming.ensures in
-    let whole = c.split_line-next.ensures.first ∙ ap (take (length line)) c.coming.ensures in
+    let first = ap lines (sym c.coming.ensures) ∙ c.first_line-next.ensures.lines ∙ ap (λ l. line ∷ lines (drop next l)) c.coming.ensures in
+    let whole = c.first_line-next.ensures.first ∙ ap (take (length line)) c.coming.ensures in
     let some = ne_eqb (length line) 0 c.if-count-eq0.false in
     let took = c.take_header.new.self in
     let left = c.read-then-line-eq62.new.self in
@@ -56,10 +56,10 @@ returns-then-line-eq62-clause-ok g c =
 pub returns-in_err-check_bases-clause-err : goal.returns-in_err-check_bases-clause-err
 returns-in_err-check_bases-clause-err g c =
     let self = c.args.self.now in
-    let line = c.split_line-next.result.0.now in
-    let next = c.split_line-next.result.1 in
+    let line = c.first_line-next.result.line.now in
+    let next = c.first_line-next.result.next in
     let said = drafted self.headers self.text.compacted self.named in
-    let first = ap lines (sym c.coming.ensures) ∙ c.split_line-next.ensures.lines ∙ ap (λ l. line ∷ lines (drop next l)) c.coming.ensures in
+    let first = ap lines (sym c.coming.ensures) ∙ c.first_line-next.ensures.lines ∙ ap (λ l. line ∷ lines (drop next l)) c.coming.ensures in
     let some = ne_eqb (length line) 0 c.if-count-eq0.false in
     let p = err_from_is_err_and c.from_residual-in_err-check_bases.result c.from_residual-in_err-check_bases.ensures.1 in
     rw (p.1, p.2) (inr (line-stops c.args.genome.now c.args.number said _ line self.text.coming next first
@@ -74,11 +74,11 @@ invariant_of-self-2 g c =
 pub returns-clause-ok : goal.returns-clause-ok
 returns-clause-ok g c =
     let self = c.args.self.now in
-    let line = c.split_line-next.result.0.now in
-    let next = c.split_line-next.result.1 in
+    let line = c.first_line-next.result.line.now in
+    let next = c.first_line-next.result.next in
     let said = drafted self.headers self.text.compacted self.named in
-    let first = ap lines (sym c.coming.ensures) ∙ c.split_line-next.ensures.lines ∙ ap (λ l. line ∷ lines (drop next l)) c.coming.ensures in
-    let whole = c.split_line-next.ensures.first ∙ ap (take (length line)) c.coming.ensures in
+    let first = ap lines (sym c.coming.ensures) ∙ c.first_line-next.ensures.lines ∙ ap (λ l. line ∷ lines (drop next l)) c.coming.ensures in
+    let whole = c.first_line-next.ensures.first ∙ ap (take (length line)) c.coming.ensures in
     let some = ne_eqb (length line) 0 c.if-count-eq0.false in
     let part : take c.if-self.compacted self.text.coming ≡ cond self.named line [] = elim c.if-self.branch [
       | then-self w ↦ ap (λ n. take n self.text.coming) w.compacted-is ∙ sym whole ∙ sym (cond-true _ _ _ w.if-self.true)

@@ -4,15 +4,11 @@ use Rattle.std.proofs.lemmas.List.Sorted.{IsPermutation-refl}
 use Rattle.iv_text.specs.RecordValue.{RecordValue, record_cmp}
 use Rattle.iv_text.proofs.OrderedLemmas.{ordered-sorted}
 use Rattle.iv_track.specs.Inside.Counted.{grouped}
-use Rattle.iv_track.proofs.CountedLemmas.{distinct-ordered}
 use Rattle.iv_track.proofs.counted.Counted.of.Goals as goal
-
-pub returns-then-is_strictly_sorted : goal.returns-then-is_strictly_sorted
-returns-then-is_strictly_sorted g c = c.in_order.ensures ∙ ap (grouped record_cmp) (distinct-ordered c.args.rows (sym c.is_strictly_sorted.ensures ∙ c.if-is_strictly_sorted.true))
 
 pub returns-then-is_sorted : goal.returns-then-is_sorted
 returns-then-is_sorted g c =
-    c.in_order-then-is_sorted.ensures ∙ ap (grouped record_cmp) (ordered-sorted c.args.rows c.args.rows (IsPermutation-refl c.args.rows) (c.is_sorted.ensures.0 c.if-is_sorted.true))
+    c.in_order.ensures ∙ ap (grouped record_cmp) (ordered-sorted c.args.rows c.args.rows (IsPermutation-refl c.args.rows) (c.is_sorted.ensures.0 c.if-is_sorted.true))
 
 pub returns : goal.returns
 returns g c =

@@ -1,10 +1,10 @@
-use Rattle.std.proofs.Common.{◌≡◌, length, false, None}
+use Rattle.std.proofs.Common.{◌≡◌, length, None}
 use Rattle.iv_track.proofs.CountedLemmas.{IsCounting}
 use Rattle.iv_track.proofs.counted.CountedIterator.next.Given as goal
 
 -- the entry so far, and the records that are left
 abbrev pub invariant-loop-row : goal.invariant-loop-row
-invariant-loop-row g l = IsCounting l.fn.self l.first l.count l.self-inside.rest × (l.self-inside.ahead ≡ None) × (l.self-inside.distinct ≡ false)
+invariant-loop-row g l = IsCounting l.fn.self l.first l.count l.self-inside.rest × (l.self-inside.ahead ≡ None)
 
 abbrev pub decreases-loop-row : goal.decreases-loop-row
 decreases-loop-row g l = length l.self-inside.rest

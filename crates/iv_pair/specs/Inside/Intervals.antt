@@ -1,0 +1,7 @@
+-- The interval of a record, by itself.
+use Rattle.iv_text.specs.RecordValue.{RecordValue}
+use Rattle.iv_index.specs.declared.locator.Locator.{Locator}
+
+-- the interval of a record as a locator, whose line is never looked at
+abbrev pub locator_of : RecordValue → Locator
+locator_of r = record { span = record { seq = r.seq; start = r.start; stop = r.stop }; line = 0 }
