@@ -63,8 +63,10 @@ const EDITS: [Edit<'static>; 3] = [
 const FIRST: &[u8] =
     b"chr1\t0\t30\tn\nchr1\t10\t20\tn\nchr1\t20\t30\tn\nchr2\t1\t2\tn\nchr2\t3\t4\tn\nchr2\t5\t6\tn\nchr2\t7\t8\tn\nchr2\t9\t10\tn\nchr2\t11\t12\tn\n";
 
-/// A second file of one record.
-const SECOND: &[u8] = b"chr1\t15\t35\n";
+/// A second file of six records, of which the track overlaps one: a print of `f` looks at too few hits to copy the file's intervals, so
+/// it makes no allocation.
+const SECOND: &[u8] =
+    b"chr1\t15\t35\nchr1\t90\t95\nchr2\t20\t25\nchr2\t30\t35\nchr2\t40\t45\nchr2\t45\t50\n";
 
 /// How many records a file may have.
 const LIMIT: u32 = 12;
