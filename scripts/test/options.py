@@ -1,15 +1,15 @@
 #!/usr/bin/env python3
 """Makes lists of options from the one table of them, crates/iv_args/src/options.rt: the usage and the list of each help text, the synopsis and
-the heads of the views in the man page, the completions, and the options in README's table.
+the heads of the views in the man page, the completions, the options in the tables of README and FORMAT, and the keyword arguments of the
+Python package.
 
-    python3 scripts/test/options.py --write            writes them into help.rt, the man page, the completions and README
+    python3 scripts/test/options.py --write            writes them into these files
     python3 scripts/test/options.py build/bedkeep      compares them with these files, and with the help of the built program, which
                                                        has to accept the options of the table and no others
 
-The second also compares the table with what is written by hand: the lists of the man page, the table of FORMAT, and the keyword arguments
-of the Python package.
+The second also compares the table with what is written by hand, the lists of the man page. An option has to be refused if it is given twice,
+without its value, or beside one that excludes it.
 """
-import inspect
 import os
 import re
 import subprocess
@@ -26,6 +26,12 @@ FILES = ("GENOME", "BED", "FASTA")
 ZSH_VALUES = {"Nothing": "", "Genome": ":genome file:_files", "Bed": ":BED file:_files", "Fasta": ":FASTA file:_files", "Width": ":columns:(3 4 5 6)",
               "Limit": ":records:", "Distance": ":bases:", "Columns": ":columns:",
               "Operations": ":operation:_values -s , operation count sum min max collapse distinct"}
+
+# the keyword arguments of the Python package, by the kind of their value
+ARGUMENTS = {"Nothing": "bool = False", "Distance": "Optional[int] = None", "Columns": "Union[int, Sequence[int]] = ()",
+             "Operations": "Union[str, Sequence[str]] = ()"}
+# rows of the package have the bases of a record on its line
+ALWAYS = ("-tab",)
 
 
 class Option(NamedTuple):
@@ -94,11 +100,11 @@ def read_table():
     return runs
 
 
-def wrapped(front, pieces):
-    """Pieces in lines of at most 80 columns, below one another."""
+def wrapped(front, pieces, width=80):
+    """Pieces in lines of at most this width, below one another."""
     lines, line = [], front.rstrip(" ")
     for piece in pieces:
-        if len(line) + 1 + len(piece) > 80:
+        if len(line) + 1 + len(piece) > width:
             lines.append(line)
             line = " " * (len(front) - 1)
         line += f" {piece}"
@@ -212,7 +218,39 @@ def in_readme(text, runs):
     return text
 
 
-MADE = {"crates/iv_args/src/help.rt": in_help, "man/bedkeep.1": in_man, "completions/bedkeep.bash": in_bash, "completions/_bedkeep": in_zsh, "README.md": in_readme}
+def in_words(piece):
+    """A piece of a usage as FORMAT says it."""
+    if found := re.fullmatch(r"\[(-\w+ LIST) \[(-\w+ LIST)\]\]", piece):
+        return f"`{found[1]}`; `{found[2]}`, only beside `{found[1].split()[0]}`"
+    names = ", ".join(f"`{name}`" for name in piece.strip("[]").split("|"))
+    return names if "|" not in piece else f"{'at most' if piece.startswith('[') else 'exactly'} one of {names}"
+
+
+def in_format(text, runs):
+    rows = ""
+    for run in runs[1:]:
+        pieces = run.usage[len(run.needed):len(run.usage) - len(run.others)]
+        rows += f"| `{run.name}` | {'; '.join(map(in_words, pieces)) or 'none'} |\n"
+    return replaced(text, r"(?<=^\| Subcommand \| Options \|\n\|---\|---\|\n).*?(?=^$)", rows, "FORMAT")
+
+
+def in_package(text, runs):
+    for run in runs[1:]:
+        if not re.search(rf"^def {run.name}\(", text, re.M):
+            continue
+        given = [(option.name.lstrip("-"), option) for option in run.view]
+        pieces = [f"{name}: {ARGUMENTS[option.kind]}," for name, option in given if option.name not in ALWAYS]
+        pieces += ["width: Optional[int] = None,", "program: Optional[Path] = None) -> Rows:"]
+        front, files = re.search(rf"^(def {run.name}\()([^*]*)\*,", text, re.M).groups()
+        head = wrapped(front, [*re.findall(r"\w+: \w+,", files), "*,", *pieces], 123).replace("( ", "(", 1)
+        text = replaced(text, rf"^def {run.name}\(.*?-> Rows:$", head, f"{run.name} of the package")
+        words = ", ".join([f'"{run.name}"', *(f"{name}={True if option.name in ALWAYS else name}" for name, option in given)])
+        text = replaced(text, rf'(?<=_words\()"{run.name}"[^)]*', words, f"{run.name} of the package")
+    return text
+
+
+MADE = {"crates/iv_args/src/help.rt": in_help, "man/bedkeep.1": in_man, "completions/bedkeep.bash": in_bash, "completions/_bedkeep": in_zsh, "README.md": in_readme,
+        "docs/FORMAT.md": in_format, "python/bedkeep/runs.py": in_package}
 
 
 def in_macros(lines):
@@ -231,32 +269,6 @@ def in_views(page):
     part = page.partition(".Sh OPTIONS OF A VIEW\n")[2].partition("\n.Ss ")[0]
     views = [view.splitlines() for view in re.split(r"^\.It Cm (?=\w)", part, flags=re.M)[1:]]
     return {lines[0].split()[0]: in_macros([line for line in lines[1:] if line.startswith(".It Fl ")]) for lines in views}
-
-
-def in_format():
-    """The options of each view in the table of FORMAT."""
-    table = text_of("docs/FORMAT.md").partition("\n| Subcommand | Options |\n")[2].partition("\n\n")[0]
-    found = {}
-    for view, cell in re.findall(r"^\| `(\w+)` \| ([^|]*) \|", table, re.M):
-        found[view] = options = {}
-        for option, value in re.findall(r"`(-\w+)(?: ([A-Z]+))?`", cell):
-            # An option that is named again, as what excludes another one, is named without its value.
-            options[option] = value or options.get(option, "")
-    return found
-
-
-def in_package():
-    """The options of each run of the Python package, of those with a value the type of it."""
-    sys.path.insert(0, str(ROOT / "python"))
-    from bedkeep import runs
-
-    found = {}
-    for name, run in inspect.getmembers(runs, inspect.isfunction):
-        taken = [each for each in inspect.signature(run).parameters.values() if each.kind == each.KEYWORD_ONLY]
-        if taken and not name.startswith("_"):
-            found[name] = {f"-{each.name}": "" if each.default is False else str(each.annotation)
-                           for each in taken if each.name not in ("width", "limit", "program")}
-    return found
 
 
 def compare(what, wanted, found, faults):
@@ -285,7 +297,10 @@ def in_program(program, runs, faults):
             words = [run.name, *needed, name, *(["count", "-c", "1"] if option.kind == "Operations" else given[option.value])]
             if run.view_usage.startswith("-") and not run.excluded(name):
                 words.append(run.view[0].name)
-            for wanted, words in ((name in own, words), *((False, [*words, other, *given[own[other].value]]) for other in run.excluded(name))):
+            refused = [[*words, other, *given[own[other].value]] for other in run.excluded(name)]
+            if name in own:
+                refused += [words + words[1 + len(needed):], *([[run.name, *needed, name]] if option.value else [])]
+            for wanted, words in ((name in own, words), *((False, words) for words in refused)):
                 if is_accepted(program, words) != wanted:
                     faults.append(f"{'refused, and the table has it' if wanted else 'accepted, and not by the table'}: {' '.join(words)}")
 
@@ -296,18 +311,12 @@ def faults_of(program, runs):
     faults += [f"the help of {run.name} that the program prints isn't that of the table" for run in runs if not said[run.name].startswith(help_usage(run) + "\n\n") or f"\n{help_list(run)}\n" not in said[run.name]]
     in_program(program, runs, faults)
     page = text_of("man/bedkeep.1")
-    views, table, package = in_views(page), in_format(), in_package()
+    views = in_views(page)
     shared = {option.name: option.value for run in runs for option in [*run.needed, *run.others]}
     compare("the list of each run's options in the man page", shared, in_files(page), faults)
     for run in runs[1:]:
         own = {option.name: option.value for option in run.view}
         compare(f"the list of {run.name} in the man page", own, views.get(run.name, {}), faults)
-        compare(f"the options of {run.name} in FORMAT", own, table.get(run.name, {}), faults)
-        if run.name in package:
-            # Rows of the package have the bases of a record on its line.
-            given = {option: value and "a value" for option, value in own.items() if option != "-tab"}
-            compare(f"the keyword arguments of {run.name} in the package", given,
-                    {option: value and "a value" for option, value in package[run.name].items()}, faults)
     return faults
 
 

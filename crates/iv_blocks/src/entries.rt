@@ -16,7 +16,7 @@ use iv_track::{Meter, Track};
 use std::alloc::{AllocError, Allocator};
 use std::marker::Model;
 
-/// How many entries one vector holds while they are made: 64 KiB.
+/// How many entries one vector holds while they are made: 96 KiB.
 const MOST_IN_BATCH: usize = 2_048;
 
 /// The blocks of all records, strands together, each as it is kept, by key.

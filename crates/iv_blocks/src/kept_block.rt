@@ -4,13 +4,12 @@ ghost use Rattle.std.specs.Prelude.{◌≡◌, ◌≤◌, [], length, IfOk};
 use std::alloc::{AllocError, Allocator, Global};
 use std::marker::Model;
 
-/// The most bytes of short results: with the stop and their length they are 24, as many as the smallest block of the C library's
-/// `malloc` has.
+/// The most bytes of short results: with the stop and their length they are 24, and an entry of the ledger takes 48.
 const SHORT: usize = 19;
 
 /// What is kept of a block: where it stops, from 0, not included, and its results, each with a TAB in front of it.
 ///
-/// It has 16 bytes. No results take no memory, and short ones one allocation.
+/// It has 32 bytes. Short results are in them, and take no allocation.
 #[derive(Drop)]
 pub(crate) struct KeptBlock<A: Allocator = Global> {
     storage: Storage<A>,
@@ -19,8 +18,7 @@ pub(crate) struct KeptBlock<A: Allocator = Global> {
 /// Where the stop and the results are, by how many bytes the results have.
 #[derive(Drop)]
 enum Storage<A: Allocator> {
-    Plain(u32),
-    Short(Box<ShortBlock, A>),
+    Short(ShortBlock),
     Long(Box<LongBlock<A>, A>),
 }
 
@@ -110,7 +108,7 @@ impl<A: Allocator> KeptBlock<A> {
         ensures { result ≡ record { stop = stop; results = [] } }
     {
         KeptBlock {
-            storage: Storage::Plain(stop),
+            storage: Storage::Short(ShortBlock::copy_of(stop, &[])),
         }
     }
 
@@ -119,7 +117,6 @@ impl<A: Allocator> KeptBlock<A> {
         ensures { result ≡ self.now.stop }
     {
         match &self.storage {
-            Storage::Plain(stop) => *stop,
             Storage::Short(block) => block.stop,
             Storage::Long(block) => block.stop,
         }
@@ -130,7 +127,6 @@ impl<A: Allocator> KeptBlock<A> {
         ensures { result.now ≡ self.now.results }
     {
         match &self.storage {
-            Storage::Plain(_) => &[],
             Storage::Short(block) => block.results(),
             Storage::Long(block) => block.results.as_slice(),
         }
@@ -144,8 +140,7 @@ impl<A: Allocator + Copy> KeptBlock<A> {
         ensures { IfOk result (λ b. b ≡ record { stop = stop; results = results.now }) }
     {
         let storage = match results.len() {
-            0 => Storage::Plain(stop),
-            ..=SHORT => Storage::Short(Box::new(alloc, ShortBlock::copy_of(stop, results))?),
+            ..=SHORT => Storage::Short(ShortBlock::copy_of(stop, results)),
             _ => Storage::Long(Box::new(alloc, LongBlock::copy_of(alloc, stop, results)?)?),
         };
         Ok(KeptBlock { storage })

@@ -13,7 +13,7 @@ use Rattle.iv_workspace.specs.States.{State, begun}
 use Rattle.iv_run.specs.declared.fault.CliFault.{CliFault}
 use Rattle.iv_run.specs.declared.fault.CliFault.TheVariants.{Memory}
 use Rattle.iv_run.specs.Loading.{IsReport, Parsed, parsed}
-use Rattle.iv_run.specs.SoFar.{AreProjected, ReportsProjected, projected_files}
+use Rattle.iv_run.specs.RunFiles.{AreProjected, ReportsProjected, projected_files}
 use Rattle.iv_cli.specs.Loading.{loaded}
 
 -- what is held of whole records is the records

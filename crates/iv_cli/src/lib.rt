@@ -2,11 +2,14 @@
 //! error. It re-exports the arguments of a run, and what is done with its files.
 #![tactic(auto)]
 
+mod begin;
 mod exit_reason;
-mod loading;
 
+pub use begin::{begin_session, load};
 pub use exit_reason::{ExitReason, run_status, status};
 pub use iv_args::{InfoRequest, Plan, Slot, Subcommand};
-pub use iv_run::{CliFault, FileFault, Inputs, Loading, read_all, shot};
+pub use iv_run::{
+    CliFault, FileFault, HeldFasta, HeldRecords, HoldsFile, Inputs, RunFiles, RunGenome, read_all,
+    shot,
+};
 pub use iv_text::Fault;
-pub use loading::{begin_session, load};

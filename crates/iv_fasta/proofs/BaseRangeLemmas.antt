@@ -1,32 +1,24 @@
 -- The bases of a genome's sequences that are in one list, by rank.
 use Rattle.std.proofs.Common.{◌≡◌, ℕ, ◌+◌, ◌-◌, ◌<◌, ◌≤◌, List, [], ◌∷◌, ◌++◌, Option, None, Some, length, take, drop, map, min, get_or, slice_get, subst, length-take, length-drop, refl, sym, ◌∙◌, ap, arith}
 use Rattle.std.specs.Prelude.{All}
-use Rattle.std.proofs.lemmas.List.{drop-take, drop-drop, take-take, take_more, length-map, map-append, same_lists, get_or-take, get_or-drop}
+use Rattle.std.proofs.lemmas.List.{drop-take, drop-drop, take-take, take_more, map-append, same_lists, get_or-take, get_or-drop}
 use Rattle.std.proofs.lemmas.List.Edits.{length-between}
 use Rattle.std.proofs.lemmas.Option.{slice_get-map, slice_get_within, get_or_from_slice_get, unwrap_or-slice_get}
 use Rattle.std.specs.List.{slice_range}
-use Rattle.std.specs.Map.{lookup}
 use Rattle.std.specs.Option.{option_map, unwrap_or}
-use Rattle.std.specs.Str.{bytes_eq}
-use Rattle.iv_text.specs.Genome.{Sequences}
-use Rattle.iv_fasta.specs.Fasta.{Stretch, Found, Bases, bases_of}
-use Rattle.iv_fasta.specs.Inside.FastaMeaning.{by_rank}
+use Rattle.iv_fasta.specs.Fasta.{Bases, bases_of}
 use Rattle.iv_fasta.specs.Inside.BaseRanges.{bases_at, placed, EndsWithin, IsPlacedWithin}
-use Rattle.iv_fasta.specs.declared.fasta_draft.BaseRange.{BaseRange}
-
-abbrev bases_under : Found → List ℕ → Option (List ℕ)
-bases_under found name = option_map (λ (f : Stretch). f.bases) (lookup (bytes_eq name) found)
+use Rattle.iv_fasta.specs.declared.held_sequences.BaseRange.{BaseRange}
 
 -- one more range
-pub placed-more : (g : Sequences) (found : Found) (places more : List (Option BaseRange)) (bases : List ℕ) (rank : ℕ) (place : Option BaseRange) → rank < length g
-    → placed places bases ≡ take rank (by_rank g found) → option_map (bases_at bases) place ≡ bases_of (by_rank g found) rank → more ≡ places ++ place ∷ []
-    → placed more bases ≡ take (rank + 1) (by_rank g found)
-placed-more g found places more bases rank place within so_far is next =
-    let long : rank < length (by_rank g found) = omega (arith, length-map g (λ s. bases_under found s.0)) in
+pub placed-more : (fasta : Bases) (places more : List (Option BaseRange)) (bases : List ℕ) (rank : ℕ) (place : Option BaseRange) → rank < length fasta
+    → placed places bases ≡ take rank fasta → option_map (bases_at bases) place ≡ bases_of fasta rank → more ≡ places ++ place ∷ []
+    → placed more bases ≡ take (rank + 1) fasta
+placed-more fasta places more bases rank place within so_far is next =
     ap (map (option_map (bases_at bases))) next ∙ map-append (option_map (bases_at bases)) places (place ∷ [])
     ∙ ap (λ (l : Bases). l ++ option_map (bases_at bases) place ∷ []) so_far
-    ∙ ap (λ (o : Option (List ℕ)). take rank (by_rank g found) ++ o ∷ []) (is ∙ unwrap_or-slice_get (by_rank g found) rank None)
-    ∙ sym (take_more (by_rank g found) rank None long)
+    ∙ ap (λ (o : Option (List ℕ)). take rank fasta ++ o ∷ []) (is ∙ unwrap_or-slice_get fasta rank None)
+    ∙ sym (take_more fasta rank None within)
 
 placed-at : (places : List (Option BaseRange)) (bases : List ℕ) (seq : ℕ) (place : BaseRange) → Some place ≡ unwrap_or (slice_get places seq) None
     → bases_of (placed places bases) seq ≡ Some (bases_at bases place)

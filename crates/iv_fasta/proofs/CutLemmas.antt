@@ -1,19 +1,21 @@
 -- The sequences of headers and the bases after them.
-use Rattle.std.proofs.Common.{◌≡◌, ℕ, zero, suc, ◌+◌, ◌-◌, ◌<◌, ◌≤◌, List, [], ◌∷◌, ◌++◌, Option, None, Some, length, take, drop, slice_get, refl, sym, ◌∙◌, ap, arith, length-drop, add-one, false, true, position, get_or, Bool}
+use Rattle.std.proofs.Common.{◌≡◌, ℕ, zero, suc, ◌+◌, ◌-◌, ◌<◌, ◌≤◌, List, [], ◌∷◌, ◌++◌, Option, None, Some, length, take, drop, slice_get, refl, sym, ◌∙◌, ap, arith, length-drop, add-one, false, true, position, get_or, Bool, cond}
 use Rattle.std.proofs.lemmas.List.{take-append-le, drop-append-le, take_rest}
 use Rattle.std.proofs.lemmas.List.Edits.{between_none}
+use Rattle.std.proofs.Common.{Result, Ok, Err, ◌⊎◌, inl, inr}
+use Rattle.std.specs.Prelude.{OnOk, OnErr}
 use Rattle.std.specs.List.{slice_range}
 use Rattle.std.specs.Map.{lookup}
-use Rattle.std.specs.Option.{option_map}
+use Rattle.std.specs.Option.{option_map, is_some}
 use Rattle.std.proofs.lemmas.Bool.{cond-true, cond-false}
 use Rattle.std.proofs.lemmas.List.Quantifiers.{position-Some}
 use Rattle.std.proofs.lemmas.Option.{slice_get-get_or, slice_get-map, get_or_from_slice_get}
 use Rattle.std.specs.Str.{bytes_eq}
 use Rattle.iv_text.specs.Named.{names_of, name_index}
-use Rattle.iv_fasta.specs.Fasta.{Stretch, Found, with_bases}
+use Rattle.iv_fasta.specs.FastaReading.{Summary, Summaries, with_part}
 use Rattle.iv_fasta.specs.Inside.BaseRanges.{EndsWithin}
-use Rattle.iv_fasta.specs.Inside.Drafts.{sequence_at, NamedHeaders, end_at, end_before, cut, StartInOrder}
-use Rattle.iv_fasta.specs.declared.fasta_draft.Header.{Header}
+use Rattle.iv_fasta.specs.Inside.Drafts.{sequence_at, NamedHeaders, end_at, end_before, count_at, count_before, cut, StartInOrder, CountInOrder}
+use Rattle.iv_fasta.specs.declared.held_sequences.Header.{Header}
 
 -- a part of the front
 range-front : (xs ys : List ℕ) (a b : ℕ) → a ≤ b → b ≤ length xs → slice_range (xs ++ ys) a b ≡ slice_range xs a b
@@ -39,57 +41,89 @@ pub starts-push : (low : ℕ) (hs : NamedHeaders) (name : List ℕ) (h : Header)
 starts-push low [] name h total at order = (omega (arith, at, order), omega (arith, at))
 starts-push low (x ∷ hs) name h total at order = (order.0, starts-push x.1.start hs name h total at order.1)
 
+-- the same of how many bases were counted
+pub counts-more : (low : ℕ) (hs : NamedHeaders) (count more : ℕ) → count ≤ more → CountInOrder low hs count → CountInOrder low hs more
+counts-more low [] count more le order = omega (arith, le, order)
+counts-more low (h ∷ hs) count more le order = (order.0, counts-more h.1.before hs count more le order.1)
+
+pub counts-push : (low : ℕ) (hs : NamedHeaders) (name : List ℕ) (h : Header) (count : ℕ) → h.before ≡ count → CountInOrder low hs count → CountInOrder low (hs ++ (name, h) ∷ []) count
+counts-push low [] name h count at order = (omega (arith, at, order), omega (arith, at))
+counts-push low (x ∷ hs) name h count at order = (order.0, counts-push x.1.before hs name h count at order.1)
+
 -- more bases are those of the last sequence
-pub cut-bases : (low : ℕ) (hs : NamedHeaders) (bases more : List ℕ) → StartInOrder low hs (length bases) → cut hs (bases ++ more) ≡ with_bases (cut hs bases) more
-cut-bases low [] bases more order = refl
-cut-bases low (h ∷ []) bases more order =
-    ap {B = Found} (λ (l : List ℕ). (h.0, record { line = h.1.line; bases = l }) ∷ []) (range-rest bases more h.1.start order.1)
-cut-bases low (h ∷ next ∷ hs) bases more order =
-    ap {B = Found} (λ (l : List ℕ). (h.0, record { line = h.1.line; bases = l }) ∷ cut (next ∷ hs) (bases ++ more))
-    (range-front bases more h.1.start next.1.start order.1.0 (starts-low next.1.start hs (length bases) order.1.1))
-    ∙ ap {B = Found} (λ (rest : Found). (h.0, record { line = h.1.line; bases = slice_range bases h.1.start next.1.start }) ∷ rest) (cut-bases h.1.start (next ∷ hs) bases more order.1)
+pub cut-part : (low from : ℕ) (hs : NamedHeaders) (bases part : List ℕ) (holds : Bool) (count : ℕ) → StartInOrder low hs (length bases) → CountInOrder from hs count
+    → cut hs (bases ++ cond holds part []) (count + length part) ≡ with_part holds (cut hs bases count) part
+cut-part low from [] bases part holds count order counted = refl
+cut-part low from (h ∷ []) bases part holds count order counted =
+    let more : count + length part - h.1.before ≡ count - h.1.before + length part = omega (arith, counted.1) in
+    ap {B = Summaries} (λ (l : List ℕ). (h.0, record { line = h.1.line; count = count + length part - h.1.before; bases = l }) ∷ []) (range-rest bases (cond holds part []) h.1.start order.1)
+    ∙ ap {B = Summaries} (λ (n : ℕ). (h.0, record { line = h.1.line; count = n; bases = slice_range bases h.1.start (length bases) ++ cond holds part [] }) ∷ []) more
+cut-part low from (h ∷ next ∷ hs) bases part holds count order counted =
+    ap {B = Summaries} (λ (l : List ℕ). (h.0, record { line = h.1.line; count = next.1.before - h.1.before; bases = l }) ∷ cut (next ∷ hs) (bases ++ cond holds part []) (count + length part))
+    (range-front bases (cond holds part []) h.1.start next.1.start order.1.0 (starts-low next.1.start hs (length bases) order.1.1))
+    ∙ ap {B = Summaries} (λ (rest : Summaries). (h.0, record { line = h.1.line; count = next.1.before - h.1.before; bases = slice_range bases h.1.start next.1.start }) ∷ rest)
+    (cut-part h.1.start h.1.before (next ∷ hs) bases part holds count order.1 counted.1)
 
 -- a header at the end of the bases is a sequence without bases
-pub cut-push : (hs : NamedHeaders) (name : List ℕ) (h : Header) (bases : List ℕ) → h.start ≡ length bases
-    → cut (hs ++ (name, h) ∷ []) bases ≡ cut hs bases ++ (name, record { line = h.line; bases = [] }) ∷ []
-cut-push [] name h bases at =
-    ap {B = Found} (λ (l : List ℕ). (name, record { line = h.line; bases = l }) ∷ []) (ap (λ n. slice_range bases n (length bases)) at ∙ between_none bases (length bases))
-cut-push (x ∷ []) name h bases at =
-    ap {B = Found} (λ (n : ℕ). (x.0, record { line = x.1.line; bases = slice_range bases x.1.start n }) ∷ cut ((name, h) ∷ []) bases) at
-    ∙ ap {B = Found} (λ (rest : Found). (x.0, record { line = x.1.line; bases = slice_range bases x.1.start (length bases) }) ∷ rest) (cut-push [] name h bases at)
-cut-push (x ∷ y ∷ hs) name h bases at =
-    ap {B = Found} (λ (rest : Found). (x.0, record { line = x.1.line; bases = slice_range bases x.1.start y.1.start }) ∷ rest) (cut-push (y ∷ hs) name h bases at)
+pub cut-push : (hs : NamedHeaders) (name : List ℕ) (h : Header) (bases : List ℕ) (count : ℕ) → h.start ≡ length bases → h.before ≡ count
+    → cut (hs ++ (name, h) ∷ []) bases count ≡ cut hs bases count ++ (name, record { line = h.line; count = 0; bases = [] }) ∷ []
+cut-push [] name h bases count at is =
+    let none : count - h.before ≡ 0 = omega (arith, is) in
+    ap {B = Summaries} (λ (l : List ℕ). (name, record { line = h.line; count = count - h.before; bases = l }) ∷ []) (ap (λ n. slice_range bases n (length bases)) at ∙ between_none bases (length bases))
+    ∙ ap {B = Summaries} (λ (n : ℕ). (name, record { line = h.line; count = n; bases = [] }) ∷ []) none
+cut-push (x ∷ []) name h bases count at is =
+    ap {B = Summaries} (λ (n : ℕ). (x.0, record { line = x.1.line; count = h.before - x.1.before; bases = slice_range bases x.1.start n }) ∷ cut ((name, h) ∷ []) bases count) at
+    ∙ ap {B = Summaries} (λ (n : ℕ). (x.0, record { line = x.1.line; count = n - x.1.before; bases = slice_range bases x.1.start (length bases) }) ∷ cut ((name, h) ∷ []) bases count) is
+    ∙ ap {B = Summaries} (λ (rest : Summaries). (x.0, record { line = x.1.line; count = count - x.1.before; bases = slice_range bases x.1.start (length bases) }) ∷ rest) (cut-push [] name h bases count at is)
+cut-push (x ∷ y ∷ hs) name h bases count at is =
+    ap {B = Summaries} (λ (rest : Summaries). (x.0, record { line = x.1.line; count = y.1.before - x.1.before; bases = slice_range bases x.1.start y.1.start }) ∷ rest) (cut-push (y ∷ hs) name h bases count at is)
 
-names-cut : (hs : NamedHeaders) (bases : List ℕ) → names_of (cut hs bases) ≡ names_of hs
-names-cut [] bases = refl
-names-cut (h ∷ hs) bases = ap (λ (l : List (List ℕ)). h.0 ∷ l) (names-cut hs bases)
+names-cut : (hs : NamedHeaders) (bases : List ℕ) (count : ℕ) → names_of (cut hs bases count) ≡ names_of hs
+names-cut [] bases count = refl
+names-cut (h ∷ hs) bases count = ap (λ (l : List (List ℕ)). h.0 ∷ l) (names-cut hs bases count)
 
 -- the indexes of the names are those of the headers
-pub place-cut : (hs : NamedHeaders) (bases name : List ℕ) → name_index (cut hs bases) name ≡ name_index hs name
-place-cut hs bases name = ap (position (bytes_eq name)) (names-cut hs bases)
+pub place-cut : (hs : NamedHeaders) (bases : List ℕ) (count : ℕ) (name : List ℕ) → name_index (cut hs bases count) name ≡ name_index hs name
+place-cut hs bases count name = ap (position (bytes_eq name)) (names-cut hs bases count)
 
-pub length-cut : (hs : NamedHeaders) (bases : List ℕ) → length (cut hs bases) ≡ length hs
-length-cut [] bases = refl
-length-cut (h ∷ hs) bases = ap suc (length-cut hs bases)
+-- a name that is new among the sequences is new among the headers
+pub fresh-cut : (hs : NamedHeaders) (bases : List ℕ) (count : ℕ) (name : List ℕ) → is_some (name_index (cut hs bases count) name) ≡ false → name_index hs name ≡ None
+fresh-cut hs bases count name is = by (name_index hs name) (sym (ap is_some (place-cut hs bases count name)) ∙ is)
+  where
+    by : (o : Option ℕ) → is_some o ≡ false → o ≡ None
+    by None e = refl
+    by (Some i) e = cc
+
+pub length-cut : (hs : NamedHeaders) (bases : List ℕ) (count : ℕ) → length (cut hs bases count) ≡ length hs
+length-cut [] bases count = refl
+length-cut (h ∷ hs) bases count = ap suc (length-cut hs bases count)
 
 end-first : (hs : NamedHeaders) (total : ℕ) → end_before hs total ≡ end_at (slice_get hs zero) total
 end-first [] total = refl
 end-first (h ∷ hs) total = refl
 
--- the sequence at an index
-cut-at : (hs : NamedHeaders) (bases : List ℕ) (i : ℕ) (h : List ℕ × Header) → slice_get hs i ≡ Some h
-    → slice_get (cut hs bases) i ≡ Some (h.0, record { line = h.1.line; bases = slice_range bases h.1.start (end_at (slice_get hs (suc i)) (length bases)) })
-cut-at [] bases i h at = cc
-cut-at (x ∷ hs) bases zero h at =
-    let same : x ≡ h = cc in
-    ap {B = Option (List ℕ × Stretch)} (λ (n : ℕ). Some (x.0, record { line = x.1.line; bases = slice_range bases x.1.start n })) (end-first hs (length bases))
-    ∙ ap {B = Option (List ℕ × Stretch)} (λ (y : List ℕ × Header). Some (y.0, record { line = y.1.line; bases = slice_range bases y.1.start (end_at (slice_get hs zero) (length bases)) })) same
-cut-at (x ∷ hs) bases (suc i) h at = cut-at hs bases i h at
+count-first : (hs : NamedHeaders) (count : ℕ) → count_before hs count ≡ count_at (slice_get hs zero) count
+count-first [] count = refl
+count-first (h ∷ hs) count = refl
 
-pub cut-past : (hs : NamedHeaders) (bases : List ℕ) (i : ℕ) → slice_get hs i ≡ None → slice_get (cut hs bases) i ≡ None
-cut-past [] bases i at = refl
-cut-past (x ∷ hs) bases zero at = cc
-cut-past (x ∷ hs) bases (suc i) at = cut-past hs bases i at
+-- the sequence at an index
+abbrev sequence_before : ℕ → ℕ → List ℕ → List ℕ × Header → Option (List ℕ × Summary)
+sequence_before stop before bases h = Some (h.0, record { line = h.1.line; count = before - h.1.before; bases = slice_range bases h.1.start stop })
+
+cut-at : (hs : NamedHeaders) (bases : List ℕ) (count i : ℕ) (h : List ℕ × Header) → slice_get hs i ≡ Some h
+    → slice_get (cut hs bases count) i ≡ sequence_before (end_at (slice_get hs (suc i)) (length bases)) (count_at (slice_get hs (suc i)) count) bases h
+cut-at [] bases count i h at = cc
+cut-at (x ∷ hs) bases count zero h at =
+    let same : x ≡ h = cc in
+    ap (λ (n : ℕ). sequence_before n (count_before hs count) bases x) (end-first hs (length bases))
+    ∙ ap (λ (n : ℕ). sequence_before (end_at (slice_get hs zero) (length bases)) n bases x) (count-first hs count)
+    ∙ ap (sequence_before (end_at (slice_get hs zero) (length bases)) (count_at (slice_get hs zero) count) bases) same
+cut-at (x ∷ hs) bases count (suc i) h at = cut-at hs bases count i h at
+
+pub cut-past : (hs : NamedHeaders) (bases : List ℕ) (count i : ℕ) → slice_get hs i ≡ None → slice_get (cut hs bases count) i ≡ None
+cut-past [] bases count i at = refl
+cut-past (x ∷ hs) bases count zero at = cc
+cut-past (x ∷ hs) bases count (suc i) at = cut-past hs bases count i at
 
 -- and where it is
 order-at : (low : ℕ) (hs : NamedHeaders) (total i : ℕ) (h : List ℕ × Header) → StartInOrder low hs total → slice_get hs i ≡ Some h
@@ -99,16 +133,33 @@ order-at low (x ∷ []) total zero h order at = let same : x ≡ h = cc in rw (�
 order-at low (x ∷ y ∷ hs) total zero h order at = let same : x ≡ h = cc in rw (← same) (order.1.0, starts-low y.1.start hs total order.1.1)
 order-at low (x ∷ hs) total (suc i) h order at = order-at x.1.start hs total i h order.1 at
 
-pub sequence-is : (hs : NamedHeaders) (bases name : List ℕ) (h : Header) (i stop total : ℕ) → total ≡ length bases → Some (name, h) ≡ slice_get hs i → stop ≡ end_at (slice_get hs (i + 1)) total
-    → Some (name, sequence_at bases h.line (record { start = h.start; stop = stop })) ≡ slice_get (cut hs bases) i
-sequence-is hs bases name h i stop total all at is =
-    let stops : stop ≡ end_at (slice_get hs (suc i)) (length bases) = is ∙ ap (λ n. end_at (slice_get hs n) total) (add-one i) ∙ ap (end_at (slice_get hs (suc i))) all in
-    ap {B = Option (List ℕ × Stretch)} (λ (n : ℕ). Some (name, record { line = h.line; bases = slice_range bases h.start n })) stops ∙ sym (cut-at hs bases i (name, h) (sym at))
+counted-at : (low : ℕ) (hs : NamedHeaders) (count i : ℕ) (h : List ℕ × Header) → CountInOrder low hs count → slice_get hs i ≡ Some h
+    → h.1.before ≤ count_at (slice_get hs (suc i)) count
+counted-at low [] count i h order at = cc
+counted-at low (x ∷ []) count zero h order at = let same : x ≡ h = cc in rw (← same) order.1
+counted-at low (x ∷ y ∷ hs) count zero h order at = let same : x ≡ h = cc in rw (← same) order.1.0
+counted-at low (x ∷ hs) count (suc i) h order at = counted-at x.1.before hs count i h order.1 at
 
-pub sequence-is_placed : (hs : NamedHeaders) (bases name : List ℕ) (h : Header) (i stop total : ℕ) → total ≡ length bases → StartInOrder 0 hs (length bases) → Some (name, h) ≡ slice_get hs i → stop ≡ end_at (slice_get hs (i + 1)) total
+pub sequence-counted : (hs : NamedHeaders) (count i before : ℕ) (h : List ℕ × Header) → CountInOrder 0 hs count → Some h ≡ slice_get hs i → before ≡ count_at (slice_get hs (i + 1)) count
+    → h.1.before ≤ before
+sequence-counted hs count i before h order at is =
+    let stops : before ≡ count_at (slice_get hs (suc i)) count = is ∙ ap (λ n. count_at (slice_get hs n) count) (add-one i) in
+    omega (arith, stops, counted-at 0 hs count i h order (sym at))
+
+pub sequence-is : (hs : NamedHeaders) (bases name : List ℕ) (h : Header) (i stop before count : ℕ) → Some (name, h) ≡ slice_get hs i → stop ≡ end_at (slice_get hs (i + 1)) (length bases)
+    → before ≡ count_at (slice_get hs (i + 1)) count
+    → Some (name, sequence_at bases h.line (before - h.before) (record { start = h.start; stop = stop })) ≡ slice_get (cut hs bases count) i
+sequence-is hs bases name h i stop before count at is counted =
+    let stops : stop ≡ end_at (slice_get hs (suc i)) (length bases) = is ∙ ap (λ n. end_at (slice_get hs n) (length bases)) (add-one i) in
+    let befores : before ≡ count_at (slice_get hs (suc i)) count = counted ∙ ap (λ n. count_at (slice_get hs n) count) (add-one i) in
+    ap (λ (n : ℕ). sequence_before n before bases (name, h)) stops
+    ∙ ap (λ (n : ℕ). sequence_before (end_at (slice_get hs (suc i)) (length bases)) n bases (name, h)) befores
+    ∙ sym (cut-at hs bases count i (name, h) (sym at))
+
+pub sequence-is_placed : (hs : NamedHeaders) (bases name : List ℕ) (h : Header) (i stop : ℕ) → StartInOrder 0 hs (length bases) → Some (name, h) ≡ slice_get hs i → stop ≡ end_at (slice_get hs (i + 1)) (length bases)
     → EndsWithin (length bases) (record { start = h.start; stop = stop })
-sequence-is_placed hs bases name h i stop total all order at is =
-    let stops : stop ≡ end_at (slice_get hs (suc i)) (length bases) = is ∙ ap (λ n. end_at (slice_get hs n) total) (add-one i) ∙ ap (end_at (slice_get hs (suc i))) all in
+sequence-is_placed hs bases name h i stop order at is =
+    let stops : stop ≡ end_at (slice_get hs (suc i)) (length bases) = is ∙ ap (λ n. end_at (slice_get hs n) (length bases)) (add-one i) in
     let within : (h.start ≤ end_at (slice_get hs (suc i)) (length bases)) × (end_at (slice_get hs (suc i)) (length bases) ≤ length bases) = order-at 0 hs (length bases) i (name, h) order (sym at) in
     record { in_order = omega (arith, stops, within.0); in_bounds = omega (arith, stops, within.1) }
 
@@ -136,3 +187,8 @@ place-there {V} es name i there none =
     let named : slice_get (names_of es) i ≡ None = slice_get-map (λ (n : List ℕ × V). n.0) es i ∙ ap (option_map (λ (n : List ℕ × V). n.0)) none in
     let some : slice_get (names_of es) i ≡ Some (get_or (names_of es) i []) = slice_get-get_or (names_of es) i [] found.0 in
     cc
+
+-- a result has a value or a fault
+pub either-of : {X E P Q : Type 0} (r : Result X E) → OnOk r P → OnErr r Q → P ⊎ Q
+either-of (Ok x) p q = inl p
+either-of (Err e) p q = inr q

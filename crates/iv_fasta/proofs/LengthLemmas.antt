@@ -1,9 +1,8 @@
 -- The lengths that a genome says of sequences.
-use Rattle.std.proofs.Common.{◌≡◌, ℕ, zero, suc, ◌+◌, ◌-◌, ◌≤◌, ◌==◌, ◌&&◌, Bool, true, false, not, cond, List, [], ◌∷◌, Option, None, Some, Result, Ok, Err, length, drop, find, slice_get, is_some, refl, sym, ◌∙◌, ap, arith}
+use Rattle.std.proofs.Common.{◌≡◌, ℕ, zero, suc, ◌+◌, ◌≤◌, ◌==◌, ◌&&◌, Bool, true, false, not, cond, List, [], ◌∷◌, Option, None, Some, Result, Ok, Err, length, drop, find, slice_get, is_some, refl, sym, ◌∙◌, ap, arith}
 use Rattle.std.proofs.lemmas.Bool.{cond-true, cond-false, eqb-true, not-false}
 use Rattle.std.proofs.lemmas.Slice.Eq.{bytes_eq-Decides}
 use Rattle.std.proofs.lemmas.List.{drop_more, drop_all}
-use Rattle.std.proofs.lemmas.List.Edits.{length-between}
 use Rattle.std.proofs.lemmas.Option.{slice_get-map, slice_get_within, get_or_from_slice_get, same_Some}
 use Rattle.std.specs.Map.{lookup}
 use Rattle.std.specs.Option.{option_map, unwrap_or}
@@ -14,45 +13,40 @@ use Rattle.iv_text.specs.Read.{length_of}
 use Rattle.iv_text.specs.declared.fault.LoadCause.TheVariants as cause
 use Rattle.iv_text.specs.declared.fault.LoadFault.{LoadFault}
 use Rattle.iv_fasta.specs.Fasta.{Stretch, Found, Bases, has_wrong_length, bases_of, HasLengthsOf}
-use Rattle.iv_fasta.specs.Inside.FastaMeaning.{differs, with_lengths, by_rank}
-use Rattle.iv_fasta.specs.Inside.BaseRanges.{bases_at}
-use Rattle.iv_fasta.specs.declared.fasta_draft.BaseRange.{BaseRange}
+use Rattle.iv_fasta.specs.FastaReading.{Summary, Summaries, Wanted, only, has_other_count, held_by_rank, ended}
+use Rattle.iv_fasta.specs.Inside.FastaMeaning.{differs, by_rank}
 
 differs-named : (g : Sequences) (name : List ℕ) (count r n : ℕ) → Some r ≡ name_index g name → length_at g r ≡ Some n → not (count == n) ≡ differs g name count
 differs-named g name count r n named long =
     let is : length_of g name ≡ n = ap (λ o. unwrap_or (length_at g (unwrap_or o 0)) 0) (sym named) ∙ ap (λ o. unwrap_or o 0) long in
     ap (λ (k : ℕ). not (count == k)) (sym is) ∙ ap (λ (o : Option ℕ). is_some o && not (count == length_of g name)) named
 
--- a sequence whose bases are in a range is as long as the range
-place-long : (g : Sequences) (name bases : List ℕ) (line : ℕ) (place : BaseRange) → place.stop ≤ length bases
-    → differs g name (place.stop - place.start) ≡ has_wrong_length g (name, record { line = line; bases = bases_at bases place })
-place-long g name bases line place within = ap (differs g name) (sym (length-between bases place.start place.stop within))
-
 at-drop : {X : Type 0} (xs : List X) (i : ℕ) (x : X) → Some x ≡ slice_get xs i → drop i xs ≡ x ∷ drop (i + 1) xs
 at-drop {X} xs i x at =
     drop_more xs i x (slice_get_within xs i x (sym at)) ∙ ap (λ (y : X). y ∷ drop (i + 1) xs) (get_or_from_slice_get xs i x x (sym at))
 
-pub lengths-wrong : (g : Sequences) (found : Found) (i : ℕ) (name bases : List ℕ) (line : ℕ) (place : BaseRange) → place.stop ≤ length bases
-    → find (has_wrong_length g) (drop i found) ≡ find (has_wrong_length g) found → Some (name, record { line = line; bases = bases_at bases place }) ≡ slice_get found i
-    → differs g name (place.stop - place.start) ≡ true → with_lengths g found ≡ Err (record { line = line; cause = cause.WrongLength })
-lengths-wrong g found i name bases line place within rest at wrong =
-    let first : find (has_wrong_length g) found ≡ Some (name, record { line = line; bases = bases_at bases place }) =
-    sym rest ∙ ap (find (has_wrong_length g)) (at-drop found i _ at) ∙ cond-true _ _ _ (sym (place-long g name bases line place within) ∙ wrong) in
-    ap (λ (o : Option (List ℕ × Stretch)). elim o as (λ _. Result Bases LoadFault) [ None ↦ Ok (by_rank g found) | Some s ↦ Err (record { line = s.1.line; cause = cause.WrongLength }) ]) first
+pub lengths-wrong : (g : Sequences) (wanted : Wanted) (found : Summaries) (i : ℕ) (s : List ℕ × Summary) → find (has_other_count g) (drop i found) ≡ find (has_other_count g) found
+    → Some s ≡ slice_get found i → has_other_count g s ≡ true → ended g wanted found ≡ Err (record { line = s.1.line; cause = cause.WrongLength })
+lengths-wrong g wanted found i s rest at wrong =
+    let first : find (has_other_count g) found ≡ Some s = sym rest ∙ ap (find (has_other_count g)) (at-drop found i s at) ∙ cond-true _ _ _ wrong in
+    ap (λ (o : Option (List ℕ × Summary)). elim o as (λ _. Result Bases LoadFault) [ None ↦ Ok (only wanted (held_by_rank g found)) | Some t ↦ Err (record { line = t.1.line; cause = cause.WrongLength }) ]) first
 
-pub lengths-next : (g : Sequences) (found : Found) (i : ℕ) (name bases : List ℕ) (line : ℕ) (place : BaseRange) → place.stop ≤ length bases
-    → find (has_wrong_length g) (drop i found) ≡ find (has_wrong_length g) found → Some (name, record { line = line; bases = bases_at bases place }) ≡ slice_get found i
-    → differs g name (place.stop - place.start) ≡ false → find (has_wrong_length g) (drop (i + 1) found) ≡ find (has_wrong_length g) found
-lengths-next g found i name bases line place within rest at right =
-    sym (sym rest ∙ ap (find (has_wrong_length g)) (at-drop found i _ at) ∙ cond-false _ _ _ (sym (place-long g name bases line place within) ∙ right))
+pub lengths-next : (g : Sequences) (found : Summaries) (i : ℕ) (s : List ℕ × Summary) → find (has_other_count g) (drop i found) ≡ find (has_other_count g) found
+    → Some s ≡ slice_get found i → has_other_count g s ≡ false → find (has_other_count g) (drop (i + 1) found) ≡ find (has_other_count g) found
+lengths-next g found i s rest at right = sym (sym rest ∙ ap (find (has_other_count g)) (at-drop found i s at) ∙ cond-false _ _ _ right)
 
 pub none-past : {X : Type 0} (xs : List X) (i : ℕ) → slice_get xs i ≡ None → length xs ≤ i
 none-past [] i none = omega arith
 none-past (x ∷ xs) zero none = cc
 none-past (x ∷ xs) (suc i) none = let rest = none-past xs i none in omega (arith, rest)
 
-pub lengths-end : (g : Sequences) (found : Found) (i : ℕ) → length found ≤ i → find (has_wrong_length g) (drop i found) ≡ find (has_wrong_length g) found → find (has_wrong_length g) found ≡ None
-lengths-end g found i past rest = sym rest ∙ ap (find (has_wrong_length g)) (drop_all i found past)
+pub lengths-end : (g : Sequences) (found : Summaries) (i : ℕ) → length found ≤ i → find (has_other_count g) (drop i found) ≡ find (has_other_count g) found → find (has_other_count g) found ≡ None
+lengths-end g found i past rest = sym rest ∙ ap (find (has_other_count g)) (drop_all i found past)
+
+-- if all lengths are right, the bases by rank come
+pub lengths-right : (g : Sequences) (wanted : Wanted) (found : Summaries) → find (has_other_count g) found ≡ None → ended g wanted found ≡ Ok (only wanted (held_by_rank g found))
+lengths-right g wanted found right =
+    ap (λ (o : Option (List ℕ × Summary)). elim o as (λ _. Result Bases LoadFault) [ None ↦ Ok (only wanted (held_by_rank g found)) | Some t ↦ Err (record { line = t.1.line; cause = cause.WrongLength }) ]) right
 
 -- ---- the lengths of what is made
 

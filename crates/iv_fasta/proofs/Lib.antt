@@ -1,10 +1,9 @@
 pub mod ComplementLemmas
-pub mod HalvesLemmas
 pub mod BlockLemmas
-pub mod BaseLineLemmas
-pub mod LineLemmas
 pub mod CutLemmas
-pub mod CompactedLemmas
+pub mod SaidLemmas
+pub mod SummaryLemmas
+pub mod ReadingLemmas
 pub mod LengthLemmas
 pub mod BaseRangeLemmas
 pub mod JoinLemmas

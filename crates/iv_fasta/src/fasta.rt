@@ -1,11 +1,13 @@
 //! The bases of sequences.
-ghost use Rattle.std.specs.Prelude.{None, slice_get, ◌≡◌, ◌⊎◌, Ok, Err, IfOk, IfErr, length, slice_range};
+ghost use Rattle.std.specs.Prelude.{None, slice_get, ◌≡◌, ◌⊎◌, Ok, Err, IfOk, IfErr, All, length, slice_range};
 ghost use Rattle.std.specs.Option.{is_some, option_map, option_copied, unwrap_or};
 ghost use Rattle.iv_text.specs.declared.fault.LoadCause.TheVariants as cause;
+ghost use Rattle.iv_fasta.specs.Inside.BaseRanges.{placed, IsPlacedWithin};
 ghost use Rattle.iv_fasta.specs.Fasta.{fasta_of, bases_of, HasLengthsOf};
 
-use crate::fasta_draft::{BaseRange, FastaDraft};
-use iv_text::{Genome, LoadCause, LoadFault};
+use crate::fasta_reader::FastaReader;
+use crate::held_sequences::BaseRange;
+use iv_text::{Genome, LoadFault};
 use std::alloc::{Allocator, Global};
 use std::marker::Model;
 
@@ -47,23 +49,25 @@ impl<A: Allocator + Copy> Fasta<A> {
     /// length: that is looked at in a file without another fault, sequence by sequence, and the line of such a fault is the
     /// header's. After a fault nothing was made.
     ///
-    /// The text is taken: the bases move to its front, and the rest of its memory is given back.
+    /// The text is taken. While it is read, its bases take memory of their own; a `FastaReader` takes a file piece by piece.
     pub fn parse(alloc: A, genome: &Genome<A>, text: Vec<u8, A>) -> Result<Fasta<A>, LoadFault>
         ensures ok { IfOk result (λ f. fasta_of genome.now text.items ≡ Ok f) }
         ensures lengths { IfOk result (λ f. HasLengthsOf genome.now f) }
         ensures err { IfErr result (λ f. (f ≡ record { line = 0; cause = cause.Memory }) ⊎ (fasta_of genome.now text.items ≡ Err f)) }
     {
-        let draft = FastaDraft::read(alloc, genome, text)?;
-        draft.check_lengths(genome)?;
         genome.lemma_of_names();
-        match draft.ranges(alloc, genome) {
-            Ok(places) => {
-                let FastaDraft { text, .. } = draft;
-                let bases = text.into_compacted();
-                Ok(Fasta { places, bases })
-            }
-            Err(refused) => Err(LoadFault::at(0, LoadCause::from(refused))),
-        }
+        let mut reader = FastaReader::new(alloc, None);
+        reader.take_piece(genome, text.as_slice())?;
+        let fasta = reader.finish(genome)?;
+        Ok(fasta)
+    }
+
+    /// The bases at these places.
+    pub(crate) fn of(places: Vec<Option<BaseRange>, A>, bases: Vec<u8, A>) -> Self
+        requires { All (IsPlacedWithin (length bases.items)) places.items }
+        ensures { result ≡ placed places.items bases.items }
+    {
+        Fasta { places, bases }
     }
 
     /// Whether it has the sequence of this rank.

@@ -1,299 +1,267 @@
-//! What is held of a FASTA file while it is read.
-ghost use Rattle.std.specs.Prelude.{◌≡◌, ◌≤◌, ◌++◌, [], IsTrue, length, take, drop, All, false, ◌<◌, ◌+◌, ◌⊎◌, ◌∷◌, cond, None, Ok, Err, OnOk, OnErr, IfOk, IfErr, IfSome, slice_get, filter, find, fold};
-ghost use Rattle.std.specs.Hash.DefaultHasher.{initial, write};
-ghost use Rattle.std.specs.List.{list_any, before_first};
-ghost use Rattle.std.specs.Map.{lookup};
+//! What is held of a FASTA file while it is read, line by line.
+ghost use Rattle.std.specs.Prelude.{◌≡◌, ◌≢◌, ◌≤◌, ◌<◌, ◌+◌, ◌^◌, ◌⊎◌, ◌++◌, ◌==◌, ◌||◌, not, ℕ, List, Bool, cond, [], None, Some, false, true, Ok, Err, IfOk, IfErr, OnOk, All, length, slice_index};
 ghost use Rattle.std.specs.Option.{option_map};
-ghost use Rattle.std.specs.Str.{bytes_eq};
-ghost use Rattle.iv_text.specs.Lines.{lines, begins_with};
-ghost use Rattle.iv_text.specs.Named.{name_index};
-ghost use Rattle.iv_text.specs.declared.name_map.NameHasher.TheVariants as hasher;
 ghost use Rattle.iv_text.specs.declared.fault.LoadCause.TheVariants as cause;
-ghost use Rattle.iv_fasta.specs.Fasta.{header_sign, Stretch, header_name, has_wrong_length, bases_of};
-ghost use Rattle.iv_fasta.specs.Inside.FastaMeaning.{differs as differs_in, with_lengths, by_rank};
-ghost use Rattle.iv_fasta.specs.Inside.Fasta.{is_blank, is_no_base};
-ghost use Rattle.iv_fasta.specs.Inside.BaseRanges.{bases_at, placed, EndsWithin, IsPlacedWithin};
-ghost use Rattle.iv_fasta.specs.Inside.Drafts.{cut, end_at, StartInOrder, StartInOrder-prop, sequence_at, drafted, headed, with_compacted_line, after_compacted_lines, with_header};
+ghost use Rattle.iv_text.specs.Genome.{Sequences};
+ghost use Rattle.iv_fasta.specs.FastaReading.{is_held, said, with_header, ended};
+ghost use Rattle.iv_fasta.specs.Inside.BaseRanges.{placed, IsPlacedWithin};
+ghost use Rattle.iv_fasta.specs.Inside.Drafts.{begun_with, lacks_a_header, refusal_of, with_line_end, Reads, Refuses, IsInLine};
 
-use crate::base_lines::{FirstLine, first_line};
-use crate::compacted_text::CompactedText;
-use iv_text::{ContentSeed, Genome, LoadCause, LoadFault, NameMap, is_bad_name, lines_of};
-use std::alloc::{AllocError, Allocator};
-use std::hash::{DefaultHasher, Hasher};
+use crate::base_counts::{count_bases, is_bad};
+use crate::header_lines::{ended_line, name_in};
+use crate::held_sequences::{BaseRange, HeldSequences, wants};
+use iv_text::{Genome, LoadCause, LoadFault, is_bad_name};
+use std::alloc::Allocator;
+use std::marker::Model;
 
-/// Where the bases of a sequence lie among all that are held.
-#[derive(Clone, Copy)]
-pub(crate) struct BaseRange {
-    pub(crate) start: usize,
-    pub(crate) stop: usize,
-}
-
-/// Whether a name ends before this byte.
-fn ends_name(b: u8) -> bool
-    ensures { result ≡ is_blank b }
-{
-    b == b' ' || b == b'\t'
-}
-
-/// What is before the first space or TAB of a text, or all of it.
-pub(crate) fn before_blank(text: &[u8]) -> &[u8]
-    ensures { result.now ≡ before_first is_blank text.now }
-{
-    for (at, b) in text.iter().enumerate() {
-        if ends_name(*b) {
-            return &text[..at];
-        }
-    }
-    text
-}
-
-/// How many names are hashed before the next headers are looked at. So few take no time, whether or not they collide.
-const FEW: usize = 1000;
-
-/// A header: the number of its line, and where the bases after it start among all that are held.
-#[derive(Clone, Copy)]
-pub(crate) struct Header {
-    line: u64,
-    start: usize,
-}
-
-/// For names that are hashed after all headers of a text.
-fn after_headers(text: &[u8]) -> ContentSeed
-    ensures { result.begun ≡ hasher.Seeded (fold write initial (filter (begins_with header_sign) (lines text.now))) }
-{
-    let mut begun = DefaultHasher::new();
-    for line in lines_of(text) {
-        if !line.is_empty() && line[0] == b'>' {
-            begun.write(line);
-        }
-    }
-    ContentSeed::begun(begun)
-}
-
-/// Adds a header at the end, if a text begins with it that has all those after it. After a fault the headers are as before.
-fn push_header<A: Allocator + Copy>(
-    headers: &mut NameMap<Header, A>,
-    alloc: A,
-    name: &[u8],
-    header: Header,
-    text: &[u8],
-) -> Result<(), AllocError>
-    requires fresh { name_index headers.old name.now ≡ None }
-    ensures ok { OnOk result (headers.new ≡ headers.old ++ (name.now, header) ∷ []) }
-    ensures err { OnErr result (headers.new ≡ headers.old) }
-{
-    if headers.len() == FEW {
-        headers.rehash(alloc, after_headers(text))?;
-    }
-    headers.push(alloc, name, header)
-}
-
-/// Where the bases before the header at an index end, of so many bases in all.
-fn end_before<A: Allocator + Copy>(
-    headers: &NameMap<Header, A>,
-    place: usize,
-    total: usize,
-) -> usize
-    ensures { result ≡ end_at (slice_get headers.now place) total }
-{
-    match headers.at(place) {
-        Some((_, header)) => header.start,
-        None => total,
-    }
-}
-
-/// What is held of a FASTA file while it is read: its headers, and the bases of the sequences that the
-/// genome names, one after another in the front of its text.
+/// What is held of a FASTA file of which some bytes were read.
 #[derive(Drop)]
 pub(crate) struct FastaDraft<A: Allocator> {
-    headers: NameMap<Header, A>,
-    pub(crate) text: CompactedText<A>,
-    named: bool,
-    ghost in_order: { StartInOrder 0 headers (length text.compacted) } by { StartInOrder-prop 0 headers (length text.compacted) },
+    // The number of the next line, or of the line of bases in whose middle those bytes end.
+    number: u64,
+    // Whether they end there.
+    is_open: bool,
+    // Which sequences are wanted, by rank; all without a list.
+    wanted: Option<Vec<bool, A>>,
+    held: HeldSequences<A>,
+    // Whether the bases of the last sequence are held.
+    holds: bool,
 }
 
-/// Whether the genome names a sequence so, and gives it another number of bases.
-fn differs<A: Allocator + Copy>(genome: &Genome<A>, name: &[u8], count: usize) -> bool
-    ensures { result ≡ differs_in genome.now name.now count }
-{
-    match genome.rank(name) {
-        Some(rank) => count as u64 != genome.length_of(rank),
-        None => false,
-    }
+impl<A: Allocator> Model for FastaDraft<A> {
+    ghost use Rattle.std.specs.Option.{option_map};
+    ghost use Rattle.iv_fasta.specs.FastaReading.{Progress};
+    ghost use Rattle.iv_fasta.specs.Inside.Drafts.{cut};
+
+    ghost Value = { Progress };
+
+    ghost view = { λ d. record {
+      number = d.number;
+      is_open = d.is_open;
+      wanted = option_map (λ ranks. ranks.items) d.wanted;
+      draft = record { sequences = cut d.held.headers d.held.bases.items d.held.count; holds = d.holds };
+      count = d.held.count;
+    } };
 }
 
 impl<A: Allocator + Copy> FastaDraft<A> {
-    /// What is held before any line is read.
-    fn of(alloc: A, text: Vec<u8, A>) -> Self
-        ensures draft { drafted result.headers result.text.compacted result.named ≡ record { found = []; named = false } }
-        ensures coming { result.text.coming ≡ text.items }
+    /// What is held before any byte is read.
+    pub(crate) fn new(alloc: A, wanted: Option<Vec<bool, A>>) -> Self
+        ensures { result ≡ begun_with (option_map (λ ranks. ranks.items) wanted) }
     {
         FastaDraft {
-            headers: NameMap::new(alloc, ContentSeed::of(b"")),
-            text: CompactedText::of(text),
-            named: false,
+            number: 1,
+            is_open: false,
+            wanted,
+            held: HeldSequences::new(alloc),
+            holds: false,
         }
     }
 
-    /// What is held of a FASTA file, in its text, or the first fault of the first faulty line.
-    pub(crate) fn read(alloc: A, genome: &Genome<A>, text: Vec<u8, A>) -> Result<Self, LoadFault>
-        ensures ok { IfOk result (λ d. after_compacted_lines genome.now 1 (record { found = []; named = false }) (lines text.items) ≡ Ok (drafted d.headers d.text.compacted d.named)) }
-        ensures err { IfErr result (λ f. (f ≡ record { line = 0; cause = cause.Memory }) ⊎ (after_compacted_lines genome.now 1 (record { found = []; named = false }) (lines text.items) ≡ Err f)) }
+    /// Ends a line.
+    fn end_line(&mut self)
+        requires { self.old.number + 1 < 2 ^ 64 }
+        ensures { self.new ≡ with_line_end self.old }
     {
-        let mut draft = FastaDraft::of(alloc, text);
-        let mut number: u64 = 1;
-        while !draft.text.coming().is_empty() {
-            match draft.take_line(alloc, genome, number) {
-                Ok(()) => number += 1,
-                Err(cause) => return Err(LoadFault::at(number, cause)),
-            }
-        }
-        Ok(draft)
+        self.number += 1;
+        self.is_open = false;
     }
 
-    /// Takes the next line, which has this number.
-    fn take_line(&mut self, alloc: A, genome: &Genome<A>, number: u64) -> Result<(), LoadCause>
-        requires { 0 < length self.old.text.coming }
-        ensures ok { OnOk result (after_compacted_lines genome.now number (drafted self.old.headers self.old.text.compacted self.old.named) (lines self.old.text.coming)
-            ≡ after_compacted_lines genome.now (number + 1) (drafted self.new.headers self.new.text.compacted self.new.named) (lines self.new.text.coming)) }
-        ensures less { OnOk result (length self.new.text.coming < length self.old.text.coming) }
-        ensures err { IfErr result (λ c. (c ≡ cause.Memory) ⊎ (after_compacted_lines genome.now number (drafted self.old.headers self.old.text.compacted self.old.named) (lines self.old.text.coming)
-            ≡ Err (record { line = number; cause = c }))) }
+    /// Whether the bases of a sequence of this name are held.
+    fn holds(&self, genome: &Genome<A>, name: &[u8]) -> bool
+        ensures { result ≡ is_held genome.now self.now.wanted name.now }
     {
-        let FirstLine {
-            line,
-            next,
-            has_no_base,
-        } = first_line(self.text.coming());
-        let count = line.len();
-        if count == 0 {
-            self.text.read(next, 0);
-            return Ok(());
+        match genome.rank(name) {
+            Some(rank) => wants(&self.wanted, rank),
+            None => false,
         }
-        if line[0] == b'>' {
-            self.take_header(alloc, genome, number, count)?;
-            self.text.read(next, 0);
-            return Ok(());
+    }
+
+    /// Takes the header of this name.
+    fn push_header(&mut self, alloc: A, genome: &Genome<A>, name: &[u8]) -> Result<(), LoadCause>
+        ensures ok { OnOk result (with_header genome.now self.old.wanted self.old.number self.old.draft name.now ≡ Ok self.new.draft) }
+        ensures rest { OnOk result ((self.new.number ≡ self.old.number) × (self.new.count ≡ self.old.count)) }
+        ensures wanted { self.new.wanted ≡ self.old.wanted }
+        ensures err { IfErr result (λ c. (c ≡ cause.Memory) ⊎ (with_header genome.now self.old.wanted self.old.number self.old.draft name.now ≡ Err c)) }
+    {
+        if is_bad_name(name) {
+            return Err(LoadCause::Name);
         }
-        self.check_bases(line, has_no_base)?;
-        let compacted = if self.named { count } else { 0 };
-        self.text.read(next, compacted);
+        if self.held.has(name) {
+            return Err(LoadCause::Repeated);
+        }
+        self.held.push(alloc, name, self.number)?;
+        self.holds = self.holds(genome, name);
         Ok(())
     }
 
-    /// Takes the header in the next line, which has this number and so many bytes. The text stays as it is.
+    /// Takes the header that a text begins with, if its line ends there. It answers where the next line begins, or 0.
     fn take_header(
         &mut self,
         alloc: A,
         genome: &Genome<A>,
-        number: u64,
-        count: usize,
-    ) -> Result<(), LoadCause>
-        requires some { 0 < count }
-        requires within { count ≤ length self.old.text.coming }
-        ensures text { self.new.text ≡ self.old.text }
-        ensures ok { OnOk result (headed genome.now (header_name (take count self.old.text.coming)) (with_header number (cut self.old.headers self.old.text.compacted) (header_name (take count self.old.text.coming)))
-            ≡ Ok (drafted self.new.headers self.new.text.compacted self.new.named)) }
-        ensures err { IfErr result (λ c. (c ≡ cause.Memory) ⊎ (with_header number (cut self.old.headers self.old.text.compacted) (header_name (take count self.old.text.coming)) ≡ Err c)) }
+        text: &[u8],
+        is_last: bool,
+    ) -> Result<usize, LoadCause>
+        requires some { 0 < length text.now }
+        requires begins { slice_index text.now 0 ≡ 62 }
+        requires closed { self.old.is_open ≡ false }
+        requires few { self.old.number + self.old.count + length text.now < 2 ^ 64 }
+        ensures some { is_last ≡ true → IfOk result (λ size. 0 < size) }
+        ensures within { IfOk result (λ size. size ≤ length text.now) }
+        ensures few { IfOk result (λ size. self.new.number + self.new.count ≤ self.old.number + self.old.count + size) }
+        ensures wanted { self.new.wanted ≡ self.old.wanted }
+        ensures ok { IfOk result (λ size. Reads genome.now self.old self.new text.now size is_last) }
+        ensures err { IfErr result (λ c. (c ≡ cause.Memory) ⊎ Refuses genome.now self.old text.now c is_last) }
     {
-        let name = before_blank(&self.text.coming()[1..count]);
-        if is_bad_name(name) {
-            return Err(LoadCause::Name);
-        }
-        if self.headers.index_of(name).is_some() {
-            return Err(LoadCause::Repeated);
-        }
-        let start = self.text.count();
-        let header = Header {
-            line: number,
-            start,
+        let Some((line, next)) = ended_line(text, is_last) else {
+            return Ok(0);
         };
-        push_header(&mut self.headers, alloc, name, header, self.text.coming())?;
-        self.named = genome.rank(name).is_some();
-        Ok(())
+        self.push_header(alloc, genome, name_in(line))?;
+        self.end_line();
+        Ok(next)
     }
 
-    /// Whether a line of bases may come here, or its fault. It is said whether some byte of it is no base.
-    fn check_bases(&self, line: &[u8], has_no_base: bool) -> Result<(), LoadCause>
-        requires { has_no_base ≡ list_any is_no_base line.now }
-        ensures ok { OnOk result (with_compacted_line (drafted self.now.headers self.now.text.compacted self.now.named) line.now
-            ≡ Ok (drafted self.now.headers (self.now.text.compacted ++ cond self.now.named line.now []) self.now.named)) }
-        ensures err { IfErr result (λ c. with_compacted_line (drafted self.now.headers self.now.text.compacted self.now.named) line.now ≡ Err c) }
+    /// Whether bases may not come here, because no header came before.
+    fn lacks_header(&self) -> bool
+        ensures { result ≡ lacks_a_header self.now }
     {
-        if self.headers.len() == 0 {
+        !self.is_open && self.held.is_empty()
+    }
+
+    /// Why a line is refused whose next byte is no base.
+    fn refusal(&self) -> LoadCause
+        ensures { result ≡ refusal_of self.now }
+    {
+        if self.lacks_header() {
+            LoadCause::BasesFirst
+        } else {
+            LoadCause::Base
+        }
+    }
+
+    /// Takes the CR that a text begins with, and a LF after it. It answers how many bytes these are, or 0 if nothing is after the CR.
+    fn take_return(&mut self, text: &[u8], is_last: bool) -> Result<usize, LoadCause>
+        requires some { 0 < length text.now }
+        requires begins { slice_index text.now 0 ≡ 13 }
+        requires few { self.old.number + length text.now < 2 ^ 64 }
+        ensures some { is_last ≡ true → IfOk result (λ size. 0 < size) }
+        ensures within { IfOk result (λ size. size ≤ length text.now) }
+        ensures few { IfOk result (λ size. self.new.number + self.new.count ≤ self.old.number + self.old.count + size) }
+        ensures wanted { self.new.wanted ≡ self.old.wanted }
+        ensures ok { IfOk result (λ size. (g : Sequences) → Reads g self.old self.new text.now size is_last) }
+        ensures err { IfErr result (λ c. (g : Sequences) → Refuses g self.old text.now c is_last) }
+    {
+        if text.len() == 1 {
+            if is_last {
+                return Err(self.refusal());
+            }
+            return Ok(0);
+        }
+        if text[1] == b'\n' {
+            self.end_line();
+            return Ok(2);
+        }
+        Err(self.refusal())
+    }
+
+    /// Takes the bases that a text begins with. It answers how many they are.
+    fn take_bases(&mut self, text: &[u8]) -> Result<usize, LoadCause>
+        requires some { IsInLine text.now }
+        requires open { self.old.is_open ≡ false → slice_index text.now 0 ≢ 62 }
+        requires few { self.old.count + length text.now < 2 ^ 64 }
+        ensures some { IfOk result (λ size. 0 < size) }
+        ensures within { IfOk result (λ size. size ≤ length text.now) }
+        ensures few { IfOk result (λ size. self.new.number + self.new.count ≤ self.old.number + self.old.count + size) }
+        ensures wanted { self.new.wanted ≡ self.old.wanted }
+        ensures ok { IfOk result (λ size. (g : Sequences) (is_last : Bool) → Reads g self.old self.new text.now size is_last) }
+        ensures err { IfErr result (λ c. (c ≡ cause.Memory) ⊎ ((g : Sequences) (is_last : Bool) → Refuses g self.old text.now c is_last)) }
+    {
+        if self.lacks_header() {
             return Err(LoadCause::BasesFirst);
         }
-        if has_no_base {
+        if is_bad(text[0]) {
             return Err(LoadCause::Base);
         }
-        Ok(())
+        let count = 1 + count_bases(&text[1..]);
+        self.held.extend(&text[..count], self.holds)?;
+        self.is_open = true;
+        Ok(count)
     }
 
-    /// Where the bases of the sequence at this index lie, with its name and the number of its header's line.
-    fn sequence(&self, place: usize) -> Option<(&[u8], u64, BaseRange)>
-        ensures value { option_map (λ s. (s.0.now, sequence_at self.now.text.compacted s.1 s.2)) result ≡ slice_get (cut self.now.headers self.now.text.compacted) place }
-        ensures within { IfSome result (λ s. EndsWithin (length self.now.text.compacted) s.2) }
-    {
-        let (name, header) = self.headers.at(place)?;
-        let start = header.start;
-        let stop = end_before(&self.headers, place + 1, self.text.count());
-        Some((name, header.line, BaseRange { start, stop }))
-    }
-
-    /// Whether each sequence that the genome names has the length that it says, or the fault of the first that has not.
-    pub(crate) fn check_lengths(&self, genome: &Genome<A>) -> Result<(), LoadFault>
-        ensures ok { OnOk result (find (has_wrong_length genome.now) (cut self.now.headers self.now.text.compacted) ≡ None) }
-        ensures err { IfErr result (λ f. with_lengths genome.now (cut self.now.headers self.now.text.compacted) ≡ Err f) }
-    {
-        for place in 0..self.headers.len() {
-            let Some((name, line, bases)) = self.sequence(place) else {
-                break;
-            };
-            if differs(genome, name, bases.stop - bases.start) {
-                return Err(LoadFault::at(line, LoadCause::WrongLength));
-            }
-        }
-        Ok(())
-    }
-
-    /// Where the bases of the sequence of this name lie, if there is one.
-    fn range_of(&self, name: &[u8]) -> Option<BaseRange>
-        ensures value { option_map (bases_at self.now.text.compacted) result ≡ option_map (λ (s : Stretch). s.bases) (lookup (bytes_eq name.now) (cut self.now.headers self.now.text.compacted)) }
-        ensures within { IsPlacedWithin (length self.now.text.compacted) result }
-    {
-        match self.headers.index_of(name) {
-            Some(place) => match self.sequence(place) {
-                Some((_, _, bases)) => Some(bases),
-                None => None,
-            },
-            None => None,
-        }
-    }
-
-    /// Where the bases of the sequence of this rank lie, if there is one.
-    fn range_at(&self, genome: &Genome<A>, rank: u32) -> Option<BaseRange>
-        ensures value { option_map (bases_at self.now.text.compacted) result ≡ bases_of (by_rank genome.now (cut self.now.headers self.now.text.compacted)) rank }
-        ensures within { IsPlacedWithin (length self.now.text.compacted) result }
-    {
-        match genome.name(rank) {
-            Some(name) => self.range_of(name),
-            None => None,
-        }
-    }
-
-    /// Where the bases of each sequence of the genome lie, by rank.
-    pub(crate) fn ranges(
-        &self,
+    /// Takes the end of a line, a header, or bases, with which a text begins. It answers how many bytes these are, or 0 if this isn't
+    /// known before more of the text has come.
+    fn take_some(
+        &mut self,
         alloc: A,
         genome: &Genome<A>,
-    ) -> Result<Vec<Option<BaseRange>, A>, AllocError>
-        ensures value { IfOk result (λ places. placed places.items self.now.text.compacted ≡ by_rank genome.now (cut self.now.headers self.now.text.compacted)) }
-        ensures within { IfOk result (λ places. All (IsPlacedWithin (length self.now.text.compacted)) places.items) }
+        text: &[u8],
+        is_last: bool,
+    ) -> Result<usize, LoadCause>
+        requires some { 0 < length text.now }
+        requires few { self.old.number + self.old.count + length text.now < 2 ^ 64 }
+        ensures some { is_last ≡ true → IfOk result (λ size. 0 < size) }
+        ensures within { IfOk result (λ size. size ≤ length text.now) }
+        ensures few { IfOk result (λ size. self.new.number + self.new.count ≤ self.old.number + self.old.count + size) }
+        ensures wanted { self.new.wanted ≡ self.old.wanted }
+        ensures ok { IfOk result (λ size. Reads genome.now self.old self.new text.now size is_last) }
+        ensures err { IfErr result (λ c. (c ≡ cause.Memory) ⊎ Refuses genome.now self.old text.now c is_last) }
     {
-        let mut places = Vec::new(alloc);
-        for rank in 0..genome.count() {
-            places.push(self.range_at(genome, rank))?;
+        let first = text[0];
+        if first == b'\n' {
+            self.end_line();
+            return Ok(1);
         }
-        Ok(places)
+        if first == b'\r' {
+            return self.take_return(text, is_last);
+        }
+        if first == b'>' && !self.is_open {
+            return self.take_header(alloc, genome, text, is_last);
+        }
+        self.take_bases(text)
+    }
+
+    /// Takes all of a text that it can before more of it has come. It answers how many bytes it took.
+    pub(crate) fn take_text(
+        &mut self,
+        alloc: A,
+        genome: &Genome<A>,
+        text: &[u8],
+        is_last: bool,
+    ) -> Result<usize, LoadFault>
+        requires few { self.old.number + self.old.count + length text.now < 2 ^ 64 }
+        ensures within { IfOk result (λ size. size ≤ length text.now) }
+        ensures few { IfOk result (λ size. self.new.number + self.new.count ≤ self.old.number + self.old.count + size) }
+        ensures all { is_last ≡ true → IfOk result (λ size. size ≡ length text.now) }
+        ensures wanted { self.new.wanted ≡ self.old.wanted }
+        ensures ok { IfOk result (λ size. Reads genome.now self.old self.new text.now size is_last) }
+        ensures err { IfErr result (λ f. (f ≡ record { line = 0; cause = cause.Memory }) ⊎ ((more : List ℕ) → (is_last ≡ true → more ≡ []) → said genome.now self.old (text.now ++ more) ≡ Err f)) }
+    {
+        let mut taken = 0;
+        while taken < text.len() {
+            let number = self.number;
+            match self.take_some(alloc, genome, &text[taken..], is_last) {
+                Ok(0) => break,
+                Ok(size) => taken += size,
+                Err(cause) => return Err(LoadFault::at(number, cause)),
+            }
+        }
+        Ok(taken)
+    }
+
+    /// Where the bases of each wanted sequence lie, and the bases, if all lengths are those of the genome.
+    pub(crate) fn finish(
+        self,
+        alloc: A,
+        genome: &Genome<A>,
+    ) -> Result<(Vec<Option<BaseRange>, A>, Vec<u8, A>), LoadFault>
+        ensures ok { IfOk result (λ f. ended genome.now self.wanted self.draft.sequences ≡ Ok (placed f.0.items f.1.items)) }
+        ensures within { IfOk result (λ f. All (IsPlacedWithin (length f.1.items)) f.0.items) }
+        ensures err { IfErr result (λ f. (f ≡ record { line = 0; cause = cause.Memory }) ⊎ (ended genome.now self.wanted self.draft.sequences ≡ Err f)) }
+    {
+        let FastaDraft { wanted, held, .. } = self;
+        held.check_lengths(genome)?;
+        let places = held.ranges(alloc, genome, &wanted)?;
+        Ok((places, held.into_bases()))
     }
 }

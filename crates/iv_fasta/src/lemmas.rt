@@ -1,10 +1,14 @@
 //! Lemmas on the definitions: functions that do nothing, whose contracts are the lemmas.
-ghost use Rattle.std.specs.Prelude.{◌≡◌, ◌↔◌, ◌⊎◌, ◌+◌, ◌++◌, ◌∷◌, ℕ, List, Ok, Err, All, length};
+ghost use Rattle.std.specs.Prelude.{◌≡◌, ◌↔◌, ◌⊎◌, ◌+◌, ◌++◌, ◌∷◌, ℕ, List, true, Ok, Err, All, length};
 ghost use Rattle.iv_text.specs.FileMeaning.{HaveNoCause, IsFirstFault};
 ghost use Rattle.iv_text.specs.Genome.{Sequences};
 ghost use Rattle.iv_text.specs.Lines.{lines};
+ghost use Rattle.iv_text.specs.RecordValue.{RecordValue};
 ghost use Rattle.iv_text.specs.declared.fault.LoadFault.{LoadFault};
 ghost use Rattle.iv_fasta.specs.Fasta.{Bases, Found, fasta_of};
+ghost use Rattle.iv_fasta.specs.FastaReading.{Wanted, is_wanted, only};
+ghost use Rattle.iv_fasta.specs.FastaRows.{fasta_rows};
+ghost use Rattle.iv_fasta.specs.declared.rows.FastaRows.{FastaRows};
 ghost use Rattle.iv_fasta.specs.Inside.Drafts.{after_fasta_lines};
 ghost use Rattle.iv_fasta.specs.Inside.Fasta.{IsNewHeader, IsBaseLine, with_joined};
 ghost use Rattle.iv_fasta.specs.Inside.FastaMeaning.{line_cause, sequences_said, HaveRightLengths, IsFirstWrongLength, by_rank};
@@ -24,4 +28,9 @@ pub fn joined_lines_are_a_sequence()
 pub fn fasta_or_first_fault()
     ensures value { (g : Sequences) (text : List ℕ) (f : Bases) → (fasta_of g text ≡ Ok f) ↔ (HaveNoCause line_cause (lines text) × HaveRightLengths g (sequences_said (lines text)) × (f ≡ by_rank g (sequences_said (lines text)))) }
     ensures fault { (g : Sequences) (text : List ℕ) (f : LoadFault) → (fasta_of g text ≡ Err f) ↔ (IsFirstFault line_cause (lines text) f ⊎ (HaveNoCause line_cause (lines text) × IsFirstWrongLength g (sequences_said (lines text)) f)) }
+{}
+
+/// The row of a record on a wanted sequence is the same if only the bases of the wanted sequences are held.
+pub fn wanted_rows_are_the_same()
+    ensures { (wanted : Wanted) (shown : FastaRows) (g : Sequences) (fasta : Bases) (r : RecordValue) → is_wanted wanted r.seq ≡ true → fasta_rows shown g (only wanted fasta) r ≡ fasta_rows shown g fasta r }
 {}

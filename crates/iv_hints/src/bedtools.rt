@@ -1,7 +1,5 @@
 //! What bedtools has and bedkeep has not, and what to do instead.
-use crate::hint::Hint;
 use crate::vocabulary::lists;
-use std::alloc::AllocError;
 
 /// Subcommands that only bedtools has.
 const SUBCOMMANDS: &[u8] =
@@ -87,14 +85,14 @@ pub(crate) fn is_other_subcommand(word: &[u8]) -> bool {
     lists(SUBCOMMANDS, word)
 }
 
-/// What to do instead of an option that only bedtools has.
-pub(crate) fn instead_of(option: &[u8]) -> Option<&'static [u8]> {
+/// What to do instead of an option that only bedtools has; empty of others.
+pub(crate) fn instead_of(option: &[u8]) -> &'static [u8] {
     for (options, text) in OPTIONS {
         if lists(options, option) {
-            return Some(text);
+            return text;
         }
     }
-    None
+    b""
 }
 
 /// What to do instead of a subcommand.
@@ -109,11 +107,5 @@ pub(crate) fn instead_of_subcommand(word: &[u8]) -> &'static [u8] {
     }
 }
 
-/// Puts that a subcommand or an option of bedtools is not there, and what to do instead.
-pub(crate) fn put_not_there(
-    word: &[u8],
-    instead: &[u8],
-    hint: &mut Hint,
-) -> Result<(), AllocError> {
-    hint.line(b"{} of bedtools isn't there: {}", &[word, instead])
-}
+/// That a subcommand or an option of bedtools is not there, and what to do instead.
+pub(crate) const NOT_THERE: &[u8] = b"{word} of bedtools isn't there: {instead}";

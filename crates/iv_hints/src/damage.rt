@@ -1,19 +1,22 @@
 //! The hint on a damaged file.
-use crate::file_kinds::{BYTE_ORDER_MARK, FileKind, GZIP_FRONT, HEADING};
-use crate::hint::Hint;
-use crate::records::{
-    alike_in, column, count_columns, field, first_record, has_name, is_number, length_in,
-};
-use crate::values::{
-    SPACES_AWAY, is_spaced, put_length, put_number, put_spaced, said, shown, trimmed,
-};
-use itoa::Buffer;
+use crate::faulty_record::{FaultyRecord, NO_NUMBER, SPACED, TOO_LONG, faulty_column};
+use crate::file_kinds::{BYTE_ORDER_MARK, HEADING, kind_of_any, kind_of_bed, kind_of_gzip};
+use crate::hint::{Hint, Value, Values};
+use crate::records::{column, count_columns, field, first_record, has_name, is_number};
+use crate::values::{is_spaced, shown};
 use iv_args::Slot;
-use iv_text::{Fault, LoadCause, LoadFault};
+use iv_text::{Fault, LoadCause, LoadFault, read_number};
 use std::alloc::AllocError;
 
+/// How many columns of a quoted line are shown.
+const MOST_COLUMNS: usize = 60;
+
+/// That the second column is a sequence.
+const SHIFTED: &[u8] =
+    b"column 2, {second}, is a sequence of the genome file: it is column 1 of a BED file\n{unshifted}";
+
 /// A damaged file: its name, its first fault, the text of the faulty line, the front of the file and that of the genome file.
-#[derive(Drop)]
+#[derive(Clone, Copy)]
 pub(crate) struct Damage<'a> {
     pub(crate) slot: Slot,
     pub(crate) name: &'a [u8],
@@ -23,55 +26,41 @@ pub(crate) struct Damage<'a> {
     pub(crate) genome: &'a [u8],
 }
 
-/// Which page says how larger data is cut.
-pub(crate) const IN_PARTS: &[u8] = b"larger data is cut into parts: examples/at_scale/README.md";
-
-/// Puts that a file has more sequences or records than it may.
-pub(crate) fn put_too_many(slot: Slot, hint: &mut Hint) -> Result<(), AllocError> {
-    match slot {
-        Slot::Sizes => hint.say(b"a genome file has at most 1000000 sequences")?,
-        _ => hint.say(
-            b"a BED file has more records than -limit allows, which is 4000000 if it isn't given: -limit N, up to 100000000",
-        )?,
-    }
-    hint.say(IN_PARTS)
-}
-
-/// Puts that the columns of a line are shifted: the second one is a sequence.
-fn put_shifted(line: &[u8], hint: &mut Hint) -> Result<(), AllocError> {
-    hint.line(
-        b"column 2, {}, is a sequence of the genome file: it is column 1 of a BED file",
-        &[shown(field(line, 1))],
-    )?;
-    match count_columns(line) {
-        4 => hint.say(
-            b"awk -F '\\t' -v OFS='\\t' '{ print $2, $3, $4, $1 }' FILE makes the first column the name",
-        ),
-        _ => hint.say(b"cut -f2- FILE leaves the first column out"),
+/// How many columns a byte takes in a hint.
+fn width_of(byte: u8) -> usize {
+    match byte {
+        b' '..=b'~' => 1,
+        b'\t' | b'\r' => 2,
+        _ => 4,
     }
 }
 
-/// Puts how names of a file become like those of the genome file, given one of each.
-fn put_renaming(name: &[u8], known: &[u8], hint: &mut Hint) -> Result<(), AllocError> {
-    let starts = name.get(..3).zip(known.get(..3));
-    if known.strip_prefix(b"chr").is_some_and(|rest| rest == name) {
-        hint.say(b"names have to be the same: sed '/^#/!s/^/chr/' FILE")
-    } else if name.strip_prefix(b"chr").is_some_and(|rest| rest == known) {
-        hint.say(b"names have to be the same: sed 's/^chr//' FILE")
-    } else if let Some((front, b"chr")) = starts {
-        hint.line(
-            b"names have to be the same: sed 's/^{}/chr/' FILE",
-            &[front],
-        )
+/// As much of a line as is quoted.
+fn quoted_front(line: &[u8]) -> &[u8] {
+    let mut columns: usize = 0;
+    for (place, byte) in line.iter().enumerate() {
+        columns = columns.saturating_add(width_of(*byte));
+        if columns > MOST_COLUMNS {
+            return line.get(..place).unwrap_or(line);
+        }
+    }
+    line
+}
+
+/// What changes the first name of a line into the second: for which lines, the old front and the new one, and what follows both.
+fn renaming<'a>(name: &'a [u8], known: &'a [u8]) -> [&'a [u8]; 4] {
+    if known.strip_prefix(b"chr") == Some(name) {
+        [b"/^#/!", b"", b"chr", b""]
+    } else if name.strip_prefix(b"chr") == Some(known) {
+        [b"", b"chr", b"", b""]
+    } else if let (Some(front), true) = (name.get(..3), known.starts_with(b"chr")) {
+        [b"", front, b"chr", b""]
     } else {
-        hint.line(
-            b"names have to be the same: sed 's/^{}\\t/{}\\t/' FILE",
-            &[name, known],
-        )
+        [b"", name, known, b"\\t"]
     }
 }
 
-impl Damage<'_> {
+impl<'a> Damage<'a> {
     /// Puts the line, what it looks like and what to do.
     pub(crate) fn put(&self, hint: &mut Hint) -> Result<(), AllocError> {
         if self.line.is_empty() {
@@ -79,215 +68,206 @@ impl Damage<'_> {
                 b"the line isn't shown, since a pipe can't be read twice: write it into a file, and give that",
             );
         }
-        hint.quote(self.fault.line, self.line)?;
-        match self.slot {
-            Slot::Sizes => self.put_genome(hint),
-            Slot::First | Slot::Other => self.put_bed(hint),
-            Slot::Bases => self.put_bases(hint),
+        hint.put(b"line {line}: {quoted}{more}", self)?;
+        hint.put(self.text(), self)
+    }
+
+    /// The faulty record, or line of a genome file.
+    fn record(&self) -> FaultyRecord<'a> {
+        let (faulty, subject) = match self.fault.cause {
+            LoadCause::Record(fault) => faulty_column(fault.code()),
+            _ => (1, b"the length".as_slice()),
+        };
+        FaultyRecord {
+            line: self.line,
+            begin: 0,
+            faulty,
+            subject,
+            genome: self.genome,
+            is_of_file: true,
         }
     }
 
-    /// Puts what a BED file looks like, or what is wrong with its line.
-    fn put_bed(&self, hint: &mut Hint) -> Result<(), AllocError> {
-        if let Some(kind) = FileKind::of_bed(self.name, self.front, self.line) {
-            return kind.put(hint);
-        }
-        match self.fault.cause {
-            LoadCause::Record(Fault::UnknownSeq) => self.put_unknown(hint),
-            LoadCause::Record(Fault::PastEnd) => self.put_past_end(hint),
-            LoadCause::Record(Fault::Order) => self.put_order(hint),
-            LoadCause::Record(Fault::StartNumber) => {
-                put_number(b"the start", column(self.line, 1), hint)
-            }
-            LoadCause::Record(Fault::StopNumber) => {
-                put_number(b"the end", column(self.line, 2), hint)
-            }
-            LoadCause::Record(Fault::Name) => self.put_empty(b"4", 3, hint),
-            LoadCause::Record(Fault::Score) => self.put_empty(b"5", 4, hint),
-            LoadCause::Record(Fault::Strand) => self.put_strand(hint),
-            _ => self.put_columns(hint),
+    /// What the file looks like, or what is wrong with the line.
+    fn text(&self) -> &'static [u8] {
+        let kind = match self.slot {
+            Slot::Sizes => kind_of_any(self.name, self.front, self.line),
+            Slot::First | Slot::Other => kind_of_bed(self.name, self.front, self.line),
+            Slot::Bases => kind_of_gzip(self.name, self.front),
+        };
+        match (self.slot, self.fault.cause) {
+            _ if !kind.is_empty() => kind,
+            (Slot::Sizes, _) => self.genome_text(),
+            (Slot::Bases, _) => self.bases_text(),
+            (_, LoadCause::Record(fault)) => self.record_text(fault),
+            _ => self.columns_text(),
         }
     }
 
-    /// Puts how many columns the line has, and how many it should.
-    fn put_columns(&self, hint: &mut Hint) -> Result<(), AllocError> {
-        let mut found = Buffer::new();
-        let mut first = Buffer::new();
-        let found = found.format(count_columns(self.line)).as_bytes();
-        match (self.fault.cause, first_record(self.front)) {
-            (LoadCause::Record(_), Some(record)) => hint.line(
-                b"columns of this line: {}; of the first record: {}; cut -f1-3 FILE makes lines alike",
-                &[found, first.format(count_columns(record)).as_bytes()],
-            ),
-            _ if is_number(self.line, 1) && count_columns(self.line) == 2 => hint.say(
-                b"columns of this line: 2; it looks like a line of a genome file, which comes after -g; a BED file has 3 to 6",
-            ),
-            _ if count_columns(self.line) > 3 && self.is_shifted() => put_shifted(self.line, hint),
-            _ => hint.line(
-                b"columns of this line, separated by TABs: {}; a BED file has 3 to 6",
-                &[found],
-            ),
+    /// What is wrong with a record.
+    fn record_text(&self, fault: Fault) -> &'static [u8] {
+        match fault {
+            Fault::UnknownSeq => self.unknown_text(),
+            Fault::PastEnd => b"{name} has {length} bases in the genome file\n{assembly}",
+            Fault::Order if field(self.line, 1) == field(self.line, 2) => {
+                b"the start has to be below the end, and both are {start}: the record has no base\nawk -F '\\t' 'NF < 3 || $2 != $3' FILE leaves such records out"
+            }
+            Fault::Order =>
+                b"the start has to be below the end: {start} is above {end}\nawk -F '\\t' -v OFS='\\t' '$2 > $3 { t = $2; $2 = $3; $3 = t } 1' FILE exchanges the two; '$2 < $3' leaves the record out",
+            Fault::StartNumber | Fault::StopNumber => NO_NUMBER,
+            Fault::Name => self.empty_text(3),
+            Fault::Score => self.empty_text(4),
+            Fault::Strand => self.strand_text(),
+            _ => self.columns_text(),
+        }
+    }
+
+    /// How many columns the line has, and how many it should.
+    fn columns_text(&self) -> &'static [u8] {
+        let count = count_columns(self.line);
+        if matches!(self.fault.cause, LoadCause::Record(_)) && first_record(self.front).is_some() {
+            b"columns of this line: {columns}; of the first record: {first}; cut -f1-3 FILE makes lines alike"
+        } else if is_number(self.line, 1) && count == 2 {
+            b"columns of this line: 2; it looks like a line of a genome file, which comes after -g; a BED file has 3 to 6"
+        } else if count > 3 && self.is_shifted() {
+            SHIFTED
+        } else {
+            b"columns of this line, separated by TABs: {columns}; a BED file has 3 to 6"
         }
     }
 
     /// Whether the second column is a sequence.
     fn is_shifted(&self) -> bool {
-        column(self.line, 1).is_some_and(|second| has_name(self.genome, second))
+        has_name(self.genome, field(self.line, 1))
     }
 
-    /// Puts the name that the genome file lacks, and one that it has.
-    fn put_unknown(&self, hint: &mut Hint) -> Result<(), AllocError> {
+    /// What brings shifted columns into their order.
+    fn unshifted_text(&self) -> &'static [u8] {
+        match count_columns(self.line) {
+            4 =>
+                b"awk -F '\\t' -v OFS='\\t' '{ print $2, $3, $4, $1 }' FILE makes the first column the name",
+            _ => b"cut -f2- FILE leaves the first column out",
+        }
+    }
+
+    /// What is wrong with a name that the genome file lacks.
+    fn unknown_text(&self) -> &'static [u8] {
         if self.genome.starts_with(BYTE_ORDER_MARK) {
-            return hint.say(
-                b"the genome file begins with a byte order mark: sed '1s/^\xEF\xBB\xBF//' takes it away",
-            );
-        }
-        if first_record(self.genome).is_none() {
-            return hint.say(
-                b"the genome file is empty: it has a name, a TAB and a length on each line",
-            );
-        }
-        let name = field(self.line, 0);
-        if is_spaced(name) {
-            put_spaced(b"the name", name, hint)?;
-            return hint.say(SPACES_AWAY);
-        }
-        if self.is_shifted() {
-            return put_shifted(self.line, hint);
-        }
-        match alike_in(self.genome, name) {
-            Some(known) => {
-                hint.line(b"the genome file has no {}, and has {}", &[name, known])?;
-                put_renaming(name, known, hint)
-            }
-            None => hint.line(
-                b"the genome file has no {}: take the genome file of this assembly, or add a line to it",
-                &[name],
-            ),
+            b"the genome file begins with a byte order mark: sed '1s/^\xEF\xBB\xBF//' takes it away"
+        } else if first_record(self.genome).is_none() {
+            b"the genome file is empty: it has a name, a TAB and a length on each line"
+        } else if is_spaced(field(self.line, 0)) {
+            SPACED
+        } else if self.is_shifted() {
+            SHIFTED
+        } else if self.record().known().is_some() {
+            b"the genome file has no {name}, and has {known}\nnames have to be the same: sed '{address}s/^{old}{tab}/{new}{tab}/' FILE"
+        } else {
+            b"the genome file has no {name}: take the genome file of this assembly, or add a line to it"
         }
     }
 
-    /// Puts what is wrong with a start that isn't below the end.
-    fn put_order(&self, hint: &mut Hint) -> Result<(), AllocError> {
-        let start = field(self.line, 1);
-        let end = field(self.line, 2);
-        if start == end {
-            hint.line(
-                b"the start has to be below the end, and both are {}: the record has no base",
-                &[start],
-            )?;
-            return hint.say(b"awk -F '\\t' 'NF < 3 || $2 != $3' FILE leaves such records out");
-        }
-        hint.line(
-            b"the start has to be below the end: {} is above {}",
-            &[start, end],
-        )?;
-        hint.say(
-            b"awk -F '\\t' -v OFS='\\t' '$2 > $3 { t = $2; $2 = $3; $3 = t } 1' FILE exchanges the two; '$2 < $3' leaves the record out",
-        )
-    }
-
-    /// Puts what is wrong with a strand.
-    fn put_strand(&self, hint: &mut Hint) -> Result<(), AllocError> {
+    /// What is wrong with a strand.
+    fn strand_text(&self) -> &'static [u8] {
         let value = field(self.line, 5);
-        if is_spaced(value) && matches!(trimmed(value), b"+" | b"-" | b".") {
-            put_spaced(b"column 6", value, hint)?;
-            return hint.say(SPACES_AWAY);
+        if is_spaced(value) && matches!(value.trim_ascii(), b"+" | b"-" | b".") {
+            b"column 6 has a space at an end: \"{shown}\"\n{away}"
+        } else if matches!(field(self.line, 4), b"+" | b"-") {
+            b"column 6 is the strand, and not {said}\nawk -F '\\t' -v OFS='\\t' 'NF > 5 { t = $5; $5 = $6; $6 = t } 1' FILE exchanges columns 5 and 6"
+        } else {
+            b"column 6 is +, - or . (cut -f1-5 FILE leaves it out), and not {said}"
         }
-        if matches!(column(self.line, 4), Some(b"+" | b"-")) {
-            hint.line(b"column 6 is the strand, and not {}", &[said(value)])?;
-            return hint.say(
-                b"awk -F '\\t' -v OFS='\\t' 'NF > 5 { t = $5; $5 = $6; $6 = t } 1' FILE exchanges columns 5 and 6",
-            );
-        }
-        hint.line(
-            b"column 6 is +, - or . (cut -f1-5 FILE leaves it out), and not {}",
-            &[said(value)],
-        )
     }
 
-    /// Puts the length of the sequence.
-    fn put_past_end(&self, hint: &mut Hint) -> Result<(), AllocError> {
-        let name = field(self.line, 0);
-        let length = length_in(self.genome, name).unwrap_or(b"fewer");
-        hint.line(b"{} has {} bases in the genome file", &[name, length])?;
+    /// What the genome file of a record that ends past its sequence may be.
+    fn assembly_text(&self) -> &'static [u8] {
         match first_record(self.genome) {
-            Some(line) if is_number(line, 2) && count_columns(line) < 5 => hint.say(
+            Some(line) if is_number(line, 2) && count_columns(line) < 5 =>
                 b"the genome file looks like a BED file: cut -f1,3 GENOME makes a genome file of it",
-            ),
-            _ => hint.say(b"is the genome file that of this assembly?"),
+            _ => b"is the genome file that of this assembly?",
         }
     }
 
-    /// Puts which column is empty, or holds what it may not.
-    fn put_empty(&self, number: &[u8], place: usize, hint: &mut Hint) -> Result<(), AllocError> {
+    /// What is wrong with a name or a score.
+    fn empty_text(&self, place: usize) -> &'static [u8] {
         match column(self.line, place) {
-            Some([]) if !self.line.ends_with(b"\t") => hint.line(
-                b"column {} is empty: awk -F '\\t' -v OFS='\\t' 'NF > {} && ${} == \"\" { ${} = \".\" } 1' FILE writes a . there",
-                &[number, number, number, number],
-            ),
-            Some([]) => hint.line(
-                b"column {} is empty: sed 's/\\t*$//' FILE takes TABs away at the end, or write a . there",
-                &[number],
-            ),
-            _ => hint.line(b"column {} holds a CR or a NUL", &[number]),
+            Some([]) if !self.line.ends_with(b"\t") =>
+                b"column {number} is empty: awk -F '\\t' -v OFS='\\t' 'NF > {number} && ${number} == \"\" { ${number} = \".\" } 1' FILE writes a . there",
+            Some([]) =>
+                b"column {number} is empty: sed 's/\\t*$//' FILE takes TABs away at the end, or write a . there",
+            _ => b"column {number} holds a CR or a NUL",
         }
     }
 
-    /// Puts what a genome file looks like, or what is wrong with its line.
-    fn put_genome(&self, hint: &mut Hint) -> Result<(), AllocError> {
-        if let Some(kind) = FileKind::of_any(self.name, self.front, self.line) {
-            return kind.put(hint);
-        }
+    /// What is wrong with a line of a genome file.
+    fn genome_text(&self) -> &'static [u8] {
         match self.fault.cause {
-            LoadCause::Repeated if is_number(self.line, 2) => hint.say(
+            LoadCause::Repeated if is_number(self.line, 2) =>
                 b"the genome file looks like a BED file: it has a name, a TAB and a length on each line",
-            ),
-            LoadCause::Repeated => hint.line(
-                b"{} came before: awk -F '\\t' '!seen[$1]++' FILE keeps the first line of each sequence",
-                &[field(self.line, 0)],
-            ),
-            LoadCause::Length => self.put_length(hint),
-            _ if self.line.starts_with(b">") => hint.say(
+            LoadCause::Repeated =>
+                b"{name} came before: awk -F '\\t' '!seen[$1]++' FILE keeps the first line of each sequence",
+            LoadCause::Length if read_number(field(self.line, 1)).is_none() => NO_NUMBER,
+            LoadCause::Length => TOO_LONG,
+            _ if self.line.starts_with(b">") =>
                 b"the file looks like FASTA: samtools faidx FILE writes FILE.fai, which is a genome file",
-            ),
-            _ => hint.say(b"a genome file has a name, a TAB and a length on each line"),
+            _ => b"a genome file has a name, a TAB and a length on each line",
         }
     }
 
-    /// Puts what is wrong with the length of a sequence of a genome file.
-    fn put_length(&self, hint: &mut Hint) -> Result<(), AllocError> {
-        let value = field(self.line, 1);
-        put_length(value, hint)?;
-        match value {
-            _ if self.line.starts_with(b"@") => hint.say(
+    /// What the line of a genome file looks like whose length is faulty.
+    fn heading_text(&self) -> &'static [u8] {
+        match field(self.line, 1) {
+            _ if self.line.starts_with(b"@") =>
                 b"awk -F '[\\t:]' -v OFS='\\t' '/^@SQ/ { print $3, $5 }' FILE makes a genome file of a .dict",
-            ),
             [first, ..]
                 if self.fault.line == 1
                     && first.is_ascii_alphabetic()
-                    && !is_number(self.line, 0) => { HEADING.put(hint) }
-            _ => Ok(()),
+                    && !is_number(self.line, 0) => { HEADING }
+            _ => b"",
         }
     }
 
-    /// Puts what is wrong with a FASTA file.
-    fn put_bases(&self, hint: &mut Hint) -> Result<(), AllocError> {
-        if self.front.starts_with(GZIP_FRONT) {
-            return FileKind::of_gzip(self.name, self.front).put(hint);
-        }
+    /// What is wrong with a FASTA file.
+    fn bases_text(&self) -> &'static [u8] {
         match self.fault.cause {
-            LoadCause::BasesFirst => {
-                hint.say(b"a FASTA file begins with > and a name; is it another file?")
-            }
-            LoadCause::Base => hint.say(
+            LoadCause::BasesFirst => b"a FASTA file begins with > and a name; is it another file?",
+            LoadCause::Base =>
                 b"a base is a character without a space: sed '/^>/!s/ *$//' FILE takes spaces away at the end",
-            ),
-            LoadCause::WrongLength => hint.say(
+            LoadCause::WrongLength =>
                 b"the genome file has another length for it: take the .fai of the FASTA file as genome file",
-            ),
-            LoadCause::Repeated => hint.say(b"each sequence comes once: delete one of the two"),
-            _ => hint.say(b"a name follows > at once, and has no CR"),
+            LoadCause::Repeated => b"each sequence comes once: delete one of the two",
+            _ => b"a name follows > at once, and has no CR",
+        }
+    }
+
+    /// What a place of a text stands for, if that is no number.
+    fn text_at(&self, place: &[u8]) -> &'a [u8] {
+        let record = self.record();
+        let renaming = renaming(record.column(0), record.known().unwrap_or(b""));
+        match place {
+            b"quoted" => quoted_front(self.line),
+            b"more" if quoted_front(self.line).len() < self.line.len() => b" ..",
+            b"second" => shown(record.column(1)),
+            b"address" => renaming[0],
+            b"old" => renaming[1],
+            b"new" => renaming[2],
+            b"tab" => renaming[3],
+            b"assembly" => self.assembly_text(),
+            b"unshifted" => self.unshifted_text(),
+            b"remedy" if matches!(self.slot, Slot::Sizes) => self.heading_text(),
+            _ => record.value(place),
+        }
+    }
+}
+
+impl Values for Damage<'_> {
+    fn value(&self, place: &[u8]) -> Value<'_> {
+        match (place, first_record(self.front)) {
+            (b"line", _) => Value::Number(self.fault.line),
+            (b"columns", _) => Value::Number(count_columns(self.line) as u64),
+            (b"first", Some(record)) => Value::Number(count_columns(record) as u64),
+            (b"number", _) => Value::Number(self.record().faulty.saturating_add(1) as u64),
+            _ => Value::Text(self.text_at(place)),
         }
     }
 }

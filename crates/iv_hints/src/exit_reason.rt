@@ -1,16 +1,18 @@
 //! The hint on how a run has ended.
-use crate::damage::{Damage, IN_PARTS, put_too_many};
+use crate::damage::Damage;
 use crate::files::{FRONT_BYTES, HintFiles, NoFile, front_of, line_of};
-use crate::hint::Hint;
+use crate::hint::{Hint, Named, Value};
 use crate::losses::put_loss;
 use crate::options::value_after;
 use crate::records::{count_columns, first_record};
 use crate::words::put_words;
-use itoa::Buffer;
 use iv_args::{Plan, Slot};
 use iv_cli::ExitReason;
 use iv_text::{Fault, LoadCause, LoadFault, read_number};
 use std::alloc::{AllocError, Global};
+
+/// Which page says how larger data is cut.
+const IN_PARTS: &[u8] = b"larger data is cut into parts: examples/at_scale/README.md";
 
 /// The hint below the line of an ending, given the arguments after the program's name, the line of the script at which the run ended
 /// early (0 if at none), and the files, which are read again.
@@ -29,13 +31,13 @@ pub fn hint_of<F: HintFiles>(
     match (exit_reason, Plan::read(alloc, words)) {
         (ExitReason::Refused, _) => {}
         (ExitReason::Words(Fault::Words), _) => put_words(alloc, words, &mut hint)?,
-        (ExitReason::InputUnreadable, _) => {
-            put_script_line(line, b": the input failed there", &mut hint)?;
-        }
-        (ExitReason::InputTooLong, _) => put_script_line(
-            line,
-            b": a script has at most as many lines as -limit allows, 4000000 if it isn't given, of at most 1048576 bytes",
-            &mut hint,
+        (ExitReason::InputUnreadable, _) => hint.put(
+            b"line {line} of the script: the input failed there",
+            &Value::Number(line),
+        )?,
+        (ExitReason::InputTooLong, _) => hint.put(
+            b"line {line} of the script: a script has at most as many lines as -limit allows, 4000000 if it isn't given, of at most 1048576 bytes",
+            &Value::Number(line),
         )?,
         (ExitReason::Output, _) => put_output(line, &mut hint)?,
         (ExitReason::Memory, _) => hint.say(IN_PARTS)?,
@@ -73,19 +75,13 @@ pub fn hint_of_session(alloc: Global, words: &[&[u8]]) -> Result<Hint, AllocErro
     Ok(hint)
 }
 
-/// Puts the line of a script.
-fn put_script_line(line: u64, text: &[u8], hint: &mut Hint) -> Result<(), AllocError> {
-    let mut digits = Buffer::new();
-    hint.line(
-        b"line {} of the script{}",
-        &[digits.format(line).as_bytes(), text],
-    )
-}
-
 /// Puts how far the output came.
 fn put_output(line: u64, hint: &mut Hint) -> Result<(), AllocError> {
     if line > 0 {
-        put_script_line(line, b": the lines before it were carried out", hint)?;
+        hint.put(
+            b"line {line} of the script: the lines before it were carried out",
+            &Value::Number(line),
+        )?;
     }
     hint.say(
         b"if the reader of a pipe has ended, as head does, it got all rows before; otherwise the disk may be full",
@@ -100,21 +96,31 @@ fn put_of_plan<F: HintFiles>(
     files: &mut F,
     hint: &mut Hint,
 ) -> Result<(), AllocError> {
-    let name = exit_reason.file_meant(plan);
     match exit_reason {
         ExitReason::Done => put_loss(alloc, plan, files, hint),
         ExitReason::Damaged(slot, fault) if fault.cause == LoadCause::TooMany => {
-            put_too_many(slot, hint)
+            hint.say(too_many_text(slot))?;
+            hint.say(IN_PARTS)
         }
         ExitReason::Damaged(slot, fault) => put_damage(alloc, plan, slot, fault, files, hint),
-        ExitReason::Unreadable(_) if matches!(name, b"-" | b"stdin") => put_stdin(plan, hint),
-        ExitReason::Unreadable(_) => put_unreadable(alloc, name, files, hint),
+        ExitReason::Unreadable(_) => {
+            put_unreadable(alloc, exit_reason.file_meant(plan), plan, files, hint)
+        }
         ExitReason::TooLong(_) => {
             hint.say(b"a file has at most 4294967295 bytes")?;
             hint.say(IN_PARTS)
         }
         ExitReason::Words(fault) => put_columns(alloc, plan, fault.code(), files, hint),
         _ => Ok(()),
+    }
+}
+
+/// That a file has more sequences or records than it may.
+fn too_many_text(slot: Slot) -> &'static [u8] {
+    match slot {
+        Slot::Sizes => b"a genome file has at most 1000000 sequences",
+        _ =>
+            b"a BED file has more records than -limit allows, which is 4000000 if it isn't given: -limit N, up to 100000000",
     }
 }
 
@@ -155,20 +161,21 @@ pub(crate) fn put_missing_column(
     width: usize,
     hint: &mut Hint,
 ) -> Result<(), AllocError> {
-    let mut digits = Buffer::new();
-    let width_text = digits.format(width).as_bytes();
     if code == 18 {
-        return hint.line(
-            b"-s needs six columns, and the records have {}: leave it out, or give records with a strand",
-            &[width_text],
+        return hint.put(
+            b"-s needs six columns, and the records have {width}: leave it out, or give records with a strand",
+            &Value::Number(width as u64),
         );
     }
     let list = value_after(words, b"-c").unwrap_or(b"");
     for item in list.split(|byte| *byte == b',') {
         if read_number(item).is_none_or(|number| number == 0 || number as usize > width) {
-            return hint.line(
-                b"-c {}: the records have columns 1 to {}",
-                &[item, width_text],
+            return hint.put(
+                b"-c {item}: the records have columns 1 to {width}",
+                &Named(&[
+                    (b"item", Value::Text(item)),
+                    (b"width", Value::Number(width as u64)),
+                ]),
             );
         }
     }
@@ -204,56 +211,47 @@ fn put_damage<F: HintFiles>(
     damage.put(hint)
 }
 
-/// Puts how standard input is named.
-fn put_stdin(plan: &Plan<'_>, hint: &mut Hint) -> Result<(), AllocError> {
-    if plan.is_script() {
-        return hint.say(b"standard input is the script: <(..) of bash is a file too");
-    }
-    hint.say(b"standard input as a file is /dev/stdin")
-}
-
-/// Puts why a file can't be read.
+/// Puts why a file of this name can't be read.
 fn put_unreadable<F: HintFiles>(
     alloc: Global,
     name: &[u8],
+    plan: &Plan<'_>,
     files: &mut F,
     hint: &mut Hint,
 ) -> Result<(), AllocError> {
-    match files.open(name) {
-        Err(NoFile::Missing) => put_missing_file(alloc, name, hint),
-        Err(NoFile::Directory) => {
-            hint.line(
-                b"it is a directory, and no file: ls {} shows its files",
-                &[name],
-            )
+    let text: &[u8] = match files.open(name) {
+        _ if matches!(name, b"-" | b"stdin") && plan.is_script() =>
+            b"standard input is the script: <(..) of bash is a file too",
+        _ if matches!(name, b"-" | b"stdin") => b"standard input as a file is /dev/stdin",
+        Err(NoFile::Missing) if name.contains(&b',') && !name.starts_with(b"~") => {
+            return put_names(alloc, name, hint);
         }
-        Err(NoFile::Forbidden) => {
-            hint.say(b"the system doesn't allow to read it: ls -l shows whose it is")
-        }
-        _ => hint.say(b"the system failed to read it to its end"),
+        Err(NoFile::Missing) => missing_text(name),
+        Err(NoFile::Directory) => b"it is a directory, and no file: ls {name} shows its files",
+        Err(NoFile::Forbidden) => b"the system doesn't allow to read it: ls -l shows whose it is",
+        _ => b"the system failed to read it to its end",
+    };
+    hint.put(text, &Value::Text(name))
+}
+
+/// That there is no file of a name.
+fn missing_text(name: &[u8]) -> &'static [u8] {
+    match name {
+        [] => b"the name is empty: is a variable of the shell not set?",
+        [b'~', ..] =>
+            b"there is no such file: the shell knows ~, and not in quotes: write the folder, or $HOME",
+        _ => b"there is no such file: ls shows those that there are",
     }
 }
 
-/// Puts that there is no file of a name, which may be several names.
-fn put_missing_file(alloc: Global, name: &[u8], hint: &mut Hint) -> Result<(), AllocError> {
-    match name {
-        [] => return hint.say(b"the name is empty: is a variable of the shell not set?"),
-        [b'~', ..] => {
-            return hint.say(
-                b"there is no such file: the shell knows ~, and not in quotes: write the folder, or $HOME",
-            );
-        }
-        _ if !name.contains(&b',') => {
-            return hint.say(b"there is no such file: ls shows those that there are");
-        }
-        _ => {}
-    }
+/// Puts that there is no file of a name that is several names.
+fn put_names(alloc: Global, name: &[u8], hint: &mut Hint) -> Result<(), AllocError> {
     let mut names = Vec::new(alloc);
     for byte in name {
         names.push(if *byte == b',' { b' ' } else { *byte })?;
     }
-    hint.line(
-        b"there is no such file; one file comes after an option: of several, <(cat {})",
-        &[names.as_slice()],
+    hint.put(
+        b"there is no such file; one file comes after an option: of several, <(cat {names})",
+        &Value::Text(names.as_slice()),
     )
 }

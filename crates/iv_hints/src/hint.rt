@@ -8,9 +8,6 @@ use std::alloc::{AllocError, Global};
 /// How many lines a hint has at most.
 const MOST_LINES: usize = 3;
 
-/// How many columns of a quoted text are shown.
-const MOST_COLUMNS: usize = 60;
-
 /// The digit of a number below 16.
 fn digit_of(number: u8) -> u8
     requires { number < 16 }
@@ -23,25 +20,53 @@ fn digit_of(number: u8) -> u8
     }
 }
 
-/// How many columns a byte takes in a hint.
-fn width_of(byte: u8) -> usize {
-    match byte {
-        b' '..=b'~' => 1,
-        b'\t' | b'\r' => 2,
-        _ => 4,
+/// What a place of a text stands for.
+#[derive(Clone, Copy)]
+pub(crate) enum Value<'a> {
+    Text(&'a [u8]),
+    Number(u64),
+}
+
+/// What the places of a text stand for. A place is a word in braces, as in `{name}`.
+pub(crate) trait Values {
+    fn value(&self, place: &[u8]) -> Value<'_>;
+}
+
+/// One value, whatever its place is called.
+impl Values for Value<'_> {
+    fn value(&self, _place: &[u8]) -> Value<'_> {
+        *self
     }
 }
 
-/// As much of a text as is quoted.
-fn quoted_front(text: &[u8]) -> &[u8] {
-    let mut columns: usize = 0;
-    for (place, byte) in text.iter().enumerate() {
-        columns = columns.saturating_add(width_of(*byte));
-        if columns > MOST_COLUMNS {
-            return text.get(..place).unwrap_or(text);
+/// Values, each with the name of its place.
+#[derive(Clone, Copy)]
+pub(crate) struct Named<'a>(pub(crate) &'a [(&'a [u8], Value<'a>)]);
+
+impl Values for Named<'_> {
+    fn value(&self, place: &[u8]) -> Value<'_> {
+        for (name, value) in self.0 {
+            if *name == place {
+                return *value;
+            }
         }
+        Value::Text(b"")
     }
-    text
+}
+
+/// The name of a place, and what follows it, in a text after the brace that opens it.
+fn place_in(text: &[u8]) -> Option<(&[u8], &[u8])> {
+    let place = text.split(|byte| *byte == b'}').next()?;
+    let rest = text.get(place.len()..)?.strip_prefix(b"}")?;
+    Some((place, rest)).filter(|_| place.iter().all(|byte| byte.is_ascii_lowercase()))
+}
+
+/// Whether a line is a single place that stands for nothing.
+fn is_left_out<V: Values>(line: &[u8], values: &V) -> bool {
+    match line.strip_prefix(b"{").and_then(place_in) {
+        Some((place, [])) => matches!(values.value(place), Value::Text([])),
+        _ => false,
+    }
 }
 
 /// Lines that are indented by two spaces. All bytes of them are ASCII's characters that are shown; others are escaped.
@@ -96,31 +121,43 @@ impl Hint {
         Ok(())
     }
 
-    /// Adds a line, unless there are three: a text in which each `{}` stands for the next of the values.
-    pub(crate) fn line(&mut self, text: &[u8], values: &[&[u8]]) -> Result<(), AllocError> {
-        if self.lines >= MOST_LINES {
+    /// Adds the lines of a text, as long as there are fewer than three, with the values of its places. An empty text has none.
+    pub(crate) fn put<V: Values>(&mut self, text: &[u8], values: &V) -> Result<(), AllocError> {
+        if text.is_empty() {
             return Ok(());
         }
-        self.push(b' ')?;
-        self.push(b' ')?;
+        for line in text.split(|byte| *byte == b'\n') {
+            if self.lines < MOST_LINES && !is_left_out(line, values) {
+                self.put_line(line, values)?;
+            }
+        }
+        Ok(())
+    }
+
+    /// Adds a line without a value, unless there are three.
+    pub(crate) fn say(&mut self, text: &[u8]) -> Result<(), AllocError> {
+        self.put(text, &Value::Text(b""))
+    }
+
+    /// Adds a line of a text.
+    fn put_line<V: Values>(&mut self, line: &[u8], values: &V) -> Result<(), AllocError> {
+        self.escape(b"  ")?;
         if self.lines == 0 && self.number > 0 {
-            let mut digits = Buffer::new();
             self.escape(b"line ")?;
-            self.escape(digits.format(self.number).as_bytes())?;
+            self.put_value(Value::Number(self.number))?;
             self.escape(b": ")?;
         }
-        self.fill(text, values)?;
+        self.fill(line, values)?;
         self.end_line()
     }
 
-    /// Adds a text in which each `{}` stands for the next of the values.
-    fn fill(&mut self, text: &[u8], values: &[&[u8]]) -> Result<(), AllocError> {
+    /// Adds a text with the values of its places.
+    fn fill<V: Values>(&mut self, text: &[u8], values: &V) -> Result<(), AllocError> {
         let mut parts = text.split(|byte| *byte == b'{');
-        let mut values = values.iter();
         self.escape(parts.next().unwrap_or(b""))?;
         for part in parts {
-            if let Some(rest) = part.strip_prefix(b"}") {
-                self.escape(values.next().copied().unwrap_or(b""))?;
+            if let Some((place, rest)) = place_in(part) {
+                self.put_value(values.value(place))?;
                 self.escape(rest)?;
             } else {
                 self.push(b'{')?;
@@ -130,21 +167,15 @@ impl Hint {
         Ok(())
     }
 
-    /// Adds a line without a value, unless there are three.
-    pub(crate) fn say(&mut self, text: &[u8]) -> Result<(), AllocError> {
-        self.line(b"{}", &[text])
-    }
-
-    /// Adds a line with four values, which may live for different times; some may be empty.
-    pub(crate) fn join(
-        &mut self,
-        text: &[u8],
-        first: &[u8],
-        second: &[u8],
-        third: &[u8],
-        fourth: &[u8],
-    ) -> Result<(), AllocError> {
-        self.line(text, &[first, second, third, fourth])
+    /// Adds a value.
+    fn put_value(&mut self, value: Value<'_>) -> Result<(), AllocError> {
+        match value {
+            Value::Text(text) => self.escape(text),
+            Value::Number(number) => {
+                let mut digits = Buffer::new();
+                self.escape(digits.format(number).as_bytes())
+            }
+        }
     }
 
     /// Ends a line, unless three have ended.
@@ -154,17 +185,6 @@ impl Hint {
             self.lines += 1;
         }
         Ok(())
-    }
-
-    /// Adds a line that quotes a line of a file, cut if it is too long.
-    pub(crate) fn quote(&mut self, number: u64, text: &[u8]) -> Result<(), AllocError> {
-        let cut = quoted_front(text);
-        let more: &[u8] = if cut.len() < text.len() { b" .." } else { b"" };
-        let mut digits = Buffer::new();
-        self.line(
-            b"line {}: {}{}",
-            &[digits.format(number).as_bytes(), cut, more],
-        )
     }
 
     /// Adds a text, with an escape for each byte that is no character of ASCII that is shown.

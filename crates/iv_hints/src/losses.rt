@@ -1,10 +1,9 @@
 //! What a run that ended well has lost in silence.
-use crate::files::{FRONT_BYTES, HintFiles, front_of};
-use crate::hint::Hint;
+use crate::files::{FRONT_BYTES, Front, HintFiles, front_of};
+use crate::hint::{Hint, Named, Value};
 use crate::options::value_after;
 use crate::records::{alike_in, column, is_digits, is_record, length_in};
 use crate::values::shown;
-use itoa::Buffer;
 use iv_args::{Plan, Slot, Subcommand};
 use iv_text::{lines_of, split_first_column};
 use std::alloc::{AllocError, Global};
@@ -58,10 +57,12 @@ fn put_headers<F: HintFiles>(
     if count == 0 {
         return Ok(());
     }
-    let mut digits = Buffer::new();
-    hint.line(
-        b"track and browser lines are no records, and no row has them; lines of {} that are such: {}",
-        &[plan.first_file(), digits.format(count).as_bytes()],
+    hint.put(
+        b"track and browser lines are no records, and no row has them; lines of {file} that are such: {count}",
+        &Named(&[
+            (b"file", Value::Text(plan.first_file())),
+            (b"count", Value::Number(count as u64)),
+        ]),
     )
 }
 
@@ -142,7 +143,7 @@ fn put_fraction<F: HintFiles>(
         };
         let value = place_of(asked).and_then(|place| fraction_in(front.bytes.as_slice(), place));
         if let (Some((value, count)), true) = (value, reads_numbers(operation)) {
-            return put_unread(operation, asked, value, count, hint);
+            return put_unread(operation, asked, shown(value), count, hint);
         }
     }
     Ok(())
@@ -154,23 +155,21 @@ fn reads_numbers(operation: &[u8]) -> bool {
 }
 
 /// Puts a value that an operation doesn't read.
-fn put_unread(
-    operation: &[u8],
-    asked: &[u8],
-    value: &[u8],
+fn put_unread<'x>(
+    operation: &'x [u8],
+    column: &'x [u8],
+    value: &'x [u8],
     count: usize,
     hint: &mut Hint,
 ) -> Result<(), AllocError> {
-    let shown_value = shown(value);
-    hint.line(
-        b"column {} has {}, which is no whole number",
-        &[asked, shown_value],
-    )?;
-    let mut digits = Buffer::new();
-    let number = digits.format(count).as_bytes();
-    hint.line(
-        b"{} reads whole numbers alone, and prints . for a block with another value; such values in the first 1000 lines: {}",
-        &[operation, number],
+    hint.put(
+        b"column {column} has {value}, which is no whole number\n{operation} reads whole numbers alone, and prints . for a block with another value; such values in the first 1000 lines: {count}",
+        &Named(&[
+            (b"column", Value::Text(column)),
+            (b"value", Value::Text(value)),
+            (b"operation", Value::Text(operation)),
+            (b"count", Value::Number(count as u64)),
+        ]),
     )
 }
 
@@ -215,49 +214,8 @@ fn missing_name<'a>(bed: &'a [u8], fasta: &[u8], is_whole: bool) -> Option<&'a [
     first
 }
 
-/// Puts that the FASTA file has no sequence of the records.
-fn put_no_bases<F: HintFiles>(
-    alloc: Global,
-    plan: &Plan<'_>,
-    files: &mut F,
-    hint: &mut Hint,
-) -> Result<(), AllocError> {
-    let fasta_name = plan.file(Slot::Bases).unwrap_or(b"");
-    let fasta = front_of(alloc, files, fasta_name, FRONT_BYTES)?;
-    let bed = front_of(alloc, files, plan.first_file(), BYTES)?;
-    let genome = front_of(alloc, files, plan.sizes_file(), FRONT_BYTES)?;
-    put_missing(
-        bed.bytes.as_slice(),
-        fasta.bytes.as_slice(),
-        fasta.is_whole,
-        genome.bytes.as_slice(),
-        hint,
-    )
-}
-
-/// Puts which sequence is missing in the front of a FASTA file, which may be all of it.
-fn put_missing(
-    bed: &[u8],
-    fasta: &[u8],
-    is_whole: bool,
-    genome: &[u8],
-    hint: &mut Hint,
-) -> Result<(), AllocError> {
-    let Some(name) = missing_name(bed, fasta, is_whole) else {
-        return Ok(());
-    };
-    let header = first_header(fasta);
-    // Of a longer file only the front is known: its first name decides.
-    let is_other = length_in(genome, header).is_none() && alike_in(genome, header).is_some();
-    if is_whole || is_other {
-        put_names(name, header, hint)?;
-        put_count(bed, fasta, hint)?;
-    }
-    Ok(())
-}
-
-/// Puts how many of the first records have no row.
-fn put_count(bed: &[u8], fasta: &[u8], hint: &mut Hint) -> Result<(), AllocError> {
+/// How many of the first records have no sequence in a FASTA file, and how many these are.
+fn count_missing(bed: &[u8], fasta: &[u8]) -> (usize, usize) {
     let mut missing: usize = 0;
     let mut all: usize = 0;
     let mut last: &[u8] = b"";
@@ -273,28 +231,68 @@ fn put_count(bed: &[u8], fasta: &[u8], hint: &mut Hint) -> Result<(), AllocError
             missing = missing.saturating_add(if has_last { 0 } else { 1 });
         }
     }
-    let mut first = Buffer::new();
-    let mut second = Buffer::new();
-    hint.line(
-        b"records without a row: {} of the first {}",
-        &[
-            first.format(missing).as_bytes(),
-            second.format(all).as_bytes(),
-        ],
-    )
+    (missing, all)
 }
 
-/// Puts that a FASTA file lacks a name.
-fn put_names(name: &[u8], header: &[u8], hint: &mut Hint) -> Result<(), AllocError> {
-    hint.line(
-        b"the FASTA file has no {} (its first sequence is {}), and getfasta prints nothing for it",
-        &[name, header],
-    )?;
-    if name.strip_prefix(b"chr").is_some_and(|rest| rest == header) {
-        return hint.say(b"names have to be the same: sed 's/^>/>chr/' FASTA");
+/// What makes the names of a FASTA file those of the records, given one of each.
+fn renaming_text(name: &[u8], header: &[u8]) -> &'static [u8] {
+    if name.strip_prefix(b"chr") == Some(header) {
+        b"sed 's/^>/>chr/' FASTA"
+    } else if header.strip_prefix(b"chr") == Some(name) {
+        b"sed 's/^>chr/>/' FASTA"
+    } else {
+        b"grep '^>' FASTA prints those of the FASTA file"
     }
-    if header.strip_prefix(b"chr").is_some_and(|rest| rest == name) {
-        return hint.say(b"names have to be the same: sed 's/^>chr/>/' FASTA");
+}
+
+/// Puts that the FASTA file has no sequence of the records. Of a long file only the front is known: then its first name decides.
+fn put_no_bases<F: HintFiles>(
+    alloc: Global,
+    plan: &Plan<'_>,
+    files: &mut F,
+    hint: &mut Hint,
+) -> Result<(), AllocError> {
+    let fasta_name = plan.file(Slot::Bases).unwrap_or(b"");
+    let front = front_of(alloc, files, fasta_name, FRONT_BYTES)?;
+    let bed = front_of(alloc, files, plan.first_file(), BYTES)?;
+    let genome = front_of(alloc, files, plan.sizes_file(), FRONT_BYTES)?;
+    put_missing(bed.bytes.as_slice(), &front, genome.bytes.as_slice(), hint)
+}
+
+/// Puts which sequence is missing in the front of a FASTA file, and how many records have no row.
+fn put_missing(
+    bed: &[u8],
+    front: &Front,
+    genome: &[u8],
+    hint: &mut Hint,
+) -> Result<(), AllocError> {
+    let fasta = front.bytes.as_slice();
+    let Some(name) = missing_name(bed, fasta, front.is_whole) else {
+        return Ok(());
+    };
+    let header = first_header(fasta);
+    let is_other = length_in(genome, header).is_none() && alike_in(genome, header).is_some();
+    if !front.is_whole && !is_other {
+        return Ok(());
     }
-    hint.say(b"names have to be the same: grep '^>' FASTA prints those of the FASTA file")
+    put_names(name, header, count_missing(bed, fasta), hint)
+}
+
+/// Puts that a FASTA file lacks a name, and how many records have no row.
+fn put_names<'x>(
+    name: &'x [u8],
+    header: &'x [u8],
+    (missing, all): (usize, usize),
+    hint: &mut Hint,
+) -> Result<(), AllocError> {
+    hint.put(
+        b"the FASTA file has no {name} (its first sequence is {header}), and getfasta prints nothing for it\nnames have to be the same: {renaming}\nrecords without a row: {missing} of the first {all}",
+        &Named(&[
+            (b"name", Value::Text(name)),
+            (b"header", Value::Text(header)),
+            (b"renaming", Value::Text(renaming_text(name, header))),
+            (b"missing", Value::Number(missing as u64)),
+            (b"all", Value::Number(all as u64)),
+        ]),
+    )
 }

@@ -1,11 +1,10 @@
 //! What is wrong with the options of a run, or of a view in a script.
-use crate::bedtools::{instead_of, put_not_there};
-use crate::hint::Hint;
+use crate::bedtools::{NOT_THERE, instead_of};
+use crate::hint::{Hint, Named, Value, Values};
 use crate::nearest::Nearest;
 use crate::records::count_of;
 use crate::values::said;
 use crate::vocabulary::{OPERATIONS, lists, records_option};
-use itoa::Buffer;
 use iv_args::{OptionUsage, OptionValue, RUNS, RunUsage, Subcommand};
 use iv_text::read_number;
 use std::alloc::{AllocError, Global};
@@ -17,16 +16,58 @@ pub(crate) struct Options {
     pub(crate) is_view: bool,
 }
 
-/// An argument that is no option and no value of one.
+/// A faulty argument of a run, and what a hint on it names.
 #[derive(Clone, Copy)]
-struct Stray<'a> {
+struct Argument<'a> {
+    run: &'static RunUsage,
     word: &'a [u8],
     /// The argument after it.
     next: Option<&'a [u8]>,
-    /// The option before it, with its value.
-    last: Option<(&'static OptionUsage, &'a [u8])>,
+    /// The option before it, and its value.
+    option: Option<&'static OptionUsage>,
+    value: &'a [u8],
+    /// The nearest option, or all options.
+    known: &'a [u8],
     /// Whether the file of the records has its option.
     has_records: bool,
+}
+
+impl<'a> Argument<'a> {
+    /// An argument of a run and options that it may be, without the arguments beside it.
+    fn new(run: &'static RunUsage, word: &'a [u8], known: &'a [u8]) -> Argument<'a> {
+        Argument {
+            run,
+            word,
+            next: None,
+            option: None,
+            value: b"",
+            known,
+            has_records: false,
+        }
+    }
+
+    /// What a place of a text stands for.
+    fn text_at(&self, place: &[u8]) -> &'a [u8] {
+        match (place, self.option, self.next) {
+            (b"run", _, _) => self.run.name,
+            (b"records", _, _) => records_option(self.run),
+            (b"word", _, _) => self.word,
+            (b"said", _, _) => said(self.word),
+            (b"option", Some(option), _) => option.name,
+            (b"needs", Some(option), _) => meaning_of(option.value),
+            (b"value", _, _) => self.value,
+            (b"next", _, Some(next)) => next,
+            (b"letters", _, _) => letters_of(self.word),
+            (b"instead", _, _) => instead_of(self.word),
+            _ => self.known,
+        }
+    }
+}
+
+impl Values for Argument<'_> {
+    fn value(&self, place: &[u8]) -> Value<'_> {
+        Value::Text(self.text_at(place))
+    }
 }
 
 impl Options {
@@ -69,32 +110,32 @@ impl Options {
 
     /// Puts the first argument that is no option and no value, or no value that its option takes.
     fn put_each(self, alloc: Global, words: &[&[u8]], hint: &mut Hint) -> Result<(), AllocError> {
-        let mut last = None;
-        let mut open = None;
+        let mut argument = Argument::new(self.run, b"", b"");
+        argument.has_records = self.is_view || words.contains(&records_option(self.run));
+        let mut is_open = false;
         for (place, word) in words.iter().enumerate() {
-            if let Some(option) = open {
-                if !self.is_value(option, word) {
-                    return self.put_value(option, word, hint);
+            argument.word = word;
+            argument.next = words.iter().skip(place).nth(1).copied();
+            match (argument.option, self.find(word)) {
+                (Some(option), found) if is_open => {
+                    if !self.is_value(option, word) {
+                        return hint.put(needs_text(found.is_some()), &argument);
+                    }
+                    argument.value = word;
+                    is_open = false;
                 }
-                last = Some((option, *word));
-                open = None;
-            } else if let Some(option) = self.find(word) {
-                last = Some((option, b"".as_slice()));
-                open = Some(option).filter(|option| option.value != OptionValue::Nothing);
-            } else {
-                let stray = Stray {
-                    word,
-                    next: words.iter().skip(place).nth(1).copied(),
-                    last,
-                    has_records: self.is_view || words.contains(&records_option(self.run)),
-                };
-                return self.put_stray(alloc, stray, hint);
+                (_, Some(option)) => {
+                    argument.option = Some(option);
+                    argument.value = b"";
+                    is_open = option.value != OptionValue::Nothing;
+                }
+                (_, None) => return self.put_stray(alloc, argument, hint),
             }
         }
-        match open {
-            Some(option) => put_needs(option, hint),
-            None => Ok(()),
+        if is_open {
+            return hint.put(needs_text(true), &argument);
         }
+        Ok(())
     }
 
     /// Whether an argument is a value that an option takes.
@@ -115,171 +156,98 @@ impl Options {
         }
     }
 
-    /// Puts what is wrong with the value of an option.
-    fn put_value(
-        self,
-        option: &OptionUsage,
-        value: &[u8],
-        hint: &mut Hint,
-    ) -> Result<(), AllocError> {
-        if self.find(value).is_some() {
-            return put_needs(option, hint);
-        }
-        hint.join(
-            b"{} needs {}, and not {}",
-            option.name,
-            meaning_of(option.value),
-            said(value),
-            b"",
-        )
-    }
-
     /// Puts what is wrong with an argument that is none of the options.
-    fn put_stray(self, alloc: Global, stray: Stray<'_>, hint: &mut Hint) -> Result<(), AllocError> {
-        let word = stray.word;
-        if !is_option_like(word) {
-            self.put_bare(stray, hint)
-        } else if word.contains(&b'=') {
-            hint.line(
-                b"{} is no option: a space, and no =, is between an option and its value",
-                &[word],
-            )
-        } else if self.is_view && RUNS.iter().any(|run| has_beside_view(run, word)) {
-            hint.line(
-                b"{} is no option of a view in a session, which has its files, -width and -limit as it starts",
-                &[word],
-            )
-        } else if RUNS.iter().any(|run| records_option(run) == word) {
-            hint.join(
-                b"{} is for other subcommands: here the file of the records comes after {}",
-                word,
-                records_option(self.run),
-                b"",
-                b"",
-            )
-        } else {
-            match instead_of(word).filter(|_| self.run.run != Subcommand::Session) {
-                Some(text) => put_not_there(word, text, hint),
-                None => self.put_unknown(alloc, word, hint),
-            }
-        }
-    }
-
-    /// Puts what is wrong with an argument that doesn't look like an option.
-    fn put_bare(self, stray: Stray<'_>, hint: &mut Hint) -> Result<(), AllocError> {
-        let word = stray.word;
-        if word.starts_with(b"\xe2\x80") || word.starts_with(b"\xe2\x88\x92") {
-            return hint.line(
-                b"{} begins with a dash that isn't -: write -{}",
-                &[word, word.get(3..).unwrap_or(b"")],
-            );
-        }
-        if let Some((option, value)) = stray.last {
-            self.put_after(option, value, stray, hint)?;
-        }
-        if !hint.is_empty() {
-            return Ok(());
-        }
-        let records = records_option(self.run);
-        match stray.next {
-            Some(next) if !stray.has_records && !is_option_like(next) => hint.join(
-                b"files come after their options: -g {} {} {}",
-                word,
-                records,
-                next,
-                b"",
-            ),
-            _ if self.run.run == Subcommand::Session => hint.line(
-                b"{} is no option: a script is read from standard input: < {}",
-                &[word, word],
-            ),
-            _ if self.is_view => {
-                hint.line(
-                    b"{} is no option of a view: the files are those of the session",
-                    &[word],
-                )
-            }
-            _ => hint.join(
-                b"{} is no option: the file of the records comes after {}",
-                word,
-                records,
-                b"",
-                b"",
-            ),
-        }
-    }
-
-    /// Puts what is wrong with an argument after an option and its value, if it is about these.
-    fn put_after(
+    fn put_stray(
         self,
-        option: &OptionUsage,
-        value: &[u8],
-        stray: Stray<'_>,
+        alloc: Global,
+        argument: Argument<'_>,
         hint: &mut Hint,
     ) -> Result<(), AllocError> {
-        let word = stray.word;
-        let name = option.name;
+        let text = if is_option_like(argument.word) {
+            self.option_text(argument.word)
+        } else {
+            self.bare_text(argument)
+        };
+        match text {
+            [] => self.put_unknown(alloc, argument.word, hint),
+            _ => hint.put(text, &argument),
+        }
+    }
+
+    /// What is wrong with an argument that looks like an option; empty if it isn't known at all.
+    fn option_text(self, word: &[u8]) -> &'static [u8] {
+        if word.contains(&b'=') {
+            b"{word} is no option: a space, and no =, is between an option and its value"
+        } else if self.is_view && RUNS.iter().any(|run| has_beside_view(run, word)) {
+            b"{word} is no option of a view in a session, which has its files, -width and -limit as it starts"
+        } else if RUNS.iter().any(|run| records_option(run) == word) {
+            b"{word} is for other subcommands: here the file of the records comes after {records}"
+        } else if self.run.run != Subcommand::Session && !instead_of(word).is_empty() {
+            NOT_THERE
+        } else {
+            b""
+        }
+    }
+
+    /// What is wrong with an argument that doesn't look like an option.
+    fn bare_text(self, argument: Argument<'_>) -> &'static [u8] {
+        let word = argument.word;
+        let after = self.after_text(argument);
+        if word.starts_with(b"\xe2\x80") || word.starts_with(b"\xe2\x88\x92") {
+            b"{word} begins with a dash that isn't -: write -{letters}"
+        } else if !after.is_empty() {
+            after
+        } else if !argument.has_records && argument.next.is_some_and(|next| !is_option_like(next)) {
+            b"files come after their options: -g {word} {records} {next}"
+        } else if self.run.run == Subcommand::Session {
+            b"{word} is no option: a script is read from standard input: < {word}"
+        } else if self.is_view {
+            b"{word} is no option of a view: the files are those of the session"
+        } else {
+            b"{word} is no option: the file of the records comes after {records}"
+        }
+    }
+
+    /// What is wrong with an argument after an option and its value; empty if it isn't about these.
+    fn after_text(self, argument: Argument<'_>) -> &'static [u8] {
+        let Some(option) = argument.option else {
+            return b"";
+        };
         match option.value {
-            OptionValue::Nothing if stray.has_records => {
-                hint.join(
-                    b"{} is no option, and {} takes no value",
-                    word,
-                    name,
-                    b"",
-                    b"",
-                )
+            OptionValue::Nothing if argument.has_records => {
+                b"{word} is no option, and {option} takes no value"
             }
-            OptionValue::Columns | OptionValue::Operations => hint.join(
-                b"a list has commas and no spaces: {} {},{}",
-                name,
-                value,
-                word,
-                b"",
-            ),
+            OptionValue::Columns | OptionValue::Operations => {
+                b"a list has commas and no spaces: {option} {value},{word}"
+            }
             // After a file of the track a script was probably meant.
             OptionValue::Genome | OptionValue::Bed
-                if self.run.run == Subcommand::Session && name != b"-b".as_slice() => { Ok(()) }
-            OptionValue::Genome | OptionValue::Bed | OptionValue::Fasta if stray.has_records => {
-                hint.join(
-                    b"one file comes after {}: of two, {} <(cat {} {})",
-                    name,
-                    name,
-                    value,
-                    word,
-                )
+                if self.run.run == Subcommand::Session && option.name != b"-b".as_slice() => { b"" }
+            OptionValue::Genome | OptionValue::Bed | OptionValue::Fasta if argument.has_records => {
+                b"one file comes after {option}: of two, {option} <(cat {value} {word})"
             }
-            _ => Ok(()),
+            _ => b"",
         }
     }
 
     /// Puts that an argument is none of the options, and which is near, or of a view which there are.
     fn put_unknown(self, alloc: Global, word: &[u8], hint: &mut Hint) -> Result<(), AllocError> {
         let mut nearest = Nearest::to(word);
-        let [first, second, third] = self.lists();
-        look_at_all(alloc, first, &mut nearest)?;
-        look_at_all(alloc, second, &mut nearest)?;
-        look_at_all(alloc, third, &mut nearest)?;
-        let run = self.run.name;
-        match nearest.found() {
-            Some(known) => hint.join(
-                b"{} isn't an option of {}: is {} meant?",
-                word,
-                run,
-                known,
-                b"",
-            )?,
-            None if !self.is_view => hint.join(b"{} isn't an option of {}", word, run, b"", b"")?,
-            None => {
-                let names = names_of(alloc, self.run.view)?;
-                hint.join(
-                    b"{} isn't an option of {}, which has{}",
-                    word,
-                    run,
-                    names.as_slice(),
-                    b"",
-                )?;
+        for list in self.lists() {
+            for option in list {
+                nearest.look_at(alloc, option.name)?;
             }
         }
+        let names = names_of(alloc, self.run.view)?;
+        let known = nearest.found().unwrap_or(names.as_slice());
+        let text: &[u8] = if nearest.found().is_some() {
+            b"{word} isn't an option of {run}: is {known} meant?"
+        } else if self.is_view {
+            b"{word} isn't an option of {run}, which has{known}"
+        } else {
+            b"{word} isn't an option of {run}"
+        };
+        hint.put(text, &Argument::new(self.run, word, known))?;
         if self.run.run == Subcommand::Session {
             return hint.say(b"a script is read from standard input: < SCRIPT");
         }
@@ -291,7 +259,7 @@ impl Options {
         for word in words {
             let count = words.iter().filter(|other| *other == word).count();
             if count > 1 && self.find(word).is_some() {
-                return hint.line(b"{} is given twice", &[word]);
+                return hint.put(b"{word} is given twice", &Value::Text(word));
             }
         }
         Ok(())
@@ -299,16 +267,12 @@ impl Options {
 
     /// Puts an option that is missing.
     fn put_missing(self, words: &[&[u8]], hint: &mut Hint) -> Result<(), AllocError> {
-        match missing_of(self.run.needed, words) {
-            Some(option) => hint.join(
-                b"{} {} is missing",
-                option.name,
-                meaning_of(option.value),
-                b"",
-                b"",
-            ),
-            None => Ok(()),
-        }
+        let Some(option) = missing_of(self.run.needed, words) else {
+            return Ok(());
+        };
+        let mut argument = Argument::new(self.run, b"", b"");
+        argument.option = Some(option);
+        hint.put(b"{option} {needs} is missing", &argument)
     }
 
     /// Puts which options don't go together.
@@ -322,7 +286,13 @@ impl Options {
         let Some(columns) = value_after(words, b"-c") else {
             return hint.say(b"-o needs -c: the columns that it is about");
         };
-        put_lengths(count_items(operations), count_items(columns), hint)
+        hint.put(
+            b"-o has {operations} operations for {columns} columns: give as many, or one (at most 16)",
+            &Named(&[
+                (b"operations", Value::Number(count_items(operations))),
+                (b"columns", Value::Number(count_items(columns))),
+            ]),
+        )
     }
 }
 
@@ -334,18 +304,6 @@ fn option_named(list: &'static [OptionUsage], name: &[u8]) -> Option<&'static Op
 /// The first option of a list that isn't among these arguments.
 fn missing_of(list: &'static [OptionUsage], words: &[&[u8]]) -> Option<&'static OptionUsage> {
     list.iter().find(|option| !words.contains(&option.name))
-}
-
-/// Looks at the names of options for a near one.
-fn look_at_all(
-    alloc: Global,
-    list: &'static [OptionUsage],
-    nearest: &mut Nearest<'_>,
-) -> Result<(), AllocError> {
-    for option in list {
-        nearest.look_at(alloc, option.name)?;
-    }
-    Ok(())
 }
 
 /// The names of options, a space before each.
@@ -364,6 +322,11 @@ fn names_of(alloc: Global, list: &[OptionUsage]) -> Result<Vec<u8>, AllocError> 
 /// Whether a kind of run has an option beside those of its view.
 fn has_beside_view(run: &RunUsage, name: &[u8]) -> bool {
     option_named(run.needed, name).is_some() || option_named(run.others, name).is_some()
+}
+
+/// An argument without the dash of three bytes that it begins with.
+fn letters_of(word: &[u8]) -> &[u8] {
+    word.get(3..).unwrap_or(b"")
 }
 
 /// Whether an argument looks like an option.
@@ -386,28 +349,13 @@ fn meaning_of(value: OptionValue) -> &'static [u8] {
     }
 }
 
-/// Puts what an option needs.
-fn put_needs(option: &OptionUsage, hint: &mut Hint) -> Result<(), AllocError> {
-    hint.join(
-        b"{} needs {}",
-        option.name,
-        meaning_of(option.value),
-        b"",
-        b"",
-    )
-}
-
-/// Puts that two lists have other lengths.
-fn put_lengths(operations: usize, columns: usize, hint: &mut Hint) -> Result<(), AllocError> {
-    let mut first = Buffer::new();
-    let mut second = Buffer::new();
-    hint.line(
-        b"-o has {} operations for {} columns: give as many, or one (at most 16)",
-        &[
-            first.format(operations).as_bytes(),
-            second.format(columns).as_bytes(),
-        ],
-    )
+/// What is wrong if a value is missing, since an option or nothing comes instead, or is none that its option takes.
+fn needs_text(is_missing: bool) -> &'static [u8] {
+    if is_missing {
+        b"{option} needs {needs}"
+    } else {
+        b"{option} needs {needs}, and not {said}"
+    }
 }
 
 /// Whether a byte is between two items of a list.
@@ -416,8 +364,8 @@ fn is_comma(byte: &u8) -> bool {
 }
 
 /// How many items a list has.
-fn count_items(list: &[u8]) -> usize {
-    count_of(list, b',').saturating_add(1)
+fn count_items(list: &[u8]) -> u64 {
+    (count_of(list, b',') as u64).saturating_add(1)
 }
 
 /// The argument after an option.

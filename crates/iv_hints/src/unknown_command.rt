@@ -1,11 +1,10 @@
 //! The hint on a line of a script that is no command, or has other fields.
 use crate::file_kinds::BYTE_ORDER_MARK;
-use crate::hint::Hint;
+use crate::hint::{Hint, Named, Value};
 use crate::nearest::Nearest;
 use crate::records::{count_columns, field, is_number};
 use crate::values::shown;
 use crate::vocabulary::{COMMANDS, is_between, is_command};
-use itoa::Buffer;
 use std::alloc::{AllocError, Global};
 
 /// What prints all records.
@@ -86,82 +85,76 @@ pub(crate) fn put_no_command(
     line: &[u8],
     hint: &mut Hint,
 ) -> Result<(), AllocError> {
-    let field = field(line, 0);
     let word = first_word(line);
-    if let Some(rest) = line.strip_prefix(BYTE_ORDER_MARK) {
-        let next = first_word(rest);
-        return hint.line(
-            b"a byte order mark is before {}: sed '1s/^\\xEF\\xBB\\xBF//' FILE takes it away",
-            &[next],
-        );
-    }
-    if matches!(line, [b' ' | b'\t', ..]) {
-        return hint.say(
-            b"the line begins with a space or a TAB: sed 's/^[ \\t]*//' FILE takes it away",
-        );
-    }
-    if let Some((command, mark)) = marked_command(line) {
-        return hint.line(
-            b"a TAB follows {}: tr '{}' '\\t' < FILE writes TABs",
-            &[command, mark],
-        );
-    }
-    if is_command(field) {
-        return put_fields(field, line, hint);
-    }
-    if is_command(word) {
-        let remedy = tabs_for(word);
-        return hint.join(
-            b"a TAB, and no space, follows {}: {}",
-            word,
-            remedy,
-            b"",
-            b"",
-        );
-    }
-    if is_number(line, 1) && is_number(line, 2) {
-        return hint.say(
-            b"the line is a record, and no command: sed 's/^/add\\t/' FILE makes edits of such lines",
-        );
-    }
-    put_unknown(alloc, word, hint)
+    let (marked, mark) = marked_command(line).unwrap_or((b"", b""));
+    let text: &[u8] = if line.starts_with(BYTE_ORDER_MARK) {
+        b"a byte order mark is before {next}: sed '1s/^\\xEF\\xBB\\xBF//' FILE takes it away"
+    } else if matches!(line, [b' ' | b'\t', ..]) {
+        b"the line begins with a space or a TAB: sed 's/^[ \\t]*//' FILE takes it away"
+    } else if !mark.is_empty() {
+        b"a TAB follows {marked}: tr '{mark}' '\\t' < FILE writes TABs"
+    } else if is_command(field(line, 0)) {
+        return put_fields(field(line, 0), line, hint);
+    } else if is_command(word) {
+        b"a TAB, and no space, follows {word}: {tabs}"
+    } else if is_number(line, 1) && is_number(line, 2) {
+        b"the line is a record, and no command: sed 's/^/add\\t/' FILE makes edits of such lines"
+    } else {
+        return put_unknown(alloc, word, hint);
+    };
+    hint.put(
+        text,
+        &Named(&[
+            (
+                b"next",
+                Value::Text(first_word(line.strip_prefix(BYTE_ORDER_MARK).unwrap_or(b""))),
+            ),
+            (b"marked", Value::Text(marked)),
+            (b"mark", Value::Text(mark)),
+            (b"word", Value::Text(word)),
+            (b"tabs", Value::Text(tabs_for(word))),
+        ]),
+    )
 }
 
 /// Puts how many fields follow a command, and how many should.
 fn put_fields(command: &[u8], line: &[u8], hint: &mut Hint) -> Result<(), AllocError> {
-    let meaning = fields_of(command);
     let fields = count_columns(line).saturating_sub(1);
     let note: &[u8] = if fields == 1 && line.contains(&b' ') {
         b", since spaces are no TABs"
     } else {
         b""
     };
-    let mut digits = Buffer::new();
-    let number = digits.format(fields).as_bytes();
-    hint.join(
-        b"{} has after it {}; fields here: {}{}",
-        command,
-        meaning,
-        number,
-        note,
+    hint.put(
+        b"{command} has after it {meaning}; fields here: {fields}{note}",
+        &Named(&[
+            (b"command", Value::Text(command)),
+            (b"meaning", Value::Text(fields_of(command))),
+            (b"fields", Value::Number(fields as u64)),
+            (b"note", Value::Text(note)),
+        ]),
     )
 }
 
 /// Puts that a word is no command, and which is meant.
 fn put_unknown(alloc: Global, word: &[u8], hint: &mut Hint) -> Result<(), AllocError> {
-    let text = shown(word);
-    if let Some(instead) = other_word(word) {
-        return hint.join(b"{} is no command: {}", text, instead, b"", b"");
-    }
     let mut nearest = Nearest::to(word);
     for known in COMMANDS.split(is_between) {
         nearest.look_at(alloc, known)?;
     }
-    match nearest.found() {
-        Some(known) => hint.join(b"{} is no command: is {} meant?", text, known, b"", b""),
-        None => hint.line(
-            b"{} is no command: add, remove, replace, addb, removeb, replaceb, resize, open, close, print, printall, show or showall",
-            &[text],
+    let (text, instead): (&[u8], &[u8]) = match (other_word(word), nearest.found()) {
+        (Some(instead), _) => (b"{word} is no command: {instead}", instead),
+        (None, Some(known)) => (b"{word} is no command: is {instead} meant?", known),
+        (None, None) => (
+            b"{word} is no command: add, remove, replace, addb, removeb, replaceb, resize, open, close, print, printall, show or showall",
+            b"",
         ),
-    }
+    };
+    hint.put(
+        text,
+        &Named(&[
+            (b"word", Value::Text(shown(word))),
+            (b"instead", Value::Text(instead)),
+        ]),
+    )
 }

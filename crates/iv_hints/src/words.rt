@@ -1,6 +1,6 @@
 //! The hint on arguments that ask for no run, and on the words of a view.
-use crate::bedtools::{instead_of_subcommand, is_other_subcommand, put_not_there};
-use crate::hint::Hint;
+use crate::bedtools::{NOT_THERE, instead_of_subcommand, is_other_subcommand};
+use crate::hint::{Hint, Value, Values};
 use crate::nearest::Nearest;
 use crate::options::Options;
 use crate::vocabulary::{PACKAGE_COMMANDS, is_command, lists, run_named};
@@ -10,10 +10,34 @@ use std::alloc::{AllocError, Global};
 /// The subcommands but the last one, `records`.
 const SUBCOMMANDS: &[u8] = b"merge, cluster, complement, genomecov, intersect, subtract, getfasta";
 
+/// A word that should be a subcommand or a view, and one that is near it.
+#[derive(Clone, Copy)]
+struct Word<'a> {
+    word: &'a [u8],
+    known: &'static [u8],
+}
+
+impl Values for Word<'_> {
+    fn value(&self, place: &[u8]) -> Value<'_> {
+        Value::Text(match place {
+            b"subcommands" => SUBCOMMANDS,
+            b"instead" => instead_of_subcommand(self.word),
+            b"known" => self.known,
+            _ => self.word,
+        })
+    }
+}
+
+/// How help on a subcommand is asked for.
+const HELP: &[u8] = b"help on {word} is asked for by these two words alone";
+
 /// Puts the hint on arguments that ask for no run.
 pub(crate) fn put_words(alloc: Global, words: &[&[u8]], hint: &mut Hint) -> Result<(), AllocError> {
     match words {
-        [] => put_usage(hint)?,
+        [] => hint.put(
+            b"usage: bedkeep SUBCOMMAND -g GENOME -i BED, or bedkeep session -g GENOME -i BED < SCRIPT\nsubcommands: {subcommands}, records",
+            &Value::Text(SUBCOMMANDS),
+        )?,
         [b"--help" | b"-h" | b"help", subject, ..] => put_subject(alloc, subject, hint)?,
         [word, rest @ ..] => match run_named(word) {
             Some(run) => put_run(alloc, run, rest, hint)?,
@@ -21,7 +45,7 @@ pub(crate) fn put_words(alloc: Global, words: &[&[u8]], hint: &mut Hint) -> Resu
         },
     }
     match words.first().and_then(|word| run_named(word)) {
-        Some(run) => hint.line(b"try: bedkeep {} --help", &[run.name]),
+        Some(run) => hint.put(b"try: bedkeep {run} --help", &Value::Text(run.name)),
         None => hint.say(b"try: bedkeep --help"),
     }
 }
@@ -34,16 +58,13 @@ pub(crate) fn put_view(alloc: Global, words: &[&[u8]], hint: &mut Hint) -> Resul
                 let options = Options { run, is_view: true };
                 options.put(alloc, rest, hint)?;
             }
-            _ if is_other_subcommand(word) => {
-                put_not_there(word, instead_of_subcommand(word), hint)?;
-            }
             _ => put_no_view(alloc, word, hint)?,
         }
     }
     if hint.is_empty() {
-        return hint.line(
-            b"a view is a subcommand and its options: {} or records",
-            &[SUBCOMMANDS],
+        return hint.put(
+            b"a view is a subcommand and its options: {subcommands} or records",
+            &Value::Text(SUBCOMMANDS),
         );
     }
     Ok(())
@@ -51,18 +72,20 @@ pub(crate) fn put_view(alloc: Global, words: &[&[u8]], hint: &mut Hint) -> Resul
 
 /// Puts that a word is no view, and which is near.
 fn put_no_view(alloc: Global, word: &[u8], hint: &mut Hint) -> Result<(), AllocError> {
-    match near_run(alloc, word, true)? {
-        Some(known) => hint.join(b"{} is no view: is {} meant?", word, known, b"", b""),
-        None => hint.line(b"{} is no view: {} or records", &[word, SUBCOMMANDS]),
-    }
+    let known = near_run(alloc, word, true)?;
+    let text: &[u8] = if is_other_subcommand(word) {
+        NOT_THERE
+    } else if known.is_empty() {
+        b"{word} is no view: {subcommands} or records"
+    } else {
+        b"{word} is no view: is {known} meant?"
+    };
+    hint.put(text, &Word { word, known })
 }
 
-/// The subcommand that is near to a word. `session` is no view; beside the subcommands an option for help or the version may be meant.
-fn near_run(
-    alloc: Global,
-    word: &[u8],
-    is_view: bool,
-) -> Result<Option<&'static [u8]>, AllocError> {
+/// The subcommand that is near to a word; empty if none is. `session` is no view; beside the subcommands an option for help or the
+/// version may be meant.
+fn near_run(alloc: Global, word: &[u8], is_view: bool) -> Result<&'static [u8], AllocError> {
     let mut nearest = Nearest::to(word);
     for run in RUNS {
         if !is_view || run.run != Subcommand::Session {
@@ -73,15 +96,7 @@ fn near_run(
         nearest.look_at(alloc, b"--help")?;
         nearest.look_at(alloc, b"--version")?;
     }
-    Ok(nearest.found())
-}
-
-/// Puts how the program is used.
-fn put_usage(hint: &mut Hint) -> Result<(), AllocError> {
-    hint.say(
-        b"usage: bedkeep SUBCOMMAND -g GENOME -i BED, or bedkeep session -g GENOME -i BED < SCRIPT",
-    )?;
-    hint.line(b"subcommands: {}, records", &[SUBCOMMANDS])
+    Ok(nearest.found().unwrap_or(b""))
 }
 
 /// Puts the mistake in the arguments after a subcommand.
@@ -93,7 +108,7 @@ fn put_run(
 ) -> Result<(), AllocError> {
     let is_help = |word: &&[u8]| matches!(*word, b"--help" | b"-h");
     if words.iter().any(is_help) || matches!(words, [b"help"]) {
-        return put_help(run, hint);
+        return hint.put(HELP, &Value::Text(run.name));
     }
     let options = Options {
         run,
@@ -102,60 +117,27 @@ fn put_run(
     options.put(alloc, words, hint)
 }
 
-/// Puts how help on a subcommand is asked for.
-fn put_help(run: &RunUsage, hint: &mut Hint) -> Result<(), AllocError> {
-    hint.line(
-        b"help on {} is asked for by these two words alone",
-        &[run.name],
-    )
-}
-
 /// Puts the mistake if an argument should be a subcommand.
 fn put_subject(alloc: Global, word: &[u8], hint: &mut Hint) -> Result<(), AllocError> {
-    if let Some(run) = run_named(word) {
-        put_help(run, hint)
+    let known = near_run(alloc, word, false)?;
+    let text: &[u8] = if run_named(word).is_some() {
+        HELP
     } else if is_command(word) {
-        hint.line(
-            b"{} is a line of a session's script: printf '{}\\t..\\n' | bedkeep session -g GENOME -i BED",
-            &[word, word],
-        )
+        b"{word} is a line of a session's script: printf '{word}\\t..\\n' | bedkeep session -g GENOME -i BED"
     } else if lists(PACKAGE_COMMANDS, word) {
-        hint.line(
-            b"{} is a command of the Python package: python3 -m bedkeep {}",
-            &[word, word],
-        )
+        b"{word} is a command of the Python package: python3 -m bedkeep {word}"
     } else if is_other_subcommand(word) {
-        put_not_there(word, instead_of_subcommand(word), hint)
+        NOT_THERE
     } else if lists(b"-g -i -a -b", word) {
-        hint.line(
-            b"a subcommand comes before {}: {}, records, or session",
-            &[word, SUBCOMMANDS],
-        )
+        b"a subcommand comes before {word}: {subcommands}, records, or session"
+    } else if word == b"--version".as_slice() {
+        b"--version is given alone"
+    } else if !known.is_empty() {
+        b"{word} isn't a subcommand: is {known} meant?"
+    } else if lists(b"-v -V", word) {
+        b"{word} isn't an option of bedkeep: is --version meant?"
     } else {
-        put_no_subcommand(alloc, word, hint)
-    }
-}
-
-/// Puts that an argument is no subcommand, and which is near.
-fn put_no_subcommand(alloc: Global, word: &[u8], hint: &mut Hint) -> Result<(), AllocError> {
-    match near_run(alloc, word, false)? {
-        _ if word == b"--version".as_slice() => hint.say(b"--version is given alone"),
-        Some(known) => hint.join(
-            b"{} isn't a subcommand: is {} meant?",
-            word,
-            known,
-            b"",
-            b"",
-        ),
-        None if word == b"-v".as_slice() || word == b"-V".as_slice() => {
-            hint.line(
-                b"{} isn't an option of bedkeep: is --version meant?",
-                &[word],
-            )
-        }
-        None => hint.line(
-            b"{} isn't a subcommand: {}, records, or session",
-            &[word, SUBCOMMANDS],
-        ),
-    }
+        b"{word} isn't a subcommand: {subcommands}, records, or session"
+    };
+    hint.put(text, &Word { word, known })
 }

@@ -22,7 +22,7 @@ pub use count_sweep::CountSweep;
 pub use getfasta::print_fasta;
 pub use hits::{Hits, is_from, overlaps};
 pub use intersect::{Cross, IntersectRows, put_intersect};
-pub use iv_fasta::{Fasta, FastaRows, complement, put_fasta};
+pub use iv_fasta::{Fasta, FastaReader, FastaRows, complement, put_fasta};
 pub use lemmas::{overlap_is_a_shared_position, uncovered_parts_are_maximal};
 pub use pair_rows::{PairRows, needs_cover_alone, print_pairs, put_pair_rows};
 pub use pair_sweep::PairSweep;

@@ -6,8 +6,10 @@ use Rattle.std.specs.Option.{option_to_list}
 use Rattle.std.specs.Prelude.{Bool, true, MatchResult, ◌==◌, if◌then◌else◌}
 use Rattle.iv_bytes.specs.Sinks.{SinkState, Takes, FailsIn, waiting}
 use Rattle.iv_bytes.specs.Sources.{SourceState}
+use Rattle.iv_text.specs.BedFile.{Bed}
 use Rattle.iv_text.specs.declared.fault.Fault.{Fault}
 use Rattle.iv_text.specs.declared.fault.Fault.TheVariants as refused
+use Rattle.iv_text.specs.declared.fault.LoadFault.{LoadFault}
 use Rattle.iv_workspace.specs.States.{State}
 use Rattle.iv_session.specs.Endings.{Ran}
 use Rattle.iv_session.specs.Scripts.{Done}
@@ -25,7 +27,7 @@ use Rattle.iv_args.specs.declared.plan.Slot.{Slot}
 use Rattle.iv_args.specs.declared.plan.Slot.TheVariants.{Sizes, First, Other, Bases}
 use Rattle.iv_run.specs.Loading.{IsReport}
 use Rattle.iv_cli.specs.Loading.{loaded}
-use Rattle.iv_run.specs.SoFar.{SaysSecond, SoFar}
+use Rattle.iv_run.specs.RunFiles.{AreOf, FilesRead, IsParsed}
 use Rattle.iv_run.specs.declared.fault.CliFault.{CliFault}
 use Rattle.iv_run.specs.declared.fault.FileFault.{FileFault}
 use Rattle.iv_run.specs.declared.fault.FileFault.TheVariants as file
@@ -37,7 +39,7 @@ use Rattle.iv_program.specs.Limits.{most_file_bytes}
 use Rattle.iv_program.specs.Program.{Finishes, Runs, Serves, world}
 use Rattle.iv_program.specs.Runs.{World, DoesWith, HasRead, HasNotRead}
 use Rattle.iv_program.specs.Inside.Files.{HasText, IsWhy, StopsAt, StopsFile, names_of}
-use Rattle.iv_program.specs.Inside.Runs.{DoesOne, EndsRun, Flushes, ReadsAll, RunsPlan, Says, StopsPlan, stopped_at}
+use Rattle.iv_program.specs.Inside.Runs.{DoesOne, EndsRun, Flushes, HasTexts, ReadsAll, RunsPlan, StopsPlan, stopped_at}
 use Rattle.iv_program.specs.Texts.{Texts, AreTexts, IsTextIfNamed, names_before}
 use Rattle.iv_program.specs.declared.program.Ended.{Ended}
 
@@ -137,14 +139,14 @@ module _ (plan : RunPlan) (f0 f1 : FilesState) (sizes : List ℕ) (has_sizes : I
 -- ---- scripts
 
 -- the session that the files of a plan begin, once they are read
-pub report-of : (plan : RunPlan) (texts : Texts) (known : SoFar) (bases : Option (List ℕ)) (r : Result State CliFault) → Says (λ r. r) plan texts known bases
-    → ((sizes text : List ℕ) (other : Option (List ℕ)) → SaysSecond (λ r. r) sizes text other known → IsReport r (loaded known.width sizes text other bases known.limit))
+pub report-of : (plan : RunPlan) (texts : Texts) (files : FilesRead (Result Bed LoadFault)) (r : Result State CliFault) → HasTexts (IsParsed (λ r. r)) plan texts files
+    → ((sizes first : List ℕ) (second fasta_text : Option (List ℕ)) → AreOf (IsParsed (λ r. r)) sizes first second fasta_text files
+    → IsReport r (loaded files.on.width sizes first second fasta_text files.on.limit))
     → IsReport r (loaded plan.width texts.sizes texts.first texts.other texts.bases plan.limit)
-report-of plan texts known bases r says report =
-    subst (λ (b : Option (List ℕ)). IsReport r (loaded plan.width texts.sizes texts.first texts.other b plan.limit)) says.bases_are
-    (subst (λ (n : ℕ). IsReport r (loaded plan.width texts.sizes texts.first texts.other bases n)) says.limit_is
-    (subst (λ (w : ℕ). IsReport r (loaded w texts.sizes texts.first texts.other bases known.limit)) says.width_is
-    (report texts.sizes texts.first texts.other says.known_is)))
+report-of plan texts files r has report =
+    subst (λ (n : ℕ). IsReport r (loaded plan.width texts.sizes texts.first texts.other texts.bases n)) has.limit_is
+    (subst (λ (w : ℕ). IsReport r (loaded w texts.sizes texts.first texts.other texts.bases files.on.limit)) has.width_is
+    (report texts.sizes texts.first texts.other texts.bases has.are))
 
 pub ran-of : (old new : State) (before after : Streams) (lines most : ℕ) (r : Result Summary RunFault)
     → IfOk r (λ summary. Done old new before after lines most summary.lines summary.refused)

@@ -1,6 +1,5 @@
 //! The whole program: what the arguments ask for, the run of one subcommand, and how each run ends.
 ghost use Rattle.std.specs.Prelude.{◌≡◌, ◌≢◌, ◌⊎◌, ℕ, List, [], Some, None, IfOk, IfErr, IfSome, MatchResult, OnOk, OnErr, map, true, false};
-ghost use Rattle.std.specs.Option.{option_map};
 ghost use Rattle.iv_bytes.specs.Sinks.{FailsIn, Takes, waiting};
 ghost use Rattle.iv_index.specs.Locators.{bare};
 ghost use Rattle.iv_args.specs.InfoRequests.{notice_of};
@@ -16,18 +15,19 @@ ghost use Rattle.iv_program.specs.Outcomes.{AreSound, DoesAll, Hold, PrintsJust}
 ghost use Rattle.iv_program.specs.Program.{Runs, world};
 ghost use Rattle.iv_program.specs.Runs.{World};
 ghost use Rattle.iv_program.specs.Inside.Files.{StopsAt, names_of};
-ghost use Rattle.iv_run.specs.Inside.Held.{AreIntervals};
-ghost use Rattle.iv_program.specs.Inside.Runs.{EndsRun, PrintsView, ReadsAll, Says, SaysHeld, StopsPlan};
+ghost use Rattle.iv_run.specs.Inside.Held.{IsHeld};
+ghost use Rattle.iv_run.specs.RunFiles.{IsParsed};
+ghost use Rattle.iv_program.specs.Inside.Runs.{EndsRun, HasTexts, PrintsView, ReadsAll, StopsPlan};
 ghost use Rattle.iv_program.specs.Texts.{Texts, AreTexts};
 ghost use Rattle.iv_program.specs.declared.program.Ended.{Ended};
 
-use crate::files::{InputFiles, ReadFiles, SlotFault, hold_files};
+use crate::files::{InputFiles, SlotFault, read_files};
 use crate::script_run::run_session;
 use iv_args::{InfoRequest, Plan};
 use iv_bytes::{Flush, Sink, Source, put_all};
 use iv_cli::ExitReason;
 use iv_index::Span;
-use iv_run::{CliFault, HeldFiles, IntervalsView, shot_of_held};
+use iv_run::{CliFault, HeldBed, HeldRecords, IntervalsView, RunFiles, shot_of_held};
 use std::alloc::Allocator;
 
 /// How a run has ended, its output flushed.
@@ -81,30 +81,26 @@ fn ending_of(done: Result<(), CliFault>) -> ExitReason
 /// Prints a view whose rows depend on nothing of a record except its interval, of the files that were read.
 fn shot_of_intervals<A: Allocator + Copy, W: Sink>(
     view: IntervalsView,
-    read: ReadFiles<Span, A>,
+    files: RunFiles<HeldRecords<Span, A>, A>,
     output: &mut W,
 ) -> ExitReason
-    ensures { (plan : RunPlan) (texts : Texts) → AskForIntervals plan.view view → Says bare plan texts read.loading (option_map (λ bytes. bytes.items) read.bases)
+    ensures { (plan : RunPlan) (texts : Texts) → AskForIntervals plan.view view → HasTexts (IsParsed bare) plan texts files
         → PrintsView plan texts (W.state output.old) (W.state output.new) result }
 {
-    let ReadFiles { loading, bases } = read;
-    ending_of(loading.print(view, bases, output))
+    ending_of(files.print(view, output))
 }
 
 /// Prints a view that needs the columns of records, of the files that were read.
 fn shot_of_columns<A: Allocator + Copy, W: Sink>(
     alloc: A,
     plan: &Plan<'_, A>,
-    read: HeldFiles<A>,
+    files: RunFiles<HeldBed<A>, A>,
     output: &mut W,
 ) -> ExitReason
-    requires columns { AskForColumns plan.now.view }
-    requires first { AreIntervals read.loading.genome read.first }
-    requires second { IfSome read.second (AreIntervals read.loading.genome) }
-    ensures { (texts : Texts) → SaysHeld plan.now texts read.loading read.first read.second (option_map (λ bytes. bytes.items) read.bases)
-        → PrintsView plan.now texts (W.state output.old) (W.state output.new) result }
+    requires { AskForColumns plan.now.view }
+    ensures { (texts : Texts) → HasTexts IsHeld plan.now texts files → PrintsView plan.now texts (W.state output.old) (W.state output.new) result }
 {
-    ending_of(shot_of_held(alloc, plan, read, output))
+    ending_of(shot_of_held(alloc, plan, files, output))
 }
 
 /// Prints the view of a plan.
@@ -121,10 +117,10 @@ fn print_view<A: Allocator + Copy, F: InputFiles, W: Sink>(
     ensures nothing { OnErr result (W.state output.new ≡ W.state output.old) }
 {
     if let Some(view) = IntervalsView::of_plan(plan) {
-        let read = ReadFiles::read(alloc, files, plan)?;
+        let read = read_files(alloc, files, plan)?;
         return Ok(shot_of_intervals(view, read, output));
     }
-    let read = hold_files(alloc, files, plan)?;
+    let read = read_files(alloc, files, plan)?;
     Ok(shot_of_columns(alloc, plan, read, output))
 }
 

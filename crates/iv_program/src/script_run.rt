@@ -1,18 +1,19 @@
 //! A run of a script over the session that the files of a plan begin.
 ghost use Rattle.std.specs.Prelude.{◌≡◌, ◌≤◌, IfOk, IfErr, OnOk, OnErr};
-ghost use Rattle.std.specs.Option.{option_map};
+ghost use Rattle.iv_run.specs.RunFiles.{IsParsed};
 ghost use Rattle.iv_session.specs.Streams.{streams};
 ghost use Rattle.iv_args.specs.Words.{RunPlan, most_limit};
 ghost use Rattle.iv_program.specs.Files.{after_reading};
 ghost use Rattle.iv_program.specs.Inside.Files.{StopsAt, names_of};
-ghost use Rattle.iv_program.specs.Inside.Runs.{RunsScript, Says, stopped_at};
+ghost use Rattle.iv_program.specs.Inside.Runs.{HasTexts, RunsScript, stopped_at};
 ghost use Rattle.iv_program.specs.Texts.{Texts, AreTexts};
 
-use crate::files::{InputFiles, ReadFiles, SlotFault};
+use crate::files::{InputFiles, SlotFault, read_files};
 use crate::program::Ended;
 use iv_args::Plan;
 use iv_bytes::{Sink, Source};
 use iv_cli::{ExitReason, begin_session};
+use iv_run::{HeldRecords, RunFiles};
 use iv_session::{RunFault, ScriptLimits, Summary, run_script};
 use iv_text::Record;
 use std::alloc::Allocator;
@@ -34,21 +35,20 @@ fn line_of_stop(done: &Result<Summary, RunFault>) -> u64
 /// Runs the script on the input, which may have at most `limit` lines, over the session that the files of a plan begin.
 fn run_over<A: Allocator + Copy, R: Source, W: Sink, E: Sink>(
     alloc: A,
-    read: ReadFiles<Record<A>, A>,
+    files: RunFiles<HeldRecords<Record<A>, A>, A>,
     limit: u32,
     input: &mut R,
     output: &mut W,
     messages: &mut E,
 ) -> Ended
-    requires same { read.loading.limit ≡ limit }
+    requires same { files.on.limit ≡ limit }
     requires few { limit ≤ most_limit }
-    ensures { (plan : RunPlan) (texts : Texts) → Says (λ r. r) plan texts read.loading (option_map (λ bytes. bytes.items) read.bases)
+    ensures { (plan : RunPlan) (texts : Texts) → HasTexts (IsParsed (λ r. r)) plan texts files
         → RunsScript plan texts
         (streams (R.state input.old) (W.state output.old) (E.state messages.old))
         (streams (R.state input.new) (W.state output.new) (E.state messages.new)) result.exit_reason result.line }
 {
-    let ReadFiles { loading, bases } = read;
-    let mut session = match begin_session(loading, bases) {
+    let mut session = match begin_session(files) {
         Ok(session) => session,
         Err(fault) => return Ended::at_no_line(ExitReason::from(fault)),
     };
@@ -83,6 +83,6 @@ pub(crate) fn run_session<A: Allocator + Copy, F: InputFiles, R: Source, W: Sink
     ensures nothing { OnErr result (streams (R.state input.new) (W.state output.new) (E.state messages.new)
         ≡ streams (R.state input.old) (W.state output.old) (E.state messages.old)) }
 {
-    let read = ReadFiles::read(alloc, files, plan)?;
+    let read = read_files(alloc, files, plan)?;
     Ok(run_over(alloc, read, plan.limit(), input, output, messages))
 }

@@ -21,9 +21,9 @@ use Rattle.iv_index.specs.Locators.{bare}
 use Rattle.iv_index.specs.declared.locator.Locator.{Locator}
 use Rattle.iv_index.proofs.ReadingLemmas.{locator-row}
 use Rattle.iv_run.specs.Inside.Held.{AreIntervals, Held, HoldsFront, IsThreeWide}
-use Rattle.iv_run.specs.Inside.Pieces.{SaysSoFar}
+use Rattle.iv_run.specs.Pieces.{SaysSoFar}
 use Rattle.iv_run.specs.Loading.{IsAnswer}
-use Rattle.iv_run.specs.SoFar.{AreProjected}
+use Rattle.iv_run.specs.RunFiles.{AreProjected}
 use Rattle.iv_run.specs.declared.held_bed.Columns.{Columns}
 use Rattle.iv_run.specs.declared.held_bed.Columns.TheVariants.{Unknown, Three, Other}
 

@@ -5,4 +5,5 @@ mod IntervalsAlone
 pub mod PieceLemmas
 pub mod IntervalsLemmas
 mod HeldLemmas
-mod HeldFilesLemmas
+mod RunFilesLemmas
+pub mod FastaPieceLemmas

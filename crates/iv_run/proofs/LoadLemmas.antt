@@ -1,5 +1,5 @@
 -- Damaged files.
-use Rattle.std.proofs.Common.{◌≡◌, ℕ, List, Option, None, Some, Result, Ok, Err, refl, sym, ap, subst, ◌∙◌, ◌⊎◌, inl, inr}
+use Rattle.std.proofs.Common.{◌≡◌, ℕ, List, Option, Some, Result, Ok, Err, refl, sym, ap, subst, ◌∙◌, ◌⊎◌, inl, inr}
 use Rattle.iv_text.specs.Genome.{Sequences}
 use Rattle.iv_text.specs.GenomeFile.{genome_of}
 use Rattle.iv_text.specs.BedFile.{Bed, bed_of}
@@ -12,13 +12,11 @@ use Rattle.iv_args.specs.declared.plan.Slot.{Slot}
 use Rattle.iv_args.specs.declared.plan.Slot.TheVariants.{Sizes, First, Other, Bases}
 use Rattle.iv_fasta.specs.Fasta as Fasta
 use Rattle.iv_text.specs.Chains.{if_ok, map_fault}
-use Rattle.iv_run.specs.Inside.Shots.{bases_said}
-use Rattle.iv_run.specs.Loading.{IsAnswer, Parsed, parsed, second_of, fault_of, damage_of}
-use Rattle.std.specs.Option.{option_transpose}
+use Rattle.iv_run.specs.Inside.Shots.{bases_said, second_of}
+use Rattle.iv_run.specs.Loading.{IsAnswer, Parsed, parsed, fault_of, damage_of}
 use Rattle.iv_text.specs.BedReading.{projected_bed, projected_or_fault}
 use Rattle.iv_text.specs.RecordValue.{RecordValue}
-use Rattle.iv_run.specs.SoFar.{SoFar, AreBoth, IsSaid, ReportsProjected, SaysSecond, SaysSecondBy, SaysSizes, SaysSizesBy, noted, taken_first, taken_second}
-use Rattle.iv_run.specs.Inside.SoFar.{SaysFirst, SaysFirstBy}
+use Rattle.iv_run.specs.RunFiles.{GenomeRead, IsGenomeOf, IsGenomeBy}
 
 -- a fault is reported as damage, unless it is out of memory
 reported : (c : LoadCause) (damaged : CliFault) → (c ≡ cause.Memory) ⊎ (fault_of c damaged ≡ damaged)
@@ -102,103 +100,21 @@ module _ (width : ℕ) (sizes text : List ℕ) (limit : ℕ) where
 
 -- ---- files of which the records are held
 
-kept-sound : (projected : RecordValue → RecordValue) (r : Result Bed LoadFault) (file : Bed) → projected_or_fault projected r ≡ Ok file → (bed : Bed) × (r ≡ Ok bed) × (file ≡ projected_bed projected bed)
+pub kept-sound : (projected : RecordValue → RecordValue) (r : Result Bed LoadFault) (file : Bed) → projected_or_fault projected r ≡ Ok file → (bed : Bed) × (r ≡ Ok bed) × (file ≡ projected_bed projected bed)
 kept-sound projected (Ok bed) file is = let same : projected_bed projected bed ≡ file = cc in (bed, refl, sym same)
 kept-sound projected (Err f) file is = cc
 
-kept-why : (projected : RecordValue → RecordValue) (r : Result Bed LoadFault) (f : LoadFault) → IsAnswer {T = Bed} (Err f) (projected_or_fault projected r) → IsWhy f r
+pub kept-why : (projected : RecordValue → RecordValue) (r : Result Bed LoadFault) (f : LoadFault) → IsAnswer {T = Bed} (Err f) (projected_or_fault projected r) → IsWhy f r
 kept-why projected r f (inl memory) = inl memory
 kept-why projected (Ok bed) f (inr is) = cc
 kept-why projected (Err e) f (inr is) = let same : e ≡ f = cc in inr (ap Err same)
 
--- ---- files while they are read
-
 -- the genome file is damaged
-pub says-no_sizes : (sizes : List ℕ) (known : SoFar) (k : CliFault) → known.damage ≡ Some k → (f : LoadFault) × (k ≡ damage_of Sizes f) × IsWhy f (genome_of sizes) → SaysSizes sizes known
-says-no_sizes sizes known k is why = subst (SaysSizesBy sizes known) (sym is) (subst Reports (sym why.1) (reported-by Sizes why.0 Damages (λ e text other bases. ap (with_genome known.width text other bases known.limit) e) why.2))
+pub says-no_sizes : (sizes : List ℕ) (known : GenomeRead) (k : CliFault) → known.damage ≡ Some k → (f : LoadFault) × (k ≡ damage_of Sizes f) × IsWhy f (genome_of sizes) → IsGenomeOf sizes known
+says-no_sizes sizes known k is why = subst (IsGenomeBy sizes known) (sym is) (subst Reports (sym why.1) (reported-by Sizes why.0 Damages (λ e text other bases. ap (with_genome known.width text other bases known.limit) e) why.2))
   where
     Damages : CliFault → Type 0
     Damages j = (text : List ℕ) (other bases : Option (List ℕ)) → parsed known.width sizes text other bases known.limit ≡ Err j
 
     Reports : CliFault → Type 0
     Reports j = (j ≡ Memory) ⊎ Damages j
-
-module _ (projected : RecordValue → RecordValue) (sizes text : List ℕ) (old : SoFar) where
-  -- the first file was read too
-  pub says-first : (said : Result Bed LoadFault) → SaysSizes sizes old → IsSaid projected old text said → SaysFirst projected sizes text (taken_first old said)
-  says-first said says answer = by old.damage refl says said answer
-    where
-      by : (d : Option CliFault) → old.damage ≡ d → SaysSizesBy sizes old d → (said : Result Bed LoadFault) → IsSaid projected old text said
-          → SaysFirst projected sizes text (taken_first old said)
-      by None e genome (Ok file) is =
-          let bed = kept-sound projected (bed_of old.genome old.width old.limit text) file is in
-          subst (SaysFirstBy projected sizes text (record old { first = file })) (sym e) (record { genome_is = genome; bed = bed.0; bed_is = bed.1; kept_is = bed.2 })
-      by None e genome (Err f) is =
-          let why = kept-why projected (bed_of old.genome old.width old.limit text) f is in
-          subst (λ (d : Option CliFault). SaysFirstBy projected sizes text (record old { damage = noted old.damage (damage_of First f) }) (noted d (damage_of First f))) (sym e)
-          (first-damaged old.width sizes text old.limit old.genome genome f why)
-      by (Some k) e (inl memory) (Ok file) is = subst (SaysFirstBy projected sizes text (record old { first = file })) (sym e) (inl memory)
-      by (Some k) e (inr all) (Ok file) is = subst (SaysFirstBy projected sizes text (record old { first = file })) (sym e) (inr (all text))
-      by (Some k) e (inl memory) (Err f) is =
-          subst (λ (d : Option CliFault). SaysFirstBy projected sizes text (record old { damage = noted old.damage (damage_of First f) }) (noted d (damage_of First f))) (sym e) (inl memory)
-      by (Some k) e (inr all) (Err f) is =
-          subst (λ (d : Option CliFault). SaysFirstBy projected sizes text (record old { damage = noted old.damage (damage_of First f) }) (noted d (damage_of First f))) (sym e) (inr (all text))
-
-  -- there is no second file
-  pub says-no_second : SaysFirst projected sizes text old → old.second ≡ None → SaysSecond projected sizes text None old
-  says-no_second says none = by old.damage says
-    where
-      by : (d : Option CliFault) → SaysFirstBy projected sizes text old d → SaysSecondBy projected sizes text None old d
-      by None first = record { first = first; beside = None; beside_is = refl; kept_is = none }
-      by (Some k) (inl memory) = inl memory
-      by (Some k) (inr all) = inr (all None)
-
-  -- or it was read
-  module _ (other : List ℕ) where
-    pub says-second : (said : Result Bed LoadFault) → SaysFirst projected sizes text old → IsSaid projected old other said → SaysSecond projected sizes text (Some other) (taken_second old said)
-    says-second said says answer = by old.damage refl says said answer
-      where
-        by : (d : Option CliFault) → old.damage ≡ d → SaysFirstBy projected sizes text old d → (said : Result Bed LoadFault) → IsSaid projected old other said
-            → SaysSecond projected sizes text (Some other) (taken_second old said)
-        by None e first (Ok file) is =
-            let bed = kept-sound projected (bed_of old.genome old.width old.limit other) file is in
-            subst (SaysSecondBy projected sizes text (Some other) (record old { second = Some file })) (sym e) (record {
-              first = record { genome_is = first.genome_is; bed = first.bed; bed_is = first.bed_is; kept_is = first.kept_is };
-              beside = Some bed.0;
-              beside_is = ap (λ (r : Result Bed LoadFault). option_transpose (Some r)) bed.1;
-              kept_is = ap Some bed.2;
-            })
-        by None e first (Err f) is = subst
-            (λ (d : Option CliFault). SaysSecondBy projected sizes text (Some other) (record old { damage = noted old.damage (damage_of Other f) }) (noted d (damage_of Other f))) (sym e)
-            (second-damaged old.width sizes text old.limit old.genome first.genome_is first.bed first.bed_is (Some other) f (transposed (kept-why projected (bed_of old.genome old.width old.limit other) f is)))
-          where
-            transposed : IsWhy f (bed_of old.genome old.width old.limit other) → IsWhy f (second_of old.genome old.width old.limit (Some other))
-            transposed (inl memory) = inl memory
-            transposed (inr e) = inr (ap (λ (r : Result Bed LoadFault). option_transpose (Some r)) e)
-        by (Some k) e (inl memory) (Ok file) is = subst (SaysSecondBy projected sizes text (Some other) (record old { second = Some file })) (sym e) (inl memory)
-        by (Some k) e (inr all) (Ok file) is = subst (SaysSecondBy projected sizes text (Some other) (record old { second = Some file })) (sym e) (inr (all (Some other)))
-        by (Some k) e (inl memory) (Err f) is = subst
-            (λ (d : Option CliFault). SaysSecondBy projected sizes text (Some other) (record old { damage = noted old.damage (damage_of Other f) }) (noted d (damage_of Other f))) (sym e) (inl memory)
-        by (Some k) e (inr all) (Err f) is = subst
-            (λ (d : Option CliFault). SaysSecondBy projected sizes text (Some other) (record old { damage = noted old.damage (damage_of Other f) }) (noted d (damage_of Other f))) (sym e) (inr (all (Some other)))
-
--- all BED files were read
-module _ (projected : RecordValue → RecordValue) (sizes text : List ℕ) (other bases : Option (List ℕ)) (known : SoFar) (says : SaysSecond projected sizes text other known) where
-  abbrev said : Result Parsed CliFault
-  said = parsed known.width sizes text other bases known.limit
-
-  -- they are sound
-  module _ (sound : known.damage ≡ None) where
-    both : AreBoth projected sizes text other known
-    both = subst (SaysSecondBy projected sizes text other known) sound says
-
-    -- the FASTA file is sound too
-    pub reports-all : (fasta : Option Fasta.Bases) → bases_said known.genome bases ≡ Ok fasta
-        → ReportsProjected projected (Ok (record { genome = known.genome; first = known.first; second = known.second; bases = fasta; limit = known.limit })) said
-    reports-all fasta is =
-        let whole : Parsed = record { genome = known.genome; first = both.first.bed; second = both.beside; bases = fasta; limit = known.limit } in (
-          whole,
-          past-second known.width sizes text known.limit known.genome both.first.genome_is both.first.bed both.first.bed_is other both.beside both.beside_is bases
-              ∙ ap (with_bases known.genome both.first.bed both.beside known.limit) is,
-          (λ i. record { genome = known.genome; first = both.first.kept_is i; second = both.kept_is i; bases = fasta; limit = known.limit }),
-        )

@@ -12,8 +12,8 @@ use Rattle.iv_view.specs.declared.view.View.{View}
 use Rattle.iv_run.specs.Inside.Prints.{Prints}
 use Rattle.iv_run.specs.declared.fault.CliFault.{CliFault}
 use Rattle.iv_run.specs.declared.fault.CliFault.TheVariants as fault
-use Rattle.iv_run.specs.Loading.{Parsed, parsed, second_of, fault_of_words}
-use Rattle.iv_run.specs.Inside.Shots.{bases_said, text_beside, view_beside}
+use Rattle.iv_run.specs.Loading.{Parsed, parsed, fault_of_words}
+use Rattle.iv_run.specs.Inside.Shots.{bases_said, second_of, text_beside, view_beside}
 use Rattle.iv_run.specs.Shots.{Shows}
 use Rattle.iv_run.proofs.LoadLemmas.{with_bases, with_second, with_first, with_genome}
 use Rattle.iv_text.specs.Chains.{if_ok, map_fault}

@@ -4,6 +4,4 @@ pub mod Prints
 pub mod Shots
 pub mod Intervals
 pub mod IntervalsViews
-pub mod SoFar
-pub mod Pieces
 pub mod Held

@@ -2,5 +2,7 @@ pub mod Files
 pub mod Loading
 pub mod Shots
 pub mod IntervalsViews
-pub mod SoFar
+pub mod RunFiles
+pub mod Pieces
+pub mod FastaPieces
 pub mod Inside

@@ -47,10 +47,6 @@ pub record Parsed : Type 0 where
   pub bases : Option fasta.Bases
   pub limit : ℕ
 
--- a BED file that may be left out, or its first fault
-abbrev pub second_of : Sequences → ℕ → ℕ → Option (List ℕ) → Result (Option Bed) LoadFault
-second_of g width limit text = option_transpose (option_map (bed_of g width limit) text)
-
 -- the files of these bytes: the genome file, the first file, and the second and the FASTA file, if there are any. A
 -- BED file without a record has this width, and a track holds at most as many records as the limit; or the fault of the first
 -- damaged file

@@ -1,20 +1,18 @@
 //! A BED file that is read for a view of all columns: its text is held only if its records have more columns than three.
 ghost use Rattle.std.specs.Prelude.{◌≡◌, ◌<◌, ◌+◌, ◌^◌, ◌++◌, ℕ, List, [], All, None, Some, length, IfOk, IfErr, IsOkAnd};
+ghost use Rattle.std.proofs.Common.{arith};
 ghost use Rattle.iv_text.specs.BedFile.{bed_of};
 ghost use Rattle.iv_text.specs.Genome.{Sequences};
 ghost use Rattle.iv_text.specs.Read.{Fits};
 ghost use Rattle.iv_text.specs.Widths.{IsWidth};
 ghost use Rattle.iv_index.specs.Locators.{bare};
-ghost use Rattle.iv_run.specs.Files.{ReadsWhole, StopsReading};
 ghost use Rattle.iv_run.specs.Loading.{IsAnswer};
 ghost use Rattle.iv_run.specs.declared.fault.FileFault.TheVariants as fault;
 ghost use Rattle.iv_run.specs.Inside.Held.{AreIntervals, HoldsFront, IsHeld};
-ghost use Rattle.iv_run.specs.Inside.Pieces.{SaysSoFar};
+ghost use Rattle.iv_run.specs.Pieces.{SaysSoFar};
 
 use crate::fault::FileFault;
-use crate::input_files::{ParsedFile, finish, take_next};
-use crate::loading::Loading;
-use iv_bytes::Source;
+use crate::input_files::{HoldsFile, ParsedFile, finish, take_next};
 use iv_index::{BedText, Locator};
 use iv_text::{BedReader, Genome, LoadFault};
 use std::alloc::{Allocator, Global};
@@ -38,19 +36,6 @@ impl<A: Allocator + Copy> Model for HeldBed<A> {
     ghost view = { λ h. record { text = h.text.items; intervals = h.intervals } };
 
     ghost invariant = { λ h. length h.text.items < 2 ^ 32 };
-}
-
-/// The files of a run that prints a view that needs the columns of records, once all are read.
-#[derive(Drop)]
-pub struct HeldFiles<A: Allocator + Copy = Global> {
-    /// The genome file.
-    pub loading: Loading<Locator, A>,
-    /// The first file.
-    pub first: HeldBed<A>,
-    /// The second file, if the plan names one.
-    pub second: Option<HeldBed<A>>,
-    /// The bytes of the FASTA file, if the plan names one.
-    pub bases: Option<Vec<u8, A>>,
 }
 
 /// A BED file that was read, its text lent.
@@ -153,7 +138,7 @@ fn columns_of<A: Allocator + Copy>(so_far: &Result<BedReader<Locator, A>, LoadFa
 
 /// What is held of a BED file of which some bytes were read.
 #[derive(Drop)]
-struct Holding<A: Allocator + Copy> {
+pub struct Holding<A: Allocator + Copy> {
     alloc: A,
     columns: Columns,
     // All bytes, unless the records have three columns.
@@ -163,18 +148,6 @@ struct Holding<A: Allocator + Copy> {
 }
 
 impl<A: Allocator + Copy> Holding<A> {
-    /// No byte was read.
-    fn begin(alloc: A) -> Holding<A>
-        ensures { (genome : Sequences) (limit : ℕ) → HoldsFront genome limit [] result.columns result.text.items result.so_far }
-    {
-        Holding {
-            alloc,
-            columns: Columns::Unknown,
-            text: Vec::new(alloc),
-            so_far: Ok(BedReader::new(alloc)),
-        }
-    }
-
     /// All bytes so far, and what they say. The bytes are held unless the records have three columns.
     fn decide(
         alloc: A,
@@ -200,20 +173,42 @@ impl<A: Allocator + Copy> Holding<A> {
             },
         }
     }
+}
 
-    /// Takes the next bytes.
-    fn take(self, genome: &Genome<A>, limit: u32, piece: &[u8]) -> Result<Holding<A>, FileFault>
-        requires { (front : List ℕ) × HoldsFront genome.now limit front self.columns self.text.items self.so_far × (1 + length front + length piece.now < 2 ^ 64) }
-        ensures ok { IfOk result (λ next. (front : List ℕ) → HoldsFront genome.now limit front self.columns self.text.items self.so_far
-            → HoldsFront genome.now limit (front ++ piece.now) next.columns next.text.items next.so_far) }
-        ensures err { IfErr result (λ why. why ≡ fault.Memory) }
-    {
+impl<A: Allocator + Copy> HoldsFile<A> for HeldBed<A> {
+    type Reading = Holding<A>;
+
+    ghost holds_front = { λ genome limit front reading. HoldsFront genome limit front reading.columns reading.text.items reading.so_far };
+
+    ghost is_of = { IsHeld };
+
+    ghost is_on = { λ genome limit held. AreIntervals genome held };
+
+    ghost bound = { 2 ^ 32 };
+
+    ghost bound_is = { (omega arith, omega arith) };
+
+    fn begin(alloc: A) -> Self::Reading {
+        Holding {
+            alloc,
+            columns: Columns::Unknown,
+            text: Vec::new(alloc),
+            so_far: Ok(BedReader::new(alloc)),
+        }
+    }
+
+    fn take(
+        reading: Self::Reading,
+        genome: &Genome<A>,
+        limit: u32,
+        piece: &[u8],
+    ) -> Result<Self::Reading, FileFault> {
         let Holding {
             alloc,
             columns,
             mut text,
             so_far,
-        } = self;
+        } = reading;
         match columns {
             Columns::Unknown => {
                 text.extend_from_slice(piece)?;
@@ -238,19 +233,13 @@ impl<A: Allocator + Copy> Holding<A> {
         }
     }
 
-    /// What is held of the whole file, once all its bytes have come.
-    fn finish(self, genome: &Genome<A>, empty_width: u8, limit: u32) -> HeldBed<A>
-        requires width { IsWidth empty_width }
-        requires held { (front : List ℕ) × HoldsFront genome.now limit front self.columns self.text.items self.so_far × (length front < 2 ^ 32) }
-        ensures says { (text : List ℕ) → HoldsFront genome.now limit text self.columns self.text.items self.so_far → IsHeld genome.now empty_width limit text result }
-        ensures intervals { AreIntervals genome.now result }
-    {
+    fn finish(reading: Self::Reading, genome: &Genome<A>, empty_width: u8, limit: u32) -> Self {
         let Holding {
             alloc,
             columns,
             text,
             so_far,
-        } = self;
+        } = reading;
         match columns {
             Columns::Three => HeldBed {
                 text: Vec::new(alloc),
@@ -261,39 +250,5 @@ impl<A: Allocator + Copy> Holding<A> {
                 HeldBed::of_text(text)
             }
         }
-    }
-}
-
-/// A BED file on this genome that is read from a source to its end, at most `most` bytes, for a view that needs the columns of
-/// records. It may have at most `limit` records.
-///
-/// As soon as the first record shows that there are three columns, no more text is held.
-pub(crate) fn hold_bed<A: Allocator + Copy, R: Source>(
-    alloc: A,
-    genome: &Genome<A>,
-    empty_width: u8,
-    limit: u32,
-    source: &mut R,
-    most: u64,
-) -> Result<HeldBed<A>, FileFault>
-    requires width { IsWidth empty_width }
-    requires most { most < 2 ^ 32 }
-    ensures ok { IfOk result (λ held. (text : List ℕ) × ReadsWhole (R.state source.old) (R.state source.new) most text × IsHeld genome.now empty_width limit text held) }
-    ensures intervals { IfOk result (AreIntervals genome.now) }
-    ensures err { IfErr result (λ why. StopsReading (R.state source.old) (R.state source.new) most why) }
-{
-    let mut holding = Holding::begin(alloc);
-    let mut piece = [0u8; 262_144];
-    let mut count: u64 = 0;
-    'pieces: loop {
-        let n = source.pull(&mut piece)?;
-        if n == 0 {
-            return Ok(holding.finish(genome, empty_width, limit));
-        }
-        if n as u64 > most - count {
-            return Err(FileFault::TooLong);
-        }
-        count += n as u64;
-        holding = holding.take(genome, limit, &piece[..n])?;
     }
 }

@@ -1,25 +1,21 @@
-//! Files that are read from a source to their ends: all their bytes, or what is held of the records of a BED file.
-ghost use Rattle.std.specs.Prelude.{◌≡◌, ◌↔◌, ◌<◌, ◌+◌, ◌^◌, ◌++◌, ◌≤◌, ◌⊎◌, ℕ, List, [], false, length, map, Ok, Err, Some, Result, IfOk, IfErr, OnOk};
-ghost use Rattle.std.specs.Option.{option_map};
+//! Files that are read from a source to their ends: all their bytes, or what is held of a BED file.
+ghost use Rattle.std.specs.Prelude.{◌≡◌, ◌↔◌, ◌<◌, ◌≤◌, ◌+◌, ◌^◌, ◌++◌, ℕ, List, [], false, length, map, Some, Result, IfOk, IfErr, OnOk};
+ghost use Rattle.std.proofs.Common.{arith};
 ghost use Rattle.iv_bytes.specs.Sources.{SourceState};
-ghost use Rattle.iv_text.specs.declared.fault.LoadCause.TheVariants as cause;
-ghost use Rattle.iv_text.specs.declared.fault.LoadFault.{LoadFault};
-ghost use Rattle.iv_text.specs.BedReading.{AreSound, projected_bed_of, size_of};
+ghost use Rattle.iv_text.specs.BedReading.{AreSound, size_of};
+ghost use Rattle.iv_text.specs.Genome.{Sequences};
+ghost use Rattle.iv_text.specs.Widths.{IsWidth};
 ghost use Rattle.iv_index.specs.Inside.Locators.{row_of};
 ghost use Rattle.iv_index.specs.Inside.Spans.{span_records};
 ghost use Rattle.iv_run.specs.Files.{ReadsWhole, StopsReading};
 ghost use Rattle.iv_run.specs.Inside.Files.{EndsReading, HadMemory, IsPieceFault, IsTooLong};
-ghost use Rattle.iv_run.specs.Inside.Shots.{bases_said};
-ghost use Rattle.iv_run.specs.Loading.{IsAnswer, damage_of};
-ghost use Rattle.iv_run.specs.Inside.Pieces.{SaysSoFar};
-ghost use Rattle.iv_run.specs.SoFar.{AreProjected};
+ghost use Rattle.iv_run.specs.Pieces.{SaysSoFar};
+ghost use Rattle.iv_run.specs.RunFiles.{IsOn, IsParsed};
 ghost use Rattle.iv_run.specs.declared.fault.FileFault.{FileFault};
-ghost use Rattle.iv_text.specs.Widths.{IsWidth};
+ghost use Rattle.iv_run.specs.declared.fault.FileFault.TheVariants as fault;
 
-use crate::fault::{CliFault, FileFault};
-use iv_args::Slot;
+use crate::fault::FileFault;
 use iv_bytes::Source;
-use iv_fasta::Fasta;
 use iv_index::{Locator, Span};
 use iv_text::{Batches, BedBatches, BedReader, FromRecord, Genome, LoadFault, Record};
 use std::alloc::{AllocError, Allocator, Global};
@@ -70,6 +66,82 @@ pub fn too_long_above_the_limit()
     ensures { (old new : SourceState) (limit : ℕ) (text : List ℕ) (ended : Result (List ℕ) FileFault) → old.coming ≡ Some text → EndsReading old new limit ended → new.failed ≡ false → HadMemory ended → IsTooLong ended ↔ (limit < length text) }
 {}
 
+/// What is held of a file that is read in pieces: of a BED file its records or its text, of a FASTA file its bases.
+pub trait HoldsFile<A: Allocator + Copy>: Sized + Drop {
+    /// What is held of a file of which some bytes were read.
+    type Reading: Drop;
+
+    /// It is held so once these bytes are read of a file on this genome, which may have so many records.
+    ghost holds_front: { Sequences → ℕ → List ℕ → Self.Reading → Type 0 };
+    /// It is held so of a whole text on this genome. Without a record it has this width, and it may have so many records.
+    ghost is_of: { Sequences → ℕ → ℕ → List ℕ → Self → Type 0 };
+    /// The records that are held are on this genome, and not more than so many.
+    ghost is_on: { Sequences → ℕ → Self → Type 0 };
+    /// A file has fewer bytes than this.
+    ghost bound: { ℕ };
+
+    /// No byte was read.
+    fn begin(alloc: A) -> Self::Reading
+        ensures { (genome : Sequences) (limit : ℕ) → holds_front genome limit [] result };
+
+    /// Takes the next bytes.
+    fn take(
+        reading: Self::Reading,
+        genome: &Genome<A>,
+        limit: u32,
+        piece: &[u8],
+    ) -> Result<Self::Reading, FileFault>
+        requires { (front : List ℕ) × holds_front genome.now limit front reading × (length front + length piece.now < bound) }
+        ensures ok { IfOk result (λ next. (front : List ℕ) → holds_front genome.now limit front reading → holds_front genome.now limit (front ++ piece.now) next) }
+        ensures err { IfErr result (λ why. why ≡ fault.Memory) };
+
+    /// What is held of the whole file, once all its bytes have come. Without a record it has the width that is handed in.
+    fn finish(reading: Self::Reading, genome: &Genome<A>, empty_width: u8, limit: u32) -> Self
+        requires width { IsWidth empty_width }
+        requires held { (front : List ℕ) × holds_front genome.now limit front reading × (length front < bound) }
+        ensures says { (text : List ℕ) → holds_front genome.now limit text reading → is_of genome.now empty_width limit text result }
+        ensures is_on { is_on genome.now limit result };
+
+    /// Files of up to 4 GiB are held.
+    ghost bound_is: { (2 ^ 32 ≤ bound) × (bound ≤ 2 ^ 63) };
+}
+
+/// A file on this genome, read from a source to its end, at most `most` bytes. A BED file may have at most `limit` records.
+///
+/// After a fault of the file no more of it is looked at, but it is read to its end.
+pub(crate) fn read_bed<H: HoldsFile<A>, A: Allocator + Copy, R: Source>(
+    alloc: A,
+    genome: &Genome<A>,
+    empty_width: u8,
+    limit: u32,
+    source: &mut R,
+    most: u64,
+) -> Result<H, FileFault>
+    requires width { IsWidth empty_width }
+    requires most { most < H.bound }
+    ensures ok { IfOk result (λ held. (text : List ℕ) × ReadsWhole (R.state source.old) (R.state source.new) most text × H.is_of genome.now empty_width limit text held) }
+    ensures is_on { IfOk result (H.is_on genome.now limit) }
+    ensures err { IfErr result (λ why. StopsReading (R.state source.old) (R.state source.new) most why) }
+{
+    let mut reading = H::begin(alloc);
+    let mut piece = [0u8; 262_144];
+    let mut count: u64 = 0;
+    'pieces: loop {
+        let n = source.pull(&mut piece)?;
+        if n == 0 {
+            return Ok(H::finish(reading, genome, empty_width, limit));
+        }
+        if n as u64 > most - count {
+            return Err(FileFault::TooLong);
+        }
+        count += n as u64;
+        reading = H::take(reading, genome, limit, &piece[..n])?;
+    }
+}
+
+/// A BED file of which each record is held as a `K`, or its first fault.
+pub type HeldRecords<K, A> = Result<ParsedFile<K, A>, LoadFault>;
+
 /// What is held of the records of a BED file, and how many columns each of them has.
 #[derive(Drop)]
 pub struct ParsedFile<K: FromRecord<A>, A: Allocator + Copy = Global> {
@@ -87,19 +159,6 @@ impl<K: FromRecord<A>, A: Allocator + Copy> Model for ParsedFile<K, A> {
     ghost view = { λ f. record { width = f.width; rows = map K.as_record f.kept } };
 
     ghost invariant = { λ f. IsWidth f.width };
-}
-
-impl<K: FromRecord<A>, A: Allocator + Copy> ParsedFile<K, A> {
-    /// A file without a record.
-    pub(crate) fn empty(alloc: A, width: u8) -> Self
-        requires { IsWidth width }
-        ensures { result ≡ record { width = width; rows = [] } }
-    {
-        ParsedFile {
-            width,
-            kept: Batches::new(alloc),
-        }
-    }
 }
 
 impl<A: Allocator + Copy> ParsedFile<Record<A>, A> {
@@ -164,8 +223,8 @@ pub(crate) fn finish<K: FromRecord<A>, A: Allocator + Copy>(
     requires width { IsWidth empty_width }
     requires sound { IfOk so_far (λ d. AreSound K.projected genome.now limit d.read) }
     requires few { IfOk so_far (λ d. size_of d < 2 ^ 64) }
-    ensures says { (text : List ℕ) → SaysSoFar K.projected genome.now limit text so_far → IsAnswer result (projected_bed_of K.projected genome.now empty_width limit text) }
-    ensures kept { IfOk result (AreProjected K.projected genome.now limit) }
+    ensures says { (text : List ℕ) → SaysSoFar K.projected genome.now limit text so_far → IsParsed K.projected genome.now empty_width limit text result }
+    ensures is_on { IsOn K.projected genome.now limit result }
 {
     let (width, kept) = so_far?.finish(genome, empty_width, limit)?;
     Ok(ParsedFile { width, kept })
@@ -180,69 +239,40 @@ pub(crate) fn parse_bed<K: FromRecord<A>, A: Allocator + Copy>(
     text: &[u8],
 ) -> Result<ParsedFile<K, A>, LoadFault>
     requires { IsWidth empty_width }
-    ensures says { IsAnswer result (projected_bed_of K.projected genome.now empty_width limit text.now) }
-    ensures kept { IfOk result (AreProjected K.projected genome.now limit) }
+    ensures says { IsParsed K.projected genome.now empty_width limit text.now result }
+    ensures is_on { IsOn K.projected genome.now limit result }
 {
     let said = take_next(genome, limit, Ok(BedReader::new(alloc)), text);
     finish(said, genome, empty_width, limit)
 }
 
-/// A BED file on this genome, read from a source to its end, at most `most` bytes. It may have at most `limit` records.
-///
-/// After a fault of the file no more of it is looked at, but it is read to its end.
-pub(crate) fn read_bed<K: FromRecord<A>, A: Allocator + Copy, R: Source>(
-    alloc: A,
-    genome: &Genome<A>,
-    empty_width: u8,
-    limit: u32,
-    source: &mut R,
-    most: u64,
-) -> Result<Result<ParsedFile<K, A>, LoadFault>, FileFault>
-    requires width { IsWidth empty_width }
-    requires most { most < 2 ^ 63 }
-    ensures ok { IfOk result (λ said. (text : List ℕ) × ReadsWhole (R.state source.old) (R.state source.new) most text × IsAnswer said (projected_bed_of K.projected genome.now empty_width limit text)) }
-    ensures kept { IfOk result (λ said. IfOk said (AreProjected K.projected genome.now limit)) }
-    ensures err { IfErr result (λ fault. StopsReading (R.state source.old) (R.state source.new) most fault) }
-{
-    let mut so_far = Ok(BedReader::new(alloc));
-    let mut piece = [0u8; 262_144];
-    let mut count: u64 = 0;
-    'pieces: loop {
-        let n = source.pull(&mut piece)?;
-        if n == 0 {
-            return Ok(finish(so_far, genome, empty_width, limit));
-        }
-        if n as u64 > most - count {
-            return Err(FileFault::TooLong);
-        }
-        count += n as u64;
-        so_far = take_next(genome, limit, so_far, &piece[..n]);
-    }
-}
+impl<K: FromRecord<A>, A: Allocator + Copy> HoldsFile<A> for HeldRecords<K, A> {
+    type Reading = Result<BedReader<K, A>, LoadFault>;
 
-/// The value of a file, or its fault, with the slot of the file.
-pub(crate) fn in_slot<T: Drop>(slot: Slot, said: Result<T, LoadFault>) -> Result<T, CliFault>
-    ensures ok { IfOk result (λ value. said ≡ Ok value) }
-    ensures err { IfErr result (λ fault. (why : LoadFault) × (said ≡ Err why) × (fault ≡ damage_of slot why)) }
-{
-    match said {
-        Ok(value) => Ok(value),
-        Err(fault) => Err(CliFault::from((slot, fault))),
-    }
-}
+    ghost holds_front = { λ genome limit front reading. SaysSoFar K.projected genome limit front reading };
 
-/// The FASTA file, if there is one, or its first fault.
-pub(crate) fn parse_fasta<A: Allocator + Copy>(
-    alloc: A,
-    genome: &Genome<A>,
-    text: Option<Vec<u8, A>>,
-) -> Result<Option<Fasta<A>>, LoadFault>
-    ensures ok { IfOk result (λ fasta. bases_said genome.now (option_map (λ bytes. bytes.items) text) ≡ Ok fasta) }
-    ensures err { IfErr result (λ fault. (fault ≡ record { line = 0; cause = cause.Memory }) ⊎
-        (bases_said genome.now (option_map (λ bytes. bytes.items) text) ≡ Err fault)) }
-{
-    match text {
-        None => Ok(None),
-        Some(text) => Ok(Some(Fasta::parse(alloc, genome, text)?)),
+    ghost is_of = { IsParsed K.projected };
+
+    ghost is_on = { IsOn K.projected };
+
+    ghost bound = { 2 ^ 63 };
+
+    ghost bound_is = { (omega arith, omega arith) };
+
+    fn begin(alloc: A) -> Self::Reading {
+        Ok(BedReader::new(alloc))
+    }
+
+    fn take(
+        reading: Self::Reading,
+        genome: &Genome<A>,
+        limit: u32,
+        piece: &[u8],
+    ) -> Result<Self::Reading, FileFault> {
+        Ok(take_next(genome, limit, reading, piece))
+    }
+
+    fn finish(reading: Self::Reading, genome: &Genome<A>, empty_width: u8, limit: u32) -> Self {
+        finish(reading, genome, empty_width, limit)
     }
 }

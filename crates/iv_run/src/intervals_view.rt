@@ -1,6 +1,5 @@
 //! The views whose rows depend only on the intervals of records, and their print.
 ghost use Rattle.std.specs.Prelude.{◌≡◌, ℕ, All, List, Option, Err, None, IfSome};
-ghost use Rattle.std.specs.Option.{option_map};
 ghost use Rattle.iv_text.specs.Ordered.{AreInOrder, ordered};
 ghost use Rattle.iv_text.specs.Read.{IsOnGenome};
 ghost use Rattle.iv_index.specs.Locators.{bare};
@@ -10,12 +9,13 @@ ghost use Rattle.iv_run.specs.IntervalsViews.{AskForIntervals, IsViewOf};
 ghost use Rattle.iv_run.specs.Inside.IntervalsViews.{AskForColumns, NeedsColumns};
 ghost use Rattle.iv_run.specs.Inside.Prints.{Prints};
 ghost use Rattle.iv_run.specs.Shots.{Shows, shown};
-ghost use Rattle.iv_run.specs.SoFar.{SaysSecond};
+ghost use Rattle.iv_run.specs.RunFiles.{AreOf, IsParsed};
 ghost use Rattle.iv_view.specs.Views.{kept_text};
 ghost use Rattle.iv_view.specs.declared.view.KeptView.{KeptView};
 
 use crate::fault::CliFault;
-use crate::loading::{LoadedFiles, Loading};
+use crate::input_files::HeldRecords;
+use crate::run_files::{LoadedFiles, RunFiles};
 use iv_args::Plan;
 use iv_blocks::{put_complement, put_merge};
 use iv_bytes::{Buffered, Sink};
@@ -136,23 +136,17 @@ fn print_files<A: Allocator + Copy, S: Sink>(
     view.print(alloc, spans.as_slice(), &genome, sink)
 }
 
-impl<A: Allocator + Copy> Loading<Span, A> {
-    /// Prints a view of the first file, once the BED files are read: all of its text, and nothing else. `bases` are the bytes of
-    /// the FASTA file, if there is one.
+impl<A: Allocator + Copy> RunFiles<HeldRecords<Span, A>, A> {
+    /// Prints a view of the first file: all of its text, and nothing else.
     ///
     /// # Errors
     ///
     /// The fault of the first damaged file, or `Memory`: then nothing was printed. `Output`, and then a prefix was.
-    pub fn print<S: Sink>(
-        self,
-        view: IntervalsView,
-        bases: Option<Vec<u8, A>>,
-        sink: &mut S,
-    ) -> Result<(), CliFault>
-        ensures { (plan : RunPlan) (sizes text : List ℕ) (other : Option (List ℕ)) → AskForIntervals plan.view view → self.width ≡ plan.width → SaysSecond bare sizes text other self
-            → Shows (S.state sink.old) (S.state sink.new) result (shown plan sizes text other (option_map (λ text. text.items) bases) self.limit) }
+    pub fn print<S: Sink>(self, view: IntervalsView, sink: &mut S) -> Result<(), CliFault>
+        ensures { (plan : RunPlan) (sizes first : List ℕ) (second fasta_text : Option (List ℕ)) → AskForIntervals plan.view view → self.on.width ≡ plan.width
+            → AreOf (IsParsed bare) sizes first second fasta_text self → Shows (S.state sink.old) (S.state sink.new) result (shown plan sizes first second fasta_text self.on.limit) }
     {
-        let files = self.finish(bases)?;
+        let files = self.finish()?;
         print_files(view, files, sink)
     }
 }

@@ -3,14 +3,16 @@
 
 mod fault;
 mod held_bed;
+mod held_fasta;
 mod input_files;
 mod intervals_view;
-mod loading;
 mod one_shot;
+mod run_files;
 
 pub use fault::{CliFault, FileFault};
-pub use held_bed::{HeldBed, HeldFiles};
-pub use input_files::{ParsedFile, read_all, too_long_above_the_limit};
+pub use held_bed::HeldBed;
+pub use held_fasta::HeldFasta;
+pub use input_files::{HeldRecords, HoldsFile, ParsedFile, read_all, too_long_above_the_limit};
 pub use intervals_view::IntervalsView;
-pub use loading::{Inputs, LoadedFiles, Loading, hold_source};
 pub use one_shot::{shot, shot_of_held};
+pub use run_files::{Inputs, LoadedFiles, RunFiles, RunGenome};

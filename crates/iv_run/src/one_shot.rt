@@ -12,21 +12,22 @@ ghost use Rattle.iv_pair.specs.CoverAlone.{DependsOnCoverAlone, HaveBases};
 ghost use Rattle.iv_pair.specs.PairRows.{pair_text};
 ghost use Rattle.iv_view.specs.Inside.Texts.{records_text};
 ghost use Rattle.iv_view.specs.Views.{kept_text};
-ghost use Rattle.iv_run.specs.Loading.{IsAnswer, IsReport, parsed, second_of};
-ghost use Rattle.iv_run.specs.SoFar.{SaysSizes};
-ghost use Rattle.iv_run.specs.Inside.Held.{AreIntervals, IsHeld, IsHeldIfNamed};
+ghost use Rattle.iv_run.specs.Loading.{IsAnswer, IsReport, parsed};
+ghost use Rattle.iv_run.specs.RunFiles.{AreOf, IsFasta, IsIfNamed, IsGenomeOf};
+ghost use Rattle.iv_run.specs.Inside.Held.{AreIntervals, IsHeld};
 ghost use Rattle.iv_text.specs.GenomeFile.{genome_of};
 ghost use Rattle.iv_run.specs.Inside.IntervalsViews.{AskForColumns, NeedsColumns};
 ghost use Rattle.iv_run.specs.Inside.Prints.{Prints};
-ghost use Rattle.iv_run.specs.Inside.Shots.{ordered_other, text_beside, view_beside};
+ghost use Rattle.iv_run.specs.Inside.Shots.{ordered_other, second_of, text_beside, view_beside};
 ghost use Rattle.iv_run.specs.Shots.{Shows, shown};
 ghost use Rattle.iv_text.specs.Widths.{IsWidth};
 
 use crate::fault::CliFault;
-use crate::held_bed::{HeldBed, HeldFiles, LentBed};
-use crate::input_files::{in_slot, parse_fasta};
+use crate::held_bed::{HeldBed, LentBed};
+use crate::held_fasta::HeldFasta;
+use crate::input_files::HeldRecords;
 use crate::intervals_view::IntervalsView;
-use crate::loading::{Inputs, Loading};
+use crate::run_files::{Inputs, RunFiles, RunGenome, in_slot};
 use iv_args::{Plan, Slot};
 use iv_blocks::{MergeSweep, put_cluster};
 use iv_bytes::{Buffered, Sink, WriteFault};
@@ -71,7 +72,7 @@ fn second_records<'t, A: Allocator + Copy>(
 ) -> Result<Option<BedText<'t, A>>, LoadFault>
     requires width { IsWidth width }
     requires intervals { IfSome held (AreIntervals genome.now) }
-    ensures { (text : Option (List ℕ)) → IsHeldIfNamed genome.now width limit text held.entry → IsAnswer result (second_of genome.now width limit text) }
+    ensures { (text : Option (List ℕ)) → IsIfNamed (IsHeld genome.now width limit) text held.entry → IsAnswer result (second_of genome.now width limit text) }
 {
     match held {
         None => Ok(None),
@@ -99,13 +100,13 @@ impl<'t, A: Allocator + Copy> TextFiles<'t, A> {
         limit: u32,
         first: LentBed<'t, A>,
         second: Option<LentBed<'t, A>>,
-        bases: Option<Vec<u8, A>>,
+        fasta: Option<HeldFasta<A>>,
     ) -> Result<TextFiles<'t, A>, CliFault>
         requires width { IsWidth empty_width }
         requires first { AreIntervals genome first }
         requires second { IfSome second (AreIntervals genome) }
-        ensures { (sizes text : List ℕ) (other : Option (List ℕ)) → genome_of sizes ≡ Ok genome → IsHeld genome empty_width limit text first.entry → IsHeldIfNamed genome empty_width limit other second.entry
-            → IsReport result (parsed empty_width sizes text other (option_map (λ bytes. bytes.items) bases) limit) }
+        ensures { (sizes text : List ℕ) (other bases : Option (List ℕ)) → genome_of sizes ≡ Ok genome → IsHeld genome empty_width limit text first.entry → IsIfNamed (IsHeld genome empty_width limit) other second.entry
+            → IsIfNamed (IsFasta genome) bases fasta → IsReport result (parsed empty_width sizes text other bases limit) }
     {
         let first = in_slot(
             Slot::First,
@@ -115,7 +116,7 @@ impl<'t, A: Allocator + Copy> TextFiles<'t, A> {
             Slot::Other,
             second_records(alloc, &genome, empty_width, limit, second),
         )?;
-        let fasta = in_slot(Slot::Bases, parse_fasta(alloc, &genome, bases))?;
+        let fasta = in_slot(Slot::Bases, fasta.transpose())?;
         Ok(TextFiles {
             genome,
             first,
@@ -369,26 +370,26 @@ fn print_files<A: Allocator + Copy, S: Sink>(
     Ok(())
 }
 
-/// Prints a view that needs the columns of records, once the genome file is read, of BED files whose texts are lent.
+/// Prints a view that needs the columns of records, of BED files whose texts are lent.
 fn shot_of_lent<'t, A: Allocator + Copy, S: Sink>(
     alloc: A,
     plan: &Plan<'_, A>,
-    loading: Loading<Locator, A>,
+    on: RunGenome<A>,
     first: LentBed<'t, A>,
     second: Option<LentBed<'t, A>>,
-    bases: Option<Vec<u8, A>>,
+    fasta: Option<HeldFasta<A>>,
     limit: u32,
     sink: &mut S,
 ) -> Result<(), CliFault>
     requires columns { AskForColumns plan.now.view }
-    requires first { AreIntervals loading.genome first }
-    requires second { IfSome second (AreIntervals loading.genome) }
-    ensures { (sizes text : List ℕ) (other : Option (List ℕ)) → SaysSizes sizes loading → loading.width ≡ plan.now.width → loading.limit ≡ limit
-        → IsHeld loading.genome plan.now.width limit text first.entry → IsHeldIfNamed loading.genome plan.now.width limit other second.entry
-        → Shows (S.state sink.old) (S.state sink.new) result (shown plan.now sizes text other (option_map (λ bytes. bytes.items) bases) limit) }
+    requires first { AreIntervals on.genome first }
+    requires second { IfSome second (AreIntervals on.genome) }
+    ensures { (sizes text : List ℕ) (other bases : Option (List ℕ)) → IsGenomeOf sizes on → on.width ≡ plan.now.width → on.limit ≡ limit
+        → IsHeld on.genome plan.now.width limit text first.entry → IsIfNamed (IsHeld on.genome plan.now.width limit) other second.entry → IsIfNamed (IsFasta on.genome) bases fasta
+        → Shows (S.state sink.old) (S.state sink.new) result (shown plan.now sizes text other bases limit) }
 {
-    let genome = loading.into_genome()?;
-    let files = TextFiles::on(alloc, genome, plan.width(), limit, first, second, bases)?;
+    let genome = on.into_genome()?;
+    let files = TextFiles::on(alloc, genome, plan.width(), limit, first, second, fasta)?;
     print_files(alloc, plan, files, sink)
 }
 
@@ -410,33 +411,22 @@ fn lend_second<A: Allocator + Copy>(held: &mut Option<HeldBed<A>>) -> Option<Len
 pub fn shot_of_held<A: Allocator + Copy, S: Sink>(
     alloc: A,
     plan: &Plan<'_, A>,
-    files: HeldFiles<A>,
+    files: RunFiles<HeldBed<A>, A>,
     sink: &mut S,
 ) -> Result<(), CliFault>
     requires columns { AskForColumns plan.now.view }
-    requires first { AreIntervals files.loading.genome files.first }
-    requires second { IfSome files.second (AreIntervals files.loading.genome) }
-    ensures { (sizes text : List ℕ) (other : Option (List ℕ)) → SaysSizes sizes files.loading → files.loading.width ≡ plan.now.width → files.loading.limit ≡ plan.now.limit
-        → IsHeld files.loading.genome plan.now.width plan.now.limit text files.first → IsHeldIfNamed files.loading.genome plan.now.width plan.now.limit other files.second
-        → Shows (S.state sink.old) (S.state sink.new) result (shown plan.now sizes text other (option_map (λ bytes. bytes.items) files.bases) plan.now.limit) }
+    ensures { (sizes first : List ℕ) (second fasta_text : Option (List ℕ)) → files.on.width ≡ plan.now.width → files.on.limit ≡ plan.now.limit → AreOf IsHeld sizes first second fasta_text files
+        → Shows (S.state sink.old) (S.state sink.new) result (shown plan.now sizes first second fasta_text plan.now.limit) }
 {
-    let HeldFiles {
-        loading,
+    let RunFiles {
+        on,
         mut first,
         mut second,
-        bases,
+        fasta,
     } = files;
-    let other = lend_second(&mut second);
-    shot_of_lent(
-        alloc,
-        plan,
-        loading,
-        first.lend(),
-        other,
-        bases,
-        plan.limit(),
-        sink,
-    )
+    let second = lend_second(&mut second);
+    let limit = plan.limit();
+    shot_of_lent(alloc, plan, on, first.lend(), second, fasta, limit, sink)
 }
 
 /// Prints what the plan's subcommand shows of the files, given their bytes: all of it, and nothing else.
@@ -463,11 +453,14 @@ pub fn shot<A: Allocator + Copy, S: Sink>(
         (shown plan.now inputs.now.sizes.now inputs.now.first.now (option_copied inputs.now.other) (option_map (λ text. text.items) bases) limit) }
 {
     if let Some(view) = IntervalsView::of_plan(plan) {
-        let loading: Loading<Span, A> = Loading::of_inputs(alloc, plan, inputs, limit);
-        return loading.print(view, bases, sink);
+        let files: RunFiles<HeldRecords<Span, A>, A> = RunFiles::of_inputs(
+            alloc, plan, inputs, bases, limit,
+        );
+        return files.print(view, sink);
     }
-    let loading = Loading::begin(alloc, plan, inputs.sizes, limit);
+    let on = RunGenome::begin(alloc, plan, inputs.sizes, limit);
     let first = LentBed::of_text(inputs.first);
     let second = lent_second(inputs.other);
-    shot_of_lent(alloc, plan, loading, first, second, bases, limit, sink)
+    let fasta = on.parse_fasta(bases);
+    shot_of_lent(alloc, plan, on, first, second, fasta, limit, sink)
 }

@@ -3,7 +3,7 @@ use crate::shot_fixtures::GENOME;
 use iv_args::{Plan, Slot};
 use iv_bytes::{MemSink, MemSource, Source};
 use iv_index::Span;
-use iv_run::{CliFault, FileFault, IntervalsView, Loading};
+use iv_run::{CliFault, FileFault, HeldRecords, IntervalsView, RunFiles, RunGenome};
 use iv_text::{LoadCause, LoadFault};
 use std::alloc::Allocator;
 use std::test::Fail;
@@ -63,11 +63,17 @@ pub(crate) fn run_over<A: Allocator + Copy, S: Source>(
     let Some(view) = IntervalsView::of_plan(plan) else {
         return Err(Fail::new("a view of more than places"));
     };
-    let mut loading: Loading<Span, A> = Loading::begin(alloc, plan, setting.sizes, setting.records);
-    match loading.read(source, u64::from(setting.bytes)) {
-        Ok(said) => {
-            loading.take_first(said);
-            Ok(Ok(loading.print(view, None, sink)))
+    let on = RunGenome::begin(alloc, plan, setting.sizes, setting.records);
+    let first: Result<HeldRecords<Span, A>, FileFault> = on.read(source, u64::from(setting.bytes));
+    match first {
+        Ok(first) => {
+            let files = RunFiles {
+                on,
+                first,
+                second: None,
+                fasta: None,
+            };
+            Ok(Ok(files.print(view, sink)))
         }
         Err(fault) => Ok(Err(fault)),
     }

@@ -1,13 +1,13 @@
 //! Sessions whose BED files come in pieces.
-ghost use Rattle.std.specs.Prelude.{◌≤◌};
-ghost use Rattle.iv_run.specs.SoFar.{IsOfOneRun};
+ghost use Rattle.std.specs.Prelude.{◌≤◌, IfOk, IfSome};
+ghost use Rattle.iv_run.specs.RunFiles.{IsOn};
 
 use crate::piece_fixtures::{damage, plan_of};
 use crate::shot_fixtures::GENOME;
 use iv_args::{Plan, Slot};
 use iv_bytes::MemSource;
 use iv_cli::begin_session;
-use iv_run::{CliFault, FileFault, Inputs, Loading};
+use iv_run::{CliFault, FileFault, HeldFasta, HeldRecords, Inputs, RunFiles, RunGenome};
 use iv_text::{LoadCause, Record, RecordFault};
 use iv_workspace::Session;
 use std::alloc::Allocator;
@@ -28,21 +28,43 @@ pub(crate) const WHOLE: Pieces = Pieces {
     most: 10_000,
 };
 
-/// Reads the second file, if there is one.
+/// What is held of a file that comes so.
+fn read_pieces<A: Allocator + Copy>(
+    on: &RunGenome<A>,
+    text: &[u8],
+    pieces: Pieces,
+) -> Result<HeldRecords<Record<A>, A>, FileFault>
+    ensures { IfOk result (IsOn (λ r. r) on.now.genome on.now.limit) }
+{
+    let mut source = MemSource::new(text, pieces.good, pieces.piece.max(1));
+    on.read(&mut source, u64::from(pieces.most))
+}
+
+/// What is held of the second file, if there is one.
 fn read_second<A: Allocator + Copy>(
-    loading: &mut Loading<Record<A>, A>,
+    on: &RunGenome<A>,
     text: Option<&[u8]>,
     pieces: Pieces,
-) -> Result<(), FileFault>
-    ensures { IsOfOneRun loading.old loading.new }
+) -> Result<Option<HeldRecords<Record<A>, A>>, FileFault>
+    ensures { IfOk result (λ held. IfSome held (IsOn (λ r. r) on.now.genome on.now.limit)) }
 {
+    match text {
+        Some(text) => Ok(Some(read_pieces(on, text, pieces)?)),
+        None => Ok(None),
+    }
+}
+
+/// What is held of the FASTA file, if there is one. It comes in pieces of three bytes.
+fn read_fasta<A: Allocator + Copy>(
+    on: &RunGenome<A>,
+    text: Option<Vec<u8, A>>,
+) -> Result<Option<HeldFasta<A>>, FileFault> {
     let Some(text) = text else {
-        return Ok(());
+        return Ok(None);
     };
-    let mut source = MemSource::new(text, pieces.good, pieces.piece.max(1));
-    let said = loading.read(&mut source, u64::from(pieces.most))?;
-    loading.take_second(said);
-    Ok(())
+    let mut source = MemSource::new(text.as_slice(), WHOLE.good, WHOLE.piece);
+    let held: HeldFasta<A> = on.read(&mut source, u64::from(WHOLE.most))?;
+    Ok(Some(held))
 }
 
 /// The session of a plan's files, of which the first one and the second one come in pieces.
@@ -56,13 +78,16 @@ pub(crate) fn load_in_pieces<A: Allocator + Copy>(
 ) -> Result<Result<Session<A>, CliFault>, FileFault>
     requires { limit ≤ 4000000 }
 {
-    let mut loading: Loading<Record<A>, A> = Loading::begin(alloc, plan, inputs.sizes, limit);
-    let [first, second] = pieces;
-    let mut source = MemSource::new(inputs.first, first.good, first.piece.max(1));
-    let said = loading.read(&mut source, u64::from(first.most))?;
-    loading.take_first(said);
-    read_second(&mut loading, inputs.other, second)?;
-    Ok(begin_session(loading, bases))
+    let on = RunGenome::begin(alloc, plan, inputs.sizes, limit);
+    let first = read_pieces(&on, inputs.first, pieces[0])?;
+    let second = read_second(&on, inputs.other, pieces[1])?;
+    let fasta = read_fasta(&on, bases)?;
+    Ok(begin_session(RunFiles {
+        on,
+        first,
+        second,
+        fasta,
+    }))
 }
 
 /// A genome file whose only line is damaged.

@@ -1,5 +1,5 @@
 //! Runs that ask for memory, each of whose allocations is refused in turn.
-use crate::fasta_refusals::{refused_bases, refused_damage};
+use crate::fasta_refusals::{refused_bases, refused_damage, refused_in_pieces};
 use crate::refused_edits::refused_from_nothing;
 use crate::second_refusals::refused_second;
 use std::alloc::Global;
@@ -11,6 +11,8 @@ use test_faults::{RefusesNth, refuse_each};
 pub(crate) enum Run<'t> {
     /// Reads a FASTA file.
     Bases(&'t [u8]),
+    /// Reads a FASTA file that comes in pieces.
+    Pieces(&'t [u8]),
     /// Reads a FASTA file with a fault.
     Damage,
     /// Makes a second file of a BED file.
@@ -23,6 +25,7 @@ pub(crate) enum Run<'t> {
 fn refused(rt: &HostRuntime, alloc: &RefusesNth<Global>, run: Run<'_>) -> Result<u32, Fail> {
     match run {
         Run::Bases(text) => refused_bases(rt, alloc, text),
+        Run::Pieces(text) => refused_in_pieces(rt, alloc, text),
         Run::Damage => refused_damage(rt, alloc),
         Run::Second(text) => refused_second(alloc, text),
         Run::Edits => refused_from_nothing(rt, alloc),

@@ -1,6 +1,7 @@
 //! Each allocation for a FASTA file, refused in turn.
 use crate::allocations::{Run, allocations};
 use crate::fasta_fixtures::{SIZES, fasta_of, says};
+use crate::fasta_pieces::in_pieces;
 use iv_text::{Genome, LoadCause, LoadFault};
 use std::alloc::Global;
 use std::test::Fail;
@@ -33,7 +34,40 @@ fn refused_beside<'a>(
     }
 }
 
+/// The same if it comes in pieces that cut lines and headers.
+fn refused_in_pieces_beside<'a>(
+    alloc: &'a RefusesNth<Global>,
+    genome: &Genome<&'a RefusesNth<Global>>,
+    text: &[u8],
+) -> Result<u32, Fail> {
+    match in_pieces(alloc, genome, None, text, 7) {
+        Ok(fasta) if says(&fasta, [Some(b"ACGTNacgtR"), Some(b"TTTTA"), None]) => Ok(0),
+        Ok(_) => Err(Fail::new("other bases")),
+        Err(fault) => memory_of(fault),
+    }
+}
+
 /// The same if a genome is read too.
+fn refused_in_pieces_over<'a>(
+    granting: &'a RefusesNth<Global>,
+    alloc: &'a RefusesNth<Global>,
+    text: &[u8],
+) -> Result<u32, Fail> {
+    let genome = Genome::parse(granting, SIZES)?;
+    refused_in_pieces_beside(alloc, &genome, text)
+}
+
+/// The same, if all allocations of the genome are granted.
+pub(crate) fn refused_in_pieces(
+    rt: &HostRuntime,
+    alloc: &RefusesNth<Global>,
+    text: &[u8],
+) -> Result<u32, Fail> {
+    let granting = RefusesNth::new(rt.alloc(), u64::MAX);
+    refused_in_pieces_over(&granting, alloc, text)
+}
+
+/// The same of a file in one piece if a genome is read too.
 fn refused_over<'a>(
     granting: &'a RefusesNth<Global>,
     alloc: &'a RefusesNth<Global>,
@@ -70,6 +104,7 @@ fn memory_of(fault: LoadFault) -> Result<u32, Fail> {
 fn each_growth_refused_in_turn(rt: HostRuntime) -> Result<(), Fail> {
     let text = lines(&rt)?;
     assert!(rt; COUNT < allocations(&rt, Run::Bases(text.as_bytes()))?);
+    assert!(rt; COUNT < allocations(&rt, Run::Pieces(text.as_bytes()))?);
     Ok(())
 }
 

@@ -14,6 +14,8 @@ mod fasta_files;
 #[cfg(test)]
 mod fasta_fixtures;
 #[cfg(test)]
+mod fasta_pieces;
+#[cfg(test)]
 mod fasta_prints;
 #[cfg(test)]
 mod fasta_refusals;

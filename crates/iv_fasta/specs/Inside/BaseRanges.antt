@@ -2,7 +2,7 @@
 use Rattle.std.specs.Prelude.{◌≤◌, ℕ, List, Option, IfSome, map, slice_range}
 use Rattle.std.specs.Option.{option_map}
 use Rattle.iv_fasta.specs.Fasta.{Bases}
-use Rattle.iv_fasta.specs.declared.fasta_draft.BaseRange.{BaseRange}
+use Rattle.iv_fasta.specs.declared.held_sequences.BaseRange.{BaseRange}
 
 -- the bases in a range
 abbrev pub bases_at : List ℕ → BaseRange → List ℕ

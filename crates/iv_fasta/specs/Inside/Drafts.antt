@@ -1,5 +1,5 @@
--- What is held of a FASTA file while it is read: the bases of the sequences that the genome names, all in one list.
-use Rattle.std.specs.Prelude.{◌≤◌, ℕ, ◌++◌, ◌==◌, Bool, cond, List, [], ◌∷◌, Option, None, Some, Result, Ok, Err, length, slice_range}
+-- What is held of a FASTA file while it is read: the bases of the sequences that are held, all in one list.
+use Rattle.std.specs.Prelude.{◌≡◌, ◌≢◌, ◌≤◌, ◌<◌, ℕ, ◌+◌, ◌-◌, ◌++◌, ◌==◌, ◌&&◌, Bool, true, false, not, cond, List, [], ◌∷◌, Option, None, Some, Result, Ok, Err, length, drop, slice_range, slice_index}
 use Rattle.std.specs.List.{list_any}
 use Rattle.std.specs.Coded.{×_prop, le_prop}
 use Rattle.std.specs.Option.{is_some}
@@ -7,19 +7,19 @@ use Rattle.iv_text.specs.Chains.{after_all}
 use Rattle.iv_text.specs.Genome.{Sequences}
 use Rattle.iv_text.specs.GenomeFile.{bad_name}
 use Rattle.iv_text.specs.Named.{name_index}
-use Rattle.iv_text.specs.Lines.{begins_with}
-use Rattle.iv_fasta.specs.Fasta.{Stretch, Found, header_sign, header_name, with_bases, after_fasta_line}
+use Rattle.iv_fasta.specs.Fasta.{Found, with_bases, after_fasta_line}
+use Rattle.iv_fasta.specs.FastaReading.{Progress, Summaries, Summary, Wanted, said, with_part}
 use Rattle.iv_fasta.specs.Inside.Fasta.{is_no_base}
 use Rattle.iv_fasta.specs.Inside.BaseRanges.{bases_at}
-use Rattle.iv_fasta.specs.declared.fasta_draft.BaseRange.{BaseRange}
-use Rattle.iv_fasta.specs.declared.fasta_draft.Header.{Header}
+use Rattle.iv_fasta.specs.declared.held_sequences.BaseRange.{BaseRange}
+use Rattle.iv_fasta.specs.declared.held_sequences.Header.{Header}
 use Rattle.iv_text.specs.declared.fault.LoadCause.{LoadCause}
 use Rattle.iv_text.specs.declared.fault.LoadCause.TheVariants as cause
 use Rattle.iv_text.specs.declared.fault.LoadFault.{LoadFault}
 
 -- the sequences with one more, or the fault of its header, which has this number
-abbrev pub with_header : ℕ → Found → List ℕ → Result Found LoadCause
-with_header n found name =
+abbrev pub with_sequence : ℕ → Found → List ℕ → Result Found LoadCause
+with_sequence n found name =
     cond (bad_name name) (Err cause.Name)
     (cond (is_some (name_index found name)) (Err cause.Repeated)
     (Ok (found ++ (name, record { line = n; bases = [] }) ∷ [])))
@@ -35,35 +35,41 @@ with_base_line found line =
 abbrev pub after_fasta_lines : ℕ → Found → List (List ℕ) → Result Found LoadFault
 after_fasta_lines n found lines = after_all after_fasta_line n found lines
 
--- a text that is read: the bases that are held of it, and what remains to be read
-pub record Halves : Type 0 where
-  pub compacted : List ℕ
-  pub coming : List ℕ
-
 -- headers, each under its name, in the order of the file
 abbrev pub NamedHeaders : Type 0
 NamedHeaders = List (List ℕ × Header)
 
--- where the bases of the sequence before these headers end, of so many bases in all
+-- where what a list of headers holds ends, and how many bases were counted there: at the first header, or else at these
 abbrev pub end_before : NamedHeaders → ℕ → ℕ
 end_before [] total = total
 end_before (h ∷ headers) total = h.1.start
 
--- where the bases before a header end, of so many bases in all
+abbrev pub count_before : NamedHeaders → ℕ → ℕ
+count_before [] count = count
+count_before (h ∷ headers) count = h.1.before
+
+-- the same at a header, if there is one
 abbrev pub end_at : Option (List ℕ × Header) → ℕ → ℕ
 end_at None total = total
 end_at (Some h) total = h.1.start
 
--- the sequences of these headers: each has the bases from its start to the next one's
-abbrev pub cut : NamedHeaders → List ℕ → Found
-cut [] bases = []
-cut (h ∷ headers) bases = (h.0, record { line = h.1.line; bases = slice_range bases h.1.start (end_before headers (length bases)) }) ∷ cut headers bases
+abbrev pub count_at : Option (List ℕ × Header) → ℕ → ℕ
+count_at None count = count
+count_at (Some h) count = h.1.before
 
--- the sequence whose header is in this line, and whose bases are in this range
-abbrev pub sequence_at : List ℕ → ℕ → BaseRange → Stretch
-sequence_at bases line place = record { line = line; bases = bases_at bases place }
+-- the sequences of these headers: each holds the bases from its start to the next one's, and has as many as were counted from it to
+-- the next one
+abbrev pub cut : NamedHeaders → List ℕ → ℕ → Summaries
+cut [] bases count = []
+cut (h ∷ headers) bases count =
+    (h.0, record { line = h.1.line; count = count_before headers count - h.1.before; bases = slice_range bases h.1.start (end_before headers (length bases)) })
+    ∷ cut headers bases count
 
--- the headers start in order, from `low` on, and none of them past the bases
+-- the sequence whose header is in this line, which has so many bases, and of which those in this range are held
+abbrev pub sequence_at : List ℕ → ℕ → ℕ → BaseRange → Summary
+sequence_at bases line count place = record { line = line; count = count; bases = bases_at bases place }
+
+-- the headers start in order, from `low` on, and none of them past so many bases
 abbrev pub StartInOrder : ℕ → NamedHeaders → ℕ → Type 0
 StartInOrder low [] total = low ≤ total
 StartInOrder low (h ∷ headers) total = (low ≤ h.1.start) × StartInOrder h.1.start headers total
@@ -72,33 +78,49 @@ pub StartInOrder-prop : (low : ℕ) (headers : NamedHeaders) (total : ℕ) → I
 StartInOrder-prop low [] total = le_prop
 StartInOrder-prop low (h ∷ headers) total = ×_prop le_prop (StartInOrder-prop h.1.start headers total)
 
--- the sequences so far, and whether the genome names the last one
-pub record Draft : Type 0 where
-  pub found : Found
-  pub named : Bool
+-- no more bases were counted before the headers than so many, nor before one of them than before the next
+abbrev pub CountInOrder : ℕ → NamedHeaders → ℕ → Type 0
+CountInOrder low [] count = low ≤ count
+CountInOrder low (h ∷ headers) count = (low ≤ h.1.before) × CountInOrder h.1.before headers count
 
--- the sequences of these headers and bases
-abbrev pub drafted : NamedHeaders → List ℕ → Bool → Draft
-drafted headers bases named = record { found = cut headers bases; named = named }
+pub CountInOrder-prop : (low : ℕ) (headers : NamedHeaders) (count : ℕ) → IsProp (CountInOrder low headers count)
+CountInOrder-prop low [] count = le_prop
+CountInOrder-prop low (h ∷ headers) count = ×_prop le_prop (CountInOrder-prop h.1.before headers count)
 
--- what is held after a header, or its fault
-abbrev pub headed : Sequences → List ℕ → Result Found LoadCause → Result Draft LoadCause
-headed g name (Err c) = Err c
-headed g name (Ok found) = Ok (record { found = found; named = is_some (name_index g name) })
+-- a file of which no byte was read
+abbrev pub begun_with : Wanted → Progress
+begun_with wanted = record { number = 1; is_open = false; wanted = wanted; draft = record { sequences = []; holds = false }; count = 0 }
 
--- what is held after a line of bases, or its first fault: nothing of it if the genome doesn't name the sequence
-abbrev pub with_compacted_line : Draft → List ℕ → Result Draft LoadCause
-with_compacted_line d line =
-    cond (length d.found == 0) (Err cause.BasesFirst)
-    (cond (list_any is_no_base line) (Err cause.Base)
-    (Ok (record { found = with_bases d.found (cond d.named line []); named = d.named })))
+-- bases may not come here, because no header came before
+abbrev pub lacks_a_header : Progress → Bool
+lacks_a_header p = not p.is_open && (length p.draft.sequences == 0)
 
--- what is held after one more line, or its first fault
-unfoldable pub after_compacted_line : Sequences → ℕ → Draft → List ℕ → Result Draft LoadCause
-after_compacted_line g n d line =
-    cond (length line == 0) (Ok d)
-    (cond (begins_with header_sign line) (headed g (header_name line) (with_header n d.found (header_name line))) (with_compacted_line d line))
+-- why a line is refused whose next byte is no base
+abbrev pub refusal_of : Progress → LoadCause
+refusal_of p = cond (lacks_a_header p) cause.BasesFirst cause.Base
 
--- what is held after lines of which the first has the number n, or the first fault
-abbrev pub after_compacted_lines : Sequences → ℕ → Draft → List (List ℕ) → Result Draft LoadFault
-after_compacted_lines g n d lines = after_all (after_compacted_line g) n d lines
+-- a line has ended
+abbrev pub with_line_end : Progress → Progress
+with_line_end p = record { number = p.number + 1; is_open = false; wanted = p.wanted; draft = p.draft; count = p.count }
+
+-- bases of a line were read
+abbrev pub with_bases_read : Progress → List ℕ → Progress
+with_bases_read p bases = record {
+  number = p.number;
+  is_open = true;
+  wanted = p.wanted;
+  draft = record { sequences = with_part p.draft.holds p.draft.sequences bases; holds = p.draft.holds };
+  count = p.count + length bases;
+}
+
+-- the text begins with a byte of a line: neither with the end of one nor with a CR that could be a part of it
+abbrev pub IsInLine : List ℕ → Type 0
+IsInLine text = (0 < length text) × (slice_index text 0 ≢ 10) × (slice_index text 0 ≢ 13)
+
+-- the first so many bytes of a text were read, whatever comes after it, or if it is the last, nothing
+abbrev pub Reads : Sequences → Progress → Progress → List ℕ → ℕ → Bool → Type 0
+Reads g old new text size is_last = (more : List ℕ) → (is_last ≡ true → more ≡ []) → said g old (text ++ more) ≡ said g new (drop size text ++ more)
+
+-- the text has a fault in its first line, and this is its cause
+abbrev pub Refuses : Sequences → Progress → List ℕ → LoadCause → Bool → Type 0
+Refuses g old text c is_last = (more : List ℕ) → (is_last ≡ true → more ≡ []) → said g old (text ++ more) ≡ Err (record { line = old.number; cause = c })

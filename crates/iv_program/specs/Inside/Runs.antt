@@ -1,7 +1,7 @@
 -- What is known of the files of a plan, what their texts mean, and what a run of it does.
 use Rattle.std.specs.Prelude.{◌≡◌, ◌⊎◌, ℕ, Bool, true, false, List, [], Option, Result, Ok, Err, MatchResult}
 use Rattle.iv_bytes.specs.Sinks.{SinkState, Takes, FailsIn, waiting}
-use Rattle.iv_text.specs.RecordValue.{RecordValue}
+use Rattle.iv_text.specs.Genome.{Sequences}
 use Rattle.iv_session.specs.Streams.{Streams}
 use Rattle.iv_session.specs.declared.script.RunFault.{RunFault}
 use Rattle.iv_session.specs.declared.script.Summary.{Summary}
@@ -9,8 +9,7 @@ use Rattle.iv_args.specs.Words.{RunPlan, is_session}
 use Rattle.iv_args.specs.declared.plan.Slot.{Slot}
 use Rattle.iv_args.specs.declared.subcommand.Subcommand.TheVariants as kind
 use Rattle.iv_run.specs.Shots.{Shows, shown}
-use Rattle.iv_run.specs.SoFar.{SaysSecond, SaysSizes, SoFar}
-use Rattle.iv_run.specs.Inside.Held.{Held, IsHeld, IsHeldIfNamed}
+use Rattle.iv_run.specs.RunFiles.{AreOf, FilesRead}
 use Rattle.iv_run.specs.declared.fault.CliFault.{CliFault}
 use Rattle.iv_run.specs.declared.fault.FileFault.{FileFault}
 use Rattle.iv_cli.specs.ExitReasons.{ending_after, ending_of, ending_of_file, is_through, line_of}
@@ -21,22 +20,11 @@ use Rattle.iv_program.specs.Inside.Files.{StopsAt, names_of}
 use Rattle.iv_program.specs.Runs.{World, DoesWith, HasRead, HasNotRead}
 use Rattle.iv_program.specs.Texts.{Texts, AreTexts}
 
--- what is known of the files of a plan is the value of these texts, and the bytes of its FASTA file are those of its text
-pub record Says (projected : RecordValue → RecordValue) (plan : RunPlan) (texts : Texts) (known : SoFar) (bases : Option (List ℕ)) : Type 0 where
-  pub width_is : known.width ≡ plan.width
-  pub limit_is : known.limit ≡ plan.limit
-  pub known_is : SaysSecond projected texts.sizes texts.first texts.other known
-  pub bases_are : bases ≡ texts.bases
-
--- what is known of the genome file of a plan and held of its BED files is that of these texts, and the bytes of its FASTA file are those of
--- its text
-pub record SaysHeld (plan : RunPlan) (texts : Texts) (known : SoFar) (first : Held) (second : Option Held) (bases : Option (List ℕ)) : Type 0 where
-  pub width_is : known.width ≡ plan.width
-  pub limit_is : known.limit ≡ plan.limit
-  pub sizes_is : SaysSizes texts.sizes known
-  pub first_is : IsHeld known.genome plan.width plan.limit texts.first first
-  pub second_is : IsHeldIfNamed known.genome plan.width plan.limit texts.other second
-  pub bases_are : bases ≡ texts.bases
+-- the files of a plan, once they are read, are those of these texts, if what is held of a BED file is so of its text
+pub record HasTexts {H : Type 0} (is_of : Sequences → ℕ → ℕ → List ℕ → H → Type 0) (plan : RunPlan) (texts : Texts) (files : FilesRead H) : Type 0 where
+  pub width_is : files.on.width ≡ plan.width
+  pub limit_is : files.on.limit ≡ plan.limit
+  pub are : AreOf is_of texts.sizes texts.first texts.other texts.bases files
 
 -- the view of a plan was printed for its texts, or its first fault is reported
 abbrev pub PrintsView : RunPlan → Texts → SinkState → SinkState → ExitReason → Type 0

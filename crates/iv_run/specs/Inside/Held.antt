@@ -6,7 +6,7 @@ use Rattle.iv_text.specs.Genome.{Sequences}
 use Rattle.iv_text.specs.Read.{Fits}
 use Rattle.iv_text.specs.declared.fault.LoadFault.{LoadFault}
 use Rattle.iv_index.specs.Locators.{bare}
-use Rattle.iv_run.specs.Inside.Pieces.{SaysSoFar}
+use Rattle.iv_run.specs.Pieces.{SaysSoFar}
 use Rattle.iv_run.specs.Loading.{IsAnswer}
 use Rattle.iv_run.specs.declared.held_bed.Columns.{Columns}
 use Rattle.iv_run.specs.declared.held_bed.Columns.TheVariants.{Unknown, Three, Other}
@@ -28,12 +28,6 @@ IsHeldBy g width limit text held (Some said) = IsAnswer said (bed_of g width lim
 -- what is held is that of the BED file of this text, on this genome; without a record it has this width
 abbrev pub IsHeld : Sequences → ℕ → ℕ → List ℕ → Held → Type 0
 IsHeld g width limit text held = IsHeldBy g width limit text held.text held.intervals
-
--- so it is of a file that may be left out
-abbrev pub IsHeldIfNamed : Sequences → ℕ → ℕ → Option (List ℕ) → Option Held → Type 0
-IsHeldIfNamed g width limit None held = held ≡ None
-IsHeldIfNamed g width limit (Some text) None = ⊥
-IsHeldIfNamed g width limit (Some text) (Some held) = IsHeld g width limit text held
 
 -- whatever bytes follow these, the records of the file have three columns
 abbrev pub IsThreeWide : Sequences → ℕ → List ℕ → Type 0

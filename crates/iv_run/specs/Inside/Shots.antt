@@ -1,7 +1,7 @@
 -- Parts of what a run of one subcommand prints.
 use Rattle.std.specs.Prelude.{ℕ, List, [], None, Option, Result}
 use Rattle.std.specs.Option.{is_some, option_map, option_transpose, unwrap_or}
-use Rattle.iv_text.specs.BedFile.{Bed}
+use Rattle.iv_text.specs.BedFile.{Bed, bed_of}
 use Rattle.iv_text.specs.Genome.{Sequences}
 use Rattle.iv_text.specs.Ordered.{ordered}
 use Rattle.iv_text.specs.RecordValue.{RecordValue}
@@ -11,6 +11,10 @@ use Rattle.iv_fasta.specs.Fasta.{Bases, fasta_of}
 use Rattle.iv_view.specs.Views.{read_words, shown_text}
 use Rattle.iv_view.specs.declared.view.View.{View}
 use Rattle.iv_run.specs.Loading.{Parsed}
+
+-- a BED file that may be left out, or its first fault
+abbrev pub second_of : Sequences → ℕ → ℕ → Option (List ℕ) → Result (Option Bed) LoadFault
+second_of g width limit text = option_transpose (option_map (bed_of g width limit) text)
 
 -- a FASTA file that may be left out, or its first fault
 abbrev pub bases_said : Sequences → Option (List ℕ) → Result (Option Bases) LoadFault

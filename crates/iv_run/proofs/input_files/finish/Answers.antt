@@ -18,8 +18,8 @@ pub returns-clause-says : goal.returns-clause-says
 returns-clause-says g c = λ text says.
     keeps-file g.K.FromRecord.projected c.args.genome.now c.args.limit c.args.empty_width text _ _ (rw c.in_ok-so_far.was at says) c.in_ok-width.ensures.ok
 
-pub returns-clause-kept : goal.returns-clause-kept
-returns-clause-kept g c = record {
+pub returns-clause-is_on : goal.returns-clause-is_on
+returns-clause-is_on g c = record {
   kept_all = c.in_ok-width.ensures.kept;
   few = omega (arith, c.in_ok-width.ensures.few, length-map c.in_ok-width.kept g.K.FromRecord.as_record);
 }

@@ -1,7 +1,7 @@
-use Rattle.std.proofs.Common.{◌≡◌, ◌+◌, ◌<◌, ◌≤◌, ◌^◌, ◌++◌, ℕ, List, [], length, take, refl, ap, arith, length-append, length-take}
-use Rattle.iv_run.specs.declared.fault.FileFault.TheVariants.{TooLong}
+use Rattle.std.proofs.Common.{◌≡◌, ◌+◌, ◌<◌, ◌≤◌, ◌++◌, ℕ, List, [], length, take, refl, ap, arith, length-append, length-take}
+use Rattle.std.proofs.lemmas.Result.{err_from_is_err_and}
+use Rattle.iv_run.specs.declared.fault.FileFault.TheVariants.{Memory, TooLong}
 use Rattle.iv_run.proofs.ReadingLemmas.{HasGiven-begin, HasGiven-more, ReadsWhole-end, StopsReading-piece}
-use Rattle.iv_run.proofs.PieceLemmas.{says-begun, says-few, says-room, says-sound}
 use Rattle.iv_run.proofs.input_files.read_bed.Goals as goal
 
 -- a front has as many bytes as it is to have
@@ -9,19 +9,24 @@ taken : (n : ℕ) (bytes : List ℕ) → n ≤ length bytes → length (take n b
 taken n bytes within = omega (arith, length-take n bytes)
 
 pub pieces-init : goal.pieces-init
-pieces-init g c = ([], HasGiven-begin _, refl, omega arith, says-begun g.K.FromRecord.projected c.args.genome.now c.args.limit c.new.result c.new.ensures)
+pieces-init g c = ([], HasGiven-begin _, refl, omega arith, c.begin-reading.ensures c.args.genome.now c.args.limit)
 
-pub take_next-so_far-requires-clause-sound : goal.take_next-so_far-requires-clause-sound
-take_next-so_far-requires-clause-sound g c =
-    says-sound g.K.FromRecord.projected c.args.genome.now c.args.limit c.pieces.invariant.0 c.pieces.so_far c.pieces.invariant.4
-
-pub take_next-so_far-requires-clause-few : goal.take_next-so_far-requires-clause-few
-take_next-so_far-requires-clause-few g c =
+pub take-requires : goal.take-requires
+take-requires g c =
     let front = c.pieces.invariant.0 in
     let piece = take c.in_ok-n.n c.pull.new.into in
     let size : length piece ≡ c.in_ok-n.n = taken c.in_ok-n.n c.pull.new.into c.in_ok-n.ensures.some in
-    let few : 1 + length front + length piece < 2 ^ 64 = omega (arith, c.pieces.invariant.2, c.pieces.invariant.3, c.if-n-most.false, size, c.requires.most) in
-    says-room g.K.FromRecord.projected c.args.genome.now c.args.limit front piece c.pieces.so_far (2 ^ 64) c.pieces.invariant.4 few
+    let few : length front + length piece < g.H.HoldsFile.bound = omega (arith, c.pieces.invariant.2, c.pieces.invariant.3, c.if-n-most.false, size, c.requires.most) in
+    (front, c.pieces.invariant.4, few)
+
+pub returns-in_err-reading-clause-err : goal.returns-in_err-reading-clause-err
+returns-in_err-reading-clause-err g c =
+    let front = c.pieces.invariant.0 in
+    let piece = take c.in_ok-n.n c.pull.new.into in
+    let size : length piece ≡ c.in_ok-n.n = taken c.in_ok-n.n c.pull.new.into c.in_ok-n.ensures.some in
+    let few : length front + length piece ≤ c.args.most = omega (arith, c.pieces.invariant.2, c.pieces.invariant.3, c.if-n-most.false, size) in
+    let p = err_from_is_err_and c.from_residual-in_err-reading.result c.from_residual-in_err-reading.ensures.1 in
+    rw (p.1, p.2, c.in_err-reading.ensures.err) (StopsReading-piece _ _ _ c.args.most front piece c.in_ok-n.n Memory c.pieces.invariant.1 c.in_ok-n.ensures.ok few)
 
 pub pieces-preserved : goal.pieces-preserved
 pieces-preserved g c =
@@ -32,17 +37,12 @@ pieces-preserved g c =
       HasGiven-more _ _ _ front piece c.in_ok-n.n c.pieces.invariant.1 c.in_ok-n.ensures.ok,
       omega (arith, c.pieces.invariant.2, length-append front piece, size),
       omega (arith, c.pieces.invariant.3, c.if-n-most.false),
-      c.take_next-so_far.ensures front c.pieces.invariant.4,
+      c.in_ok-reading.ensures.ok front c.pieces.invariant.4,
     )
 
-pub finish-requires-clause-sound : goal.finish-requires-clause-sound
-finish-requires-clause-sound g c =
-    says-sound g.K.FromRecord.projected c.args.genome.now c.args.limit c.pieces.invariant.0 c.pieces.so_far c.pieces.invariant.4
-
-pub finish-requires-clause-few : goal.finish-requires-clause-few
-finish-requires-clause-few g c =
-    says-few g.K.FromRecord.projected c.args.genome.now c.args.limit c.pieces.invariant.0 c.pieces.so_far (2 ^ 64) c.pieces.invariant.4
-    (omega (arith, c.pieces.invariant.2, c.pieces.invariant.3, c.requires.most))
+pub finish-requires-clause-held : goal.finish-requires-clause-held
+finish-requires-clause-held g c =
+    (c.pieces.invariant.0, c.pieces.invariant.4, omega (arith, c.pieces.invariant.2, c.pieces.invariant.3, c.requires.most))
 
 pub returns-then-n-eq0-clause-ok : goal.returns-then-n-eq0-clause-ok
 returns-then-n-eq0-clause-ok g c =

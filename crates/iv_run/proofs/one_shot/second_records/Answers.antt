@@ -1,5 +1,5 @@
 use Rattle.std.proofs.lemmas.Result.{err_from_is_err_and}
-use Rattle.iv_run.proofs.HeldFilesLemmas.{second-fault, second-none, second-some}
+use Rattle.iv_run.proofs.RunFilesLemmas.{second-fault, second-none, second-some}
 use Rattle.iv_run.proofs.one_shot.second_records.Goals as goal
 
 pub returns-in-None : goal.returns-in-None

@@ -1,29 +1,41 @@
-use Rattle.std.proofs.Common.{inl, inr, ◌∙◌, ap}
-use Rattle.std.proofs.lemmas.Result.{err_from_is_err_and}
-use Rattle.iv_fasta.specs.Inside.Drafts.{drafted, cut}
-use Rattle.iv_fasta.specs.Inside.BaseRanges.{placed}
-use Rattle.iv_fasta.proofs.CompactedLemmas.{text-ok, text-err, lengths-right}
+use Rattle.std.proofs.Common.{[], ap, sym, ◌∙◌, inl, inr}
+use Rattle.iv_text.specs.Lines.{lines}
+use Rattle.iv_text.proofs.BedReadingLemmas.{handed-on}
+use Rattle.iv_fasta.specs.Fasta.{fasta_of}
+use Rattle.iv_fasta.specs.Inside.FastaMeaning.{sequences_said}
+use Rattle.iv_fasta.proofs.FastaMeaningLemmas.{fasta-value}
 use Rattle.iv_fasta.proofs.LengthLemmas.{lengths-of}
+use Rattle.iv_fasta.proofs.ReadingLemmas.{text-so}
 use Rattle.iv_fasta.proofs.fasta.Fasta.parse.Goals as goal
 
-pub returns-in-Ok-clause-ok : goal.returns-in-Ok-clause-ok
-returns-in-Ok-clause-ok g c =
-    let draft = c.in_ok-draft.draft in
-    text-ok c.args.genome.now c.args.text.items (drafted draft.headers draft.text.compacted draft.named) c.in_ok-draft.ensures.ok
-    ∙ lengths-right c.args.genome.now (cut draft.headers draft.text.compacted) _ c.in_ok-check_lengths.ensures.ok (ap (placed c.in-Ok.places.items) c.into_compacted-bases.ensures ∙ c.in-Ok.ensures.value)
+pub returns-in_err-take_piece-clause-err : goal.returns-in_err-take_piece-clause-err
+returns-in_err-take_piece-clause-err g c =
+    let genome = c.args.genome.now in
+    let begun = ap (fasta_of genome) (sym c.as_slice.ensures.value)
+    ∙ sym (text-so genome c.new-reader.result c.as_slice.result.now (λ text. c.new-reader.ensures.coming genome text c.lemma_of_names.ensures)) in
+    handed-on c.from_residual.result _ _ c.from_residual.ensures.1
+    (elim c.in_err-take_piece.ensures.err [ inl memory ↦ inl memory | inr refused ↦ inr (begun ∙ refused []) ])
 
-pub returns-in-Ok-clause-lengths : goal.returns-in-Ok-clause-lengths
-returns-in-Ok-clause-lengths g c =
-    let draft = c.in_ok-draft.draft in
-    lengths-of c.args.genome.now (cut draft.headers draft.text.compacted) _ c.lemma_of_names.ensures c.in_ok-check_lengths.ensures.ok (ap (placed c.in-Ok.places.items) c.into_compacted-bases.ensures ∙ c.in-Ok.ensures.value)
+pub returns-in_err-fasta-clause-err : goal.returns-in_err-fasta-clause-err
+returns-in_err-fasta-clause-err g c =
+    let genome = c.args.genome.now in
+    let begun = ap (fasta_of genome) (sym c.as_slice.ensures.value)
+    ∙ sym (text-so genome c.new-reader.result c.as_slice.result.now (λ text. c.new-reader.ensures.coming genome text c.lemma_of_names.ensures)) in
+    handed-on c.from_residual-in_err-fasta.result _ _ c.from_residual-in_err-fasta.ensures.1
+    (elim c.in_err-fasta.ensures.err [ inl memory ↦ inl memory | inr refused ↦ inr (begun ∙ c.in_ok-take_piece.ensures.ok [] ∙ refused) ])
 
-pub returns-in_err-draft-clause-err : goal.returns-in_err-draft-clause-err
-returns-in_err-draft-clause-err g c =
-    let p = err_from_is_err_and c.from_residual.result c.from_residual.ensures.1 in
-    rw (p.1, p.2) (elim c.in_err-draft.ensures.err [ inl memory ↦ inl memory | inr reported ↦ inr (text-err c.args.genome.now c.args.text.items _ reported) ])
+pub returns-clause-ok : goal.returns-clause-ok
+returns-clause-ok g c =
+    let genome = c.args.genome.now in
+    let begun = ap (fasta_of genome) (sym c.as_slice.ensures.value)
+    ∙ sym (text-so genome c.new-reader.result c.as_slice.result.now (λ text. c.new-reader.ensures.coming genome text c.lemma_of_names.ensures)) in
+    begun ∙ c.in_ok-take_piece.ensures.ok [] ∙ c.in_ok-fasta.ensures.ok
 
-pub returns-in_err-check_lengths-clause-err : goal.returns-in_err-check_lengths-clause-err
-returns-in_err-check_lengths-clause-err g c =
-    let draft = c.in_ok-draft.draft in
-    let p = err_from_is_err_and c.from_residual-in_err-check_lengths.result c.from_residual-in_err-check_lengths.ensures.1 in
-    rw (p.1, p.2) (inr (text-ok c.args.genome.now c.args.text.items (drafted draft.headers draft.text.compacted draft.named) c.in_ok-draft.ensures.ok ∙ c.in_err-check_lengths.ensures.err))
+pub returns-clause-lengths : goal.returns-clause-lengths
+returns-clause-lengths g c =
+    let genome = c.args.genome.now in
+    let text = c.args.text.items in
+    let begun = ap (fasta_of genome) (sym c.as_slice.ensures.value)
+    ∙ sym (text-so genome c.new-reader.result c.as_slice.result.now (λ text. c.new-reader.ensures.coming genome text c.lemma_of_names.ensures)) in
+    let means = (fasta-value genome text _).0 (begun ∙ c.in_ok-take_piece.ensures.ok [] ∙ c.in_ok-fasta.ensures.ok) in
+    lengths-of genome (sequences_said (lines text)) _ c.lemma_of_names.ensures means.1 means.2

@@ -1,0 +1,22 @@
+use Rattle.std.proofs.Common.{Option, sym, subst, IfSome, length, ◌≤◌}
+use Rattle.std.specs.Prelude.{All}
+use Rattle.iv_text.specs.BedFile.{Bed}
+use Rattle.iv_text.specs.Read.{Fits}
+use Rattle.iv_text.proofs.BedReadingLemmas.{fit-all}
+use Rattle.iv_cli.proofs.LoadLemmas.{few-beside, fits-beside}
+use Rattle.iv_cli.proofs.begin.session_of.Goals as goal
+
+pub from_batches-requires-clause-fit : goal.from_batches-requires-clause-fit
+from_batches-requires-clause-fit g c =
+    let inside = c.files.inside in
+    subst (λ (b : Bed). All (Fits inside.genome b.width) b.rows) (sym c.into_bed-first.ensures) (fit-all inside.genome inside.first.width inside.first.rows c.files.invariant.0.kept_all)
+
+pub from_batches-requires-clause-second_fit : goal.from_batches-requires-clause-second_fit
+from_batches-requires-clause-second_fit g c =
+    let inside = c.files.inside in
+    subst (λ (o : Option Bed). IfSome o (λ file. All (Fits inside.genome file.width) file.rows)) (sym c.into_bed.ensures) (fits-beside inside.genome inside.limit inside.second c.files.invariant.1)
+
+pub from_batches-requires-clause-second_few : goal.from_batches-requires-clause-second_few
+from_batches-requires-clause-second_few g c =
+    let inside = c.files.inside in
+    subst (λ (o : Option Bed). IfSome o (λ file. length file.rows ≤ inside.limit)) (sym c.into_bed.ensures) (few-beside inside.genome inside.limit inside.second c.files.invariant.1)

@@ -1,0 +1,28 @@
+use Rattle.std.proofs.Common.{arith, length, ◌∙◌}
+use Rattle.std.proofs.lemmas.List.{take_all}
+use Rattle.std.proofs.lemmas.List.Elements.{All-push}
+use Rattle.std.specs.Option.{option_map}
+use Rattle.iv_fasta.specs.FastaReading.{Wanted, only, held_by_rank}
+use Rattle.iv_fasta.specs.Inside.Drafts.{cut}
+use Rattle.iv_fasta.specs.Inside.BaseRanges.{IsPlacedWithin}
+use Rattle.iv_fasta.proofs.BaseRangeLemmas.{placed-more}
+use Rattle.iv_fasta.proofs.SummaryLemmas.{length-ranks}
+use Rattle.iv_fasta.proofs.held_sequences.HeldSequences.ranges.Goals as goal
+
+pub loop-rank-preserved : goal.loop-rank-preserved
+loop-rank-preserved g c =
+    let self = c.args.self.now in
+    let wanted : Wanted = option_map (λ ranks. ranks.items) c.args.wanted.now in
+    let found = cut self.headers self.bases.items self.count in
+    record {
+      value = placed-more (only wanted (held_by_rank c.args.genome.now found)) c.loop-rank.places.items c.push.new.self.items self.bases.items c.loop-rank.rank c.wanted_range_at.result
+          (omega (arith, c.loop-rank-test.true, length-ranks wanted c.args.genome.now found)) c.loop-rank.invariant.value c.wanted_range_at.ensures.value c.in_ok-push.ensures.items;
+      within = rw c.in_ok-push.ensures.items (All-push (IsPlacedWithin (length self.bases.items)) c.loop-rank.places.items c.wanted_range_at.result c.loop-rank.invariant.within c.wanted_range_at.ensures.within);
+    }
+
+pub returns-clause-value : goal.returns-clause-value
+returns-clause-value g c =
+    let self = c.args.self.now in
+    let wanted : Wanted = option_map (λ ranks. ranks.items) c.args.wanted.now in
+    let found = cut self.headers self.bases.items self.count in
+    c.loop-rank.invariant.value ∙ take_all c.loop-rank.rank (only wanted (held_by_rank c.args.genome.now found)) (omega (arith, c.loop-rank-test.false, length-ranks wanted c.args.genome.now found))

@@ -1,0 +1,197 @@
+-- The files of a run, once they are read: which one is the first that is damaged.
+use Rattle.std.proofs.Common.{◌≡◌, ◌∙◌, ◌⊎◌, inl, inr, ℕ, List, Option, None, Some, Result, Ok, Err, IfOk, IfErr, IfSome, refl, sym, ap, subst}
+use Rattle.std.specs.Option.{option_map, option_transpose}
+use Rattle.iv_text.specs.BedFile.{Bed, bed_of}
+use Rattle.iv_text.specs.BedReading.{projected_bed, projected_or_fault}
+use Rattle.iv_text.specs.Genome.{Sequences}
+use Rattle.iv_text.specs.GenomeFile.{genome_of}
+use Rattle.iv_text.specs.RecordValue.{RecordValue}
+use Rattle.iv_text.specs.declared.fault.LoadFault.{LoadFault}
+use Rattle.iv_text.specs.declared.fault.LoadCause.TheVariants as cause
+use Rattle.iv_fasta.specs.Fasta.{Bases}
+use Rattle.iv_args.specs.declared.plan.Slot.{Slot}
+use Rattle.iv_args.specs.declared.plan.Slot.TheVariants as slot
+use Rattle.iv_run.specs.Inside.Held.{Held, IsHeld}
+use Rattle.iv_run.specs.Inside.Shots.{bases_said, second_of}
+use Rattle.iv_run.specs.Loading.{IsAnswer, IsReport, Parsed, damage_of, parsed}
+use Rattle.iv_run.specs.RunFiles.{AreOf, AreProjected, FilesRead, GenomeRead, IsGenomeBy, IsGenomeOf, IsIfNamed, IsOn, IsParsed, ReportsProjected}
+use Rattle.iv_run.specs.declared.fault.CliFault.{CliFault}
+use Rattle.iv_run.specs.declared.fault.CliFault.TheVariants.{Memory}
+use Rattle.iv_run.proofs.LoadLemmas.{IsWhy, bases-damaged, first-damaged, kept-sound, kept-why, past-second, second-damaged, with_bases}
+
+-- what a call answers
+pub answer-of : {T : Type 0} (r said : Result T LoadFault) → IfOk r (λ value. said ≡ Ok value) → IfErr r (λ f. (f ≡ record { line = 0; cause = cause.Memory }) ⊎ (said ≡ Err f)) → IsAnswer r said
+answer-of (Ok value) said ok err = ok
+answer-of (Err f) said ok err = err
+
+-- a file of a slot is damaged, and this is the report
+abbrev pub IsDamage : {T : Type 0} → Slot → Result T LoadFault → CliFault → Type 0
+IsDamage slot said k = (why : LoadFault) × (said ≡ Err why) × (k ≡ damage_of slot why)
+
+either : (k : CliFault) (said : Result Parsed CliFault) (P : Type 0) → (P → said ≡ Err k) → (k ≡ Memory) ⊎ P → IsReport {T = Parsed} (Err k) said
+either k said P leads (inl memory) = inl memory
+either k said P leads (inr p) = inr (leads p)
+
+module _ (width : ℕ) (sizes text : List ℕ) (limit : ℕ) (g : Sequences) (genome : genome_of sizes ≡ Ok g) (other bases : Option (List ℕ)) where
+  abbrev Reports : CliFault → Type 0
+  Reports k = IsReport {T = Parsed} (Err k) (parsed width sizes text other bases limit)
+
+  -- the first file is damaged
+  pub report-first : (said : Result Bed LoadFault) (k : CliFault) → IsAnswer said (bed_of g width limit text) → IsDamage slot.First said k → Reports k
+  report-first said k answer damage =
+      let why : IsWhy damage.0 (bed_of g width limit text) = subst (λ (r : Result Bed LoadFault). IsAnswer r (bed_of g width limit text)) damage.1 answer in
+      subst Reports (sym damage.2)
+      (either (damage_of slot.First damage.0) (parsed width sizes text other bases limit) ((o b : Option (List ℕ)) → parsed width sizes text o b limit ≡ Err (damage_of slot.First damage.0))
+      (λ fault. fault other bases) (first-damaged width sizes text limit g genome damage.0 why))
+
+  module _ (bed : Bed) (sound : bed_of g width limit text ≡ Ok bed) where
+    -- the second file is damaged
+    pub report-second : (said : Result (Option Bed) LoadFault) (k : CliFault) → IsAnswer said (second_of g width limit other) → IsDamage slot.Other said k → Reports k
+    report-second said k answer damage =
+        let why : IsWhy damage.0 (second_of g width limit other) = subst (λ (r : Result (Option Bed) LoadFault). IsAnswer r (second_of g width limit other)) damage.1 answer in
+        subst Reports (sym damage.2)
+        (either (damage_of slot.Other damage.0) (parsed width sizes text other bases limit) ((b : Option (List ℕ)) → parsed width sizes text other b limit ≡ Err (damage_of slot.Other damage.0))
+        (λ fault. fault bases) (second-damaged width sizes text limit g genome bed sound other damage.0 why))
+
+    module _ (second : Option Bed) (whole : second_of g width limit other ≡ Ok second) where
+      -- the FASTA file is damaged
+      pub report-bases : (said : Result (Option Bases) LoadFault) (k : CliFault) → IsAnswer said (bases_said g bases) → IsDamage slot.Bases said k → Reports k
+      report-bases said k answer damage =
+          let why : IsWhy damage.0 (bases_said g bases) = subst (λ (r : Result (Option Bases) LoadFault). IsAnswer r (bases_said g bases)) damage.1 answer in
+          subst Reports (sym damage.2) (bases-damaged width sizes text limit g genome bed sound other second whole bases damage.0 why)
+
+      -- all files are sound
+      pub report-files : (found : Option Bases) → bases_said g bases ≡ Ok found
+          → parsed width sizes text other bases limit ≡ Ok (record { genome = g; first = bed; second = second; bases = found; limit = limit })
+      report-files found is = past-second width sizes text limit g genome bed sound other second whole bases ∙ ap (with_bases g bed second limit) is
+
+-- what is held is that of a second file, or there is none
+module _ (g : Sequences) (width limit : ℕ) where
+  pub second-none : (text : Option (List ℕ)) (held : Option Held) → held ≡ None → IsIfNamed (IsHeld g width limit) text held → second_of g width limit text ≡ Ok None
+  second-none None held none is = refl
+  second-none (Some text) None none is = absurd is
+  second-none (Some text) (Some held) none is = absurd (cc none)
+
+  module _ (held : Held) (said : Result Bed LoadFault) (says : (text : List ℕ) → IsHeld g width limit text held → IsAnswer said (bed_of g width limit text)) where
+    pub second-some : (text : Option (List ℕ)) (bed : Bed) → said ≡ Ok bed → IsIfNamed (IsHeld g width limit) text (Some held) → second_of g width limit text ≡ Ok (Some bed)
+    second-some None bed is names = absurd (cc names)
+    second-some (Some text) bed is names =
+        let sound : bed_of g width limit text ≡ Ok bed = subst (λ (r : Result Bed LoadFault). IsAnswer r (bed_of g width limit text)) is (says text names) in
+        ap (λ (r : Result Bed LoadFault). option_transpose (Some r)) sound
+
+    pub second-fault : (text : Option (List ℕ)) (f : LoadFault) → said ≡ Err f → IsIfNamed (IsHeld g width limit) text (Some held) → IsAnswer {T = Option Bed} (Err f) (second_of g width limit text)
+    second-fault None f is names = absurd (cc names)
+    second-fault (Some text) f is names = by (bed_of g width limit text) (subst (λ (r : Result Bed LoadFault). IsAnswer r (bed_of g width limit text)) is (says text names)) refl
+      where
+        by : (r : Result Bed LoadFault) → IsAnswer {T = Bed} (Err f) r → bed_of g width limit text ≡ r → IsAnswer {T = Option Bed} (Err f) (second_of g width limit (Some text))
+        by r (inl memory) e = inl memory
+        by (Ok bed) (inr wrong) e = absurd (cc wrong)
+        by (Err k) (inr same) e = let fault : k ≡ f = cc same in inr (ap (λ (r : Result Bed LoadFault). option_transpose (Some r)) e ∙ ap Err fault)
+
+-- what is known of the genome file
+module _ (sizes : List ℕ) (known : GenomeRead) (says : IsGenomeOf sizes known) where
+  pub sizes-sound : known.damage ≡ None → genome_of sizes ≡ Ok known.genome
+  sizes-sound none = subst (IsGenomeBy sizes known) none says
+
+  sizes-fault : (k : CliFault) → known.damage ≡ Some k → (text : List ℕ) (other bases : Option (List ℕ)) → IsReport {T = Parsed} (Err k) (parsed known.width sizes text other bases known.limit)
+  sizes-fault k is text other bases =
+      either k (parsed known.width sizes text other bases known.limit) ((t : List ℕ) (o b : Option (List ℕ)) → parsed known.width sizes t o b known.limit ≡ Err k)
+      (λ fault. fault text other bases) (subst (IsGenomeBy sizes known) is says)
+
+-- it is damaged
+pub sizes-damaged : (width limit : ℕ) (sizes : List ℕ) (known : GenomeRead) → IsGenomeOf sizes known → known.width ≡ width → known.limit ≡ limit → (k : CliFault) → known.damage ≡ Some k
+    → (text : List ℕ) (other bases : Option (List ℕ)) → IsReport {T = Parsed} (Err k) (parsed width sizes text other bases limit)
+sizes-damaged width limit sizes known says wide most k is text other bases =
+    subst (λ (n : ℕ). IsReport {T = Parsed} (Err k) (parsed width sizes text other bases n)) most
+    (subst (λ (w : ℕ). IsReport {T = Parsed} (Err k) (parsed w sizes text other bases known.limit)) wide (sizes-fault sizes known says k is text other bases))
+
+-- ---- files of which the records are held
+
+answer-whole : (projected : RecordValue → RecordValue) (file r : Result Bed LoadFault) (why : LoadFault) → file ≡ Err why → IsAnswer file (projected_or_fault projected r) → IsAnswer file r
+answer-whole projected (Ok bed) r why is answer = absurd (cc is)
+answer-whole projected (Err f) r why is answer = kept-why projected r f answer
+
+module _ (projected : RecordValue → RecordValue) (g : Sequences) (width limit : ℕ) where
+  -- the second file is damaged
+  beside-why : (text : Option (List ℕ)) (file : Option (Result Bed LoadFault)) (why : LoadFault) → IsIfNamed (IsParsed projected g width limit) text file
+      → option_transpose file ≡ Err why → IsWhy why (second_of g width limit text)
+  beside-why None file why named is = absurd (cc (sym (ap (λ (o : Option (Result Bed LoadFault)). option_transpose o) named) ∙ is))
+  beside-why (Some text) None why named is = absurd named
+  beside-why (Some text) (Some (Ok bed)) why named is = absurd (cc is)
+  beside-why (Some text) (Some (Err f)) why named is = let same : f ≡ why = cc is in subst (λ (k : LoadFault). IsWhy k (second_of g width limit (Some text))) same (by (kept-why projected (bed_of g width limit text) f named))
+    where
+      by : IsWhy f (bed_of g width limit text) → IsWhy f (second_of g width limit (Some text))
+      by (inl memory) = inl memory
+      by (inr e) = inr (ap (λ (r : Result Bed LoadFault). option_transpose (Some r)) e)
+
+  -- it is sound, or there is none
+  beside-sound : (text : Option (List ℕ)) (file : Option (Result Bed LoadFault)) (second : Option Bed) → IsIfNamed (IsParsed projected g width limit) text file
+      → option_transpose file ≡ Ok second → (whole : Option Bed) × (second_of g width limit text ≡ Ok whole) × (second ≡ option_map (projected_bed projected) whole)
+  beside-sound None file second named is =
+      let none : None ≡ second = cc (sym (ap (λ (o : Option (Result Bed LoadFault)). option_transpose o) named) ∙ is) in
+      (None, refl, sym none)
+  beside-sound (Some text) None second named is = absurd named
+  beside-sound (Some text) (Some (Err f)) second named is = absurd (cc is)
+  beside-sound (Some text) (Some (Ok file)) second named is =
+      let bed = kept-sound projected (bed_of g width limit text) file named in
+      let some : Some file ≡ second = cc is in
+      (Some bed.0, ap (λ (r : Result Bed LoadFault). option_transpose (Some r)) bed.1, sym some ∙ ap Some bed.2)
+
+-- all files were read, and are those of these bytes
+module _ (projected : RecordValue → RecordValue) (sizes text : List ℕ) (other bases : Option (List ℕ)) (files : FilesRead (Result Bed LoadFault)) (are : AreOf (IsParsed projected) sizes text other bases files) where
+  abbrev on : GenomeRead
+  on = files.on
+
+  abbrev ReportsFault : CliFault → Type 0
+  ReportsFault k = (k ≡ Memory) ⊎ (parsed on.width sizes text other bases on.limit ≡ Err k)
+
+  -- the genome file is damaged
+  pub finish-sizes : (k : CliFault) → on.damage ≡ Some k → ReportsFault k
+  finish-sizes k is = sizes-fault sizes on are.0 k is text other bases
+
+  module _ (sound : on.damage ≡ None) where
+    genome : genome_of sizes ≡ Ok on.genome
+    genome = sizes-sound sizes on are.0 sound
+
+    -- the first file is
+    pub finish-first : (k : CliFault) → IsDamage slot.First files.first k → ReportsFault k
+    finish-first k damage =
+        report-first on.width sizes text on.limit on.genome genome other bases files.first k
+        (answer-whole projected files.first (bed_of on.genome on.width on.limit text) damage.0 damage.1 are.1) damage
+
+    module _ (first : Bed) (first_is : files.first ≡ Ok first) where
+      bed : (bed : Bed) × (bed_of on.genome on.width on.limit text ≡ Ok bed) × (first ≡ projected_bed projected bed)
+      bed = kept-sound projected (bed_of on.genome on.width on.limit text) first (subst (IsParsed projected on.genome on.width on.limit text) first_is are.1)
+
+      -- the second file is
+      pub finish-second : (k : CliFault) → IsDamage slot.Other (option_transpose files.second) k → ReportsFault k
+      finish-second k damage = report-second on.width sizes text on.limit on.genome genome other bases bed.0 bed.1 (Err damage.0) k
+          (beside-why projected on.genome on.width on.limit other files.second damage.0 are.2 damage.1) (damage.0, refl, damage.2)
+
+      module _ (second : Option Bed) (second_is : option_transpose files.second ≡ Ok second) where
+        beside : (whole : Option Bed) × (second_of on.genome on.width on.limit other ≡ Ok whole) × (second ≡ option_map (projected_bed projected) whole)
+        beside = beside-sound projected on.genome on.width on.limit other files.second second are.2 second_is
+
+        module _ (g : Sequences) (same : g ≡ on.genome) where
+          -- the FASTA file is
+          pub finish-bases : (read : Result (Option Bases) LoadFault) (k : CliFault) → IsAnswer read (bases_said g bases) → IsDamage slot.Bases read k → ReportsFault k
+          finish-bases read k answer =
+              report-bases on.width sizes text on.limit on.genome genome other bases bed.0 bed.1 beside.0 beside.1 read k
+              (subst (λ (s : Sequences). IsAnswer read (bases_said s bases)) same answer)
+
+          -- all are sound
+          pub finish-all : (found : Option Bases) (limit : ℕ) → bases_said g bases ≡ Ok found → limit ≡ on.limit
+              → ReportsProjected projected (Ok (record { genome = g; first = first; second = second; bases = found; limit = limit })) (parsed on.width sizes text other bases on.limit)
+          finish-all found limit is most = (
+            record { genome = on.genome; first = bed.0; second = beside.0; bases = found; limit = on.limit },
+            report-files on.width sizes text on.limit on.genome genome other bases bed.0 bed.1 beside.0 beside.1 found
+                (subst (λ (s : Sequences). bases_said s bases ≡ Ok found) same is),
+            (λ i. record { genome = same i; first = bed.2 i; second = beside.2 i; bases = found; limit = most i }),
+          )
+
+-- a second file that is sound is on the genome, if it is there
+pub beside-on : (projected : RecordValue → RecordValue) (g : Sequences) (limit : ℕ) (file : Option (Result Bed LoadFault)) (second : Option Bed) → option_transpose file ≡ Ok second
+    → IfSome file (IsOn projected g limit) → IfSome second (AreProjected projected g limit)
+beside-on projected g limit None second is are = let none : None ≡ second = cc is in subst (λ (o : Option Bed). IfSome o (AreProjected projected g limit)) none tt
+beside-on projected g limit (Some (Err f)) second is are = absurd (cc is)
+beside-on projected g limit (Some (Ok file)) second is are = let some : Some file ≡ second = cc is in subst (λ (o : Option Bed). IfSome o (AreProjected projected g limit)) some are

@@ -1,0 +1,77 @@
+-- The files of a run once they are read.
+use Rattle.std.specs.Prelude.{◌≡◌, ◌⊎◌, ℕ, ◌≤◌, List, Option, None, Some, All, length, Result, Ok, Err, IfOk}
+use Rattle.std.specs.Option.{option_map}
+use Rattle.iv_text.specs.BedFile.{Bed}
+use Rattle.iv_text.specs.Genome.{Sequences}
+use Rattle.iv_text.specs.GenomeFile.{genome_of}
+use Rattle.iv_text.specs.BedReading.{IsProjected, projected_bed, projected_bed_of}
+use Rattle.iv_text.specs.RecordValue.{RecordValue}
+use Rattle.iv_text.specs.declared.fault.LoadFault.{LoadFault}
+use Rattle.iv_fasta.specs.Fasta.{Bases, fasta_of}
+use Rattle.iv_run.specs.Loading.{IsAnswer, Parsed, parsed}
+use Rattle.iv_run.specs.declared.fault.CliFault.{CliFault}
+use Rattle.iv_run.specs.declared.fault.CliFault.TheVariants.{Memory}
+
+-- the genome on which BED files are read; the report of a damaged genome file; which width a BED file without a record has, and how
+-- many records each may have
+pub record GenomeRead : Type 0 where
+  pub genome : Sequences
+  pub damage : Option CliFault
+  pub width : ℕ
+  pub limit : ℕ
+
+-- the genome, what is held of each BED file, and the bases of the FASTA file, or its fault
+pub record FilesRead (H : Type 0) : Type 0 where
+  pub on : GenomeRead
+  pub first : H
+  pub second : Option H
+  pub fasta : Option (Result Bases LoadFault)
+
+-- the genome file of these bytes is sound; or this is the report of all files, whatever the others are
+abbrev pub IsGenomeBy : List ℕ → GenomeRead → Option CliFault → Type 0
+IsGenomeBy sizes on None = genome_of sizes ≡ Ok on.genome
+IsGenomeBy sizes on (Some k) =
+    (k ≡ Memory) ⊎ ((first : List ℕ) (second fasta_text : Option (List ℕ)) → parsed on.width sizes first second fasta_text on.limit ≡ Err k)
+
+-- this is the genome file of these bytes
+abbrev pub IsGenomeOf : List ℕ → GenomeRead → Type 0
+IsGenomeOf sizes on = IsGenomeBy sizes on on.damage
+
+-- a file that may be left out is there if it has a text, and is that of it
+abbrev pub IsIfNamed : {H : Type 0} → (List ℕ → H → Type 0) → Option (List ℕ) → Option H → Type 0
+IsIfNamed is_of None held = held ≡ None
+IsIfNamed is_of (Some text) None = ⊥
+IsIfNamed is_of (Some text) (Some held) = is_of text held
+
+-- this is the FASTA file of a text on this genome, or its first fault, or out of memory
+abbrev pub IsFasta : Sequences → List ℕ → Result Bases LoadFault → Type 0
+IsFasta g text file = IsAnswer file (fasta_of g text)
+
+-- the files are those of these bytes, if what is held of a BED file on a genome, of this width without a record and with at most so many
+-- records, is so of its text
+abbrev pub AreOf : {H : Type 0} → (Sequences → ℕ → ℕ → List ℕ → H → Type 0) → List ℕ → List ℕ → Option (List ℕ) → Option (List ℕ) → FilesRead H → Type 0
+AreOf is_of sizes first second fasta_text files =
+    IsGenomeOf sizes files.on × is_of files.on.genome files.on.width files.on.limit first files.first
+    × IsIfNamed (is_of files.on.genome files.on.width files.on.limit) second files.second × IsIfNamed (IsFasta files.on.genome) fasta_text files.fasta
+
+-- the records are projections of records of the file's width on the genome, and they are not more than the limit
+pub record AreProjected (projected : RecordValue → RecordValue) (g : Sequences) (limit : ℕ) (file : Bed) : Type 0 where
+  pub kept_all : All (IsProjected projected g file.width) file.rows
+  pub few : length file.rows ≤ limit
+
+-- so are those of a file, unless it is damaged
+abbrev pub IsOn : (RecordValue → RecordValue) → Sequences → ℕ → Result Bed LoadFault → Type 0
+IsOn projected g limit held = IfOk held (AreProjected projected g limit)
+
+-- this is the BED file of a text with its records projected, or its first fault, or out of memory
+abbrev pub IsParsed : (RecordValue → RecordValue) → Sequences → ℕ → ℕ → List ℕ → Result Bed LoadFault → Type 0
+IsParsed projected g width limit text file = IsAnswer file (projected_bed_of projected g width limit text)
+
+-- files with their records projected
+abbrev pub projected_files : (RecordValue → RecordValue) → Parsed → Parsed
+projected_files projected files = record files { first = projected_bed projected files.first; second = option_map (projected_bed projected) files.second }
+
+-- a call answers with files, with their records projected; or it reports the fault of the first damaged one, or out of memory
+abbrev pub ReportsProjected : (RecordValue → RecordValue) → Result Parsed CliFault → Result Parsed CliFault → Type 0
+ReportsProjected projected (Ok files) said = (whole : Parsed) × (said ≡ Ok whole) × (files ≡ projected_files projected whole)
+ReportsProjected projected (Err k) said = (k ≡ Memory) ⊎ (said ≡ Err k)

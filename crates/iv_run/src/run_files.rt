@@ -1,0 +1,249 @@
+//! The files of a run, once they are read: what is held of each, and whether they are sound.
+ghost use Rattle.std.specs.Prelude.{◌≡◌, ◌⊎◌, ◌<◌, List, ℕ, Option, None, Some, Ok, Err, IfOk, IfErr};
+ghost use Rattle.std.specs.Option.{option_copied, option_map, option_transpose};
+ghost use Rattle.iv_text.specs.declared.fault.LoadFault.{LoadFault};
+ghost use Rattle.iv_text.specs.Widths.{IsWidth};
+ghost use Rattle.iv_run.specs.Files.{ReadsWhole, StopsReading};
+ghost use Rattle.iv_run.specs.Loading.{damage_of, parsed};
+ghost use Rattle.iv_run.specs.RunFiles.{AreOf, IsFasta, IsIfNamed, IsOn, IsParsed, ReportsProjected, IsGenomeOf};
+
+use crate::fault::{CliFault, FileFault};
+use crate::held_fasta::HeldFasta;
+use crate::input_files::{HeldRecords, HoldsFile, ParsedFile, parse_bed, read_bed};
+use iv_args::{Plan, Slot};
+use iv_bytes::Source;
+use iv_fasta::Fasta;
+use iv_text::{FromRecord, Genome, LoadFault};
+use std::alloc::{Allocator, Global};
+use std::marker::Model;
+
+/// The bytes of the files of a run, apart from the FASTA file.
+#[derive(Clone, Copy, Debug)]
+pub struct Inputs<'a> {
+    /// The genome file.
+    pub sizes: &'a [u8],
+    /// The first file.
+    pub first: &'a [u8],
+    /// The second file, if the plan names one.
+    pub other: Option<&'a [u8]>,
+}
+
+/// The value of a file, or its fault, with the slot of the file.
+pub(crate) fn in_slot<T: Drop>(slot: Slot, said: Result<T, LoadFault>) -> Result<T, CliFault>
+    ensures ok { IfOk result (λ value. said ≡ Ok value) }
+    ensures err { IfErr result (λ fault. (why : LoadFault) × (said ≡ Err why) × (fault ≡ damage_of slot why)) }
+{
+    match said {
+        Ok(value) => Ok(value),
+        Err(fault) => Err(CliFault::from((slot, fault))),
+    }
+}
+
+/// The genome of a run, or the fault of its file, and what the BED files on it may be. After a damaged genome file they are checked
+/// against an empty genome.
+#[derive(Drop)]
+pub struct RunGenome<A: Allocator + Copy = Global> {
+    alloc: A,
+    genome: Genome<A>,
+    damage: Option<CliFault>,
+    empty_width: u8,
+    limit: u32,
+}
+
+impl<A: Allocator + Copy> Model for RunGenome<A> {
+    ghost use Rattle.iv_run.specs.RunFiles.{GenomeRead};
+    ghost use Rattle.iv_text.specs.Widths.{IsWidth};
+
+    ghost Value = { GenomeRead };
+
+    ghost view = { λ on. record { genome = on.genome; damage = on.damage; width = on.empty_width; limit = on.limit } };
+
+    ghost invariant = { λ on. IsWidth on.empty_width };
+}
+
+impl<A: Allocator + Copy> RunGenome<A> {
+    /// Begins with the bytes of a genome file. A BED file of the run without a record has the width that the plan gives, and each may
+    /// have at most `limit` records.
+    pub fn begin(alloc: A, plan: &Plan<'_, A>, sizes: &[u8], limit: u32) -> Self
+        ensures says { IsGenomeOf sizes.now result }
+        ensures width { result.width ≡ plan.now.width }
+        ensures limit { result.limit ≡ limit }
+    {
+        let empty_width = plan.width();
+        match in_slot(Slot::Sizes, Genome::parse(alloc, sizes)) {
+            Ok(genome) => RunGenome {
+                alloc,
+                genome,
+                damage: None,
+                empty_width,
+                limit,
+            },
+            Err(fault) => RunGenome {
+                alloc,
+                genome: Genome::empty(alloc),
+                damage: Some(fault),
+                empty_width,
+                limit,
+            },
+        }
+    }
+
+    /// A BED file, given all its bytes.
+    fn parse<K: FromRecord<A>>(&self, text: &[u8]) -> HeldRecords<K, A>
+        ensures says { IsParsed K.projected self.now.genome self.now.width self.now.limit text.now result }
+        ensures is_on { IsOn K.projected self.now.genome self.now.limit result }
+    {
+        parse_bed(self.alloc, &self.genome, self.empty_width, self.limit, text)
+    }
+
+    /// The FASTA file of these bytes, if there are any, or its first fault.
+    pub(crate) fn parse_fasta(&self, text: Option<Vec<u8, A>>) -> Option<HeldFasta<A>>
+        ensures { IsIfNamed (IsFasta self.now.genome) (option_map (λ bytes. bytes.items) text) result }
+    {
+        match text {
+            Some(text) => Some(Fasta::parse(self.alloc, &self.genome, text)),
+            None => None,
+        }
+    }
+
+    /// A file, read from a source to its end, at most `most` bytes.
+    ///
+    /// # Errors
+    ///
+    /// A fault of the source, or an allocation failed. That the file is damaged is no error here, but a part of what is held.
+    pub fn read<H: HoldsFile<A>, R: Source>(
+        &self,
+        source: &mut R,
+        most: u64,
+    ) -> Result<H, FileFault>
+        requires { most < H.bound }
+        ensures ok { IfOk result (λ held. (text : List ℕ) × ReadsWhole (R.state source.old) (R.state source.new) most text × H.is_of self.now.genome self.now.width self.now.limit text held) }
+        ensures is_on { IfOk result (H.is_on self.now.genome self.now.limit) }
+        ensures err { IfErr result (λ fault. StopsReading (R.state source.old) (R.state source.new) most fault) }
+    {
+        read_bed(
+            self.alloc,
+            &self.genome,
+            self.empty_width,
+            self.limit,
+            source,
+            most,
+        )
+    }
+
+    /// The genome, or the fault of its file.
+    pub(crate) fn into_genome(self) -> Result<Genome<A>, CliFault>
+        ensures ok { IfOk result (λ genome. (self.damage ≡ None) × (genome ≡ self.genome)) }
+        ensures err { IfErr result (λ fault. self.damage ≡ Some fault) }
+    {
+        match self.damage {
+            Some(fault) => Err(fault),
+            None => Ok(self.genome),
+        }
+    }
+}
+
+/// The files of a run, once all are read, in the order genome file, first file, second file, FASTA file: what is held of each.
+///
+/// A file that can't be read is reported before a damaged one, so every file is read to its end first.
+#[derive(Drop)]
+pub struct RunFiles<H: HoldsFile<A>, A: Allocator + Copy = Global> {
+    /// The genome file, and what the BED files on it may be.
+    pub on: RunGenome<A>,
+    /// The first file.
+    pub first: H,
+    /// The second file, if the plan names one.
+    pub second: Option<H>,
+    /// The FASTA file, if the plan names one.
+    pub fasta: Option<HeldFasta<A>>,
+}
+
+impl<H: HoldsFile<A>, A: Allocator + Copy> Model for RunFiles<H, A> {
+    ghost use Rattle.std.specs.Prelude.{IfSome};
+    ghost use Rattle.iv_run.specs.RunFiles.{FilesRead};
+
+    ghost Value = { FilesRead H };
+
+    ghost view = { λ f. record { on = f.on; first = f.first; second = f.second; fasta = f.fasta } };
+
+    ghost invariant = { λ f. H.is_on f.on.genome f.on.limit f.first × IfSome f.second (H.is_on f.on.genome f.on.limit) };
+}
+
+/// The files of a run that are sound, with what is held of each record.
+#[derive(Drop)]
+pub struct LoadedFiles<K: FromRecord<A>, A: Allocator + Copy = Global> {
+    pub alloc: A,
+    pub genome: Genome<A>,
+    pub first: ParsedFile<K, A>,
+    pub second: Option<ParsedFile<K, A>>,
+    pub fasta: Option<Fasta<A>>,
+    pub limit: u32,
+}
+
+impl<K: FromRecord<A>, A: Allocator + Copy> Model for LoadedFiles<K, A> {
+    ghost use Rattle.std.specs.Prelude.{IfSome};
+    ghost use Rattle.iv_run.specs.Loading.{Parsed};
+    ghost use Rattle.iv_run.specs.RunFiles.{AreProjected};
+
+    ghost Value = { Parsed };
+
+    ghost view = { λ f. record { genome = f.genome; first = f.first; second = f.second; bases = f.fasta; limit = f.limit } };
+
+    ghost invariant = { λ f. AreProjected K.projected f.genome f.limit f.first × IfSome f.second (AreProjected K.projected f.genome f.limit) };
+}
+
+impl<K: FromRecord<A>, A: Allocator + Copy> RunFiles<HeldRecords<K, A>, A> {
+    /// The files of a run, given their bytes.
+    pub fn of_inputs(
+        alloc: A,
+        plan: &Plan<'_, A>,
+        inputs: &Inputs<'_>,
+        fasta_text: Option<Vec<u8, A>>,
+        limit: u32,
+    ) -> Self
+        ensures says { AreOf (IsParsed K.projected) inputs.now.sizes.now inputs.now.first.now (option_copied inputs.now.other) (option_map (λ text. text.items) fasta_text) result }
+        ensures width { result.on.width ≡ plan.now.width }
+        ensures limit { result.on.limit ≡ limit }
+    {
+        let on = RunGenome::begin(alloc, plan, inputs.sizes, limit);
+        let first = on.parse(inputs.first);
+        let second = match inputs.other {
+            Some(second) => Some(on.parse(second)),
+            None => None,
+        };
+        let fasta = on.parse_fasta(fasta_text);
+        RunFiles {
+            on,
+            first,
+            second,
+            fasta,
+        }
+    }
+
+    /// All files, or the fault of the first damaged one.
+    pub fn finish(self) -> Result<LoadedFiles<K, A>, CliFault>
+        ensures says { (sizes first : List ℕ) (second fasta_text : Option (List ℕ)) → AreOf (IsParsed K.projected) sizes first second fasta_text self
+            → ReportsProjected K.projected result (parsed self.on.width sizes first second fasta_text self.on.limit) }
+        ensures limit { IfOk result (λ files. files.limit ≡ self.on.limit) }
+    {
+        let RunFiles {
+            on,
+            first,
+            second,
+            fasta,
+        } = self;
+        let (alloc, limit) = (on.alloc, on.limit);
+        let genome = on.into_genome()?;
+        let first = in_slot(Slot::First, first)?;
+        let second = in_slot(Slot::Other, second.transpose())?;
+        let fasta = in_slot(Slot::Bases, fasta.transpose())?;
+        Ok(LoadedFiles {
+            alloc,
+            genome,
+            first,
+            second,
+            fasta,
+            limit,
+        })
+    }
+}
