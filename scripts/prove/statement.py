@@ -162,7 +162,7 @@ These numbers are without {uncounted}: the first are lines of the glossary, and 
 - **Arguments** in `{{ }}` are left out if the others show them. What is defined below `module _ (x : A) where` takes x as its first argument.
 - **Binding**: fields bind tightest, then functions, `∷`, signs between numbers and `++`, those that compare, `&&`, `||`, `¬`, `×`, `⊎`, and last `→`.
 - **Values of Rust**: an unsigned number, such as a `u8` or a `u64`, is an ℕ, a `bool` is a Bool, and an array or what a `&[u8]` refers to is a List. Declarations are shortened to names and types.
-- Positions count from 0, and the end of an interval is not included. *Stop* is the end of an interval, and *words* are arguments or options.
+- Positions count from 0, and the end of an interval is not included. *Stop* is the end of an interval.
 
 ## Glossary
 
@@ -174,7 +174,7 @@ The words of Rattle's standard library that definitions use, where each has a de
 
 {contract}
 
-This is about any files, input, output and messages; `F.state`, `R.state`, `W.state` and `E.state` are what is known of them ([The devices](#the-devices)). `words` are the arguments after the program's name, and `result` is how the run ended: its `exit_reason` decides the exit status, which is that of its `report_of` ([`iv_cli/specs/ExitReasons.antt`](../crates/iv_cli/specs/ExitReasons.antt)).
+This is about any files, input, output and messages; `F.state`, `R.state`, `W.state` and `E.state` are what is known of them ([The devices](#the-devices)). `arguments` are those after the program's name, and `result` is how the run ended: its `exit_reason` decides the exit status, which is that of its `report_of` ([`iv_cli/specs/ExitReasons.antt`](../crates/iv_cli/specs/ExitReasons.antt)).
 
 {ended}
 """
@@ -201,7 +201,7 @@ The contract is about all files, inputs and outputs that keep these promises. Th
 LAST = """\
 ## Notices
 
-The contract promises of `--help`, of help on one kind of run, and of `--version` only that such a text is printed, or a prefix if the output fails, and nothing else is done. `notice_of` says which words ask for one; the text is a constant of the sources, and nothing is promised of what it says. So these {count} definitions are in no number above.
+The contract promises of `--help`, of help on one kind of run, and of `--version` only that such a text is printed, or a prefix if the output fails, and nothing else is done. `notice_of` says which arguments ask for one; the text is a constant of the sources, and nothing is promised of what it says. So these {count} definitions are in no number above.
 """
 
 

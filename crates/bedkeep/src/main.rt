@@ -17,7 +17,7 @@ use crate::watched::{Hints, Seen, Watch, WatchedInput, WatchedMessages, show};
 use iv_bytes::{ReadFault, Source, StdSink, StdSource, put_all};
 use iv_cli::ExitReason;
 use iv_hints::{hint_of, hint_of_no_words, hint_of_session};
-use iv_program::{Ended, InputFiles, run_program, tell};
+use iv_program::{Ended, InputFiles, report, run_program};
 use std::cell::RefCell;
 use std::env;
 use std::fs::{File, metadata};
@@ -144,7 +144,7 @@ fn run(rt: &HostRuntime) -> Result<u8, ExitReason> {
 
 /// Ends a run whose arguments the system doesn't give.
 fn end(rt: &HostRuntime, exit_reason: ExitReason) -> u8 {
-    let status = tell(exit_reason, b"", &mut StdSink::new(rt.stderr()));
+    let status = report(exit_reason, b"", &mut StdSink::new(rt.stderr()));
     if hints_wanted(rt) != Hints::Never {
         show(rt, hint_of_no_words(rt.alloc(), exit_reason));
     }

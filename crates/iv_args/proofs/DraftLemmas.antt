@@ -1,4 +1,4 @@
--- The words of a run, taken from the front.
+-- The arguments of a run, taken from the front.
 use Rattle.std.proofs.Common.{◌≡◌, ℕ, ◌+◌, ◌-◌, ◌≤◌, Bool, true, false, List, [], ◌∷◌, ◌++◌, Option, Some, None, Bor, length, map, take, drop, refl, sym, ap, ◌∙◌, subst, arith, append-nil, append_assoc, length-append, length-drop}
 use lib.ListN.{get_or}
 use Rattle.std.specs.Prelude.{filter, if◌then◌else◌}
@@ -9,7 +9,7 @@ use Rattle.std.proofs.lemmas.List.Elements.{filter-append}
 use Rattle.iv_args.specs.declared.subcommand.Subcommand.{Subcommand}
 use Rattle.iv_args.specs.declared.subcommand.RunOption.{RunOption}
 use Rattle.iv_args.specs.declared.subcommand.RunOption.TheVariants as option
-use Rattle.iv_args.specs.Words.{SplitWords, split_words, split_next, option_of, takes_value, values_of, is_option}
+use Rattle.iv_args.specs.Arguments.{SplitArguments, split_arguments, split_next, option_of, takes_value, values_of, is_option}
 use Rattle.iv_args.specs.Inside.Drafts.{PartialPlan, unless_given, with_value, viewed, last_drafted, next_drafted, drafted}
 
 pub none≢some : {A : Type 0} (a : A) → None ≡ Some a → ⊥
@@ -23,22 +23,22 @@ abbrev pub Setting : Type 0
 Setting = RunOption × List ℕ
 
 -- the parts, and a setting before them
-abbrev pub with_setting : Setting → SplitWords → SplitWords
+abbrev pub with_setting : Setting → SplitArguments → SplitArguments
 with_setting setting parts = record parts { settings = setting ∷ parts.settings }
 
--- the parts, and words of the view before them
-abbrev pub with_words : List (List ℕ) → SplitWords → SplitWords
-with_words words parts = record parts { view = words ++ parts.view }
+-- the parts, and arguments of the view before them
+abbrev pub with_arguments : List (List ℕ) → SplitArguments → SplitArguments
+with_arguments arguments parts = record parts { view = arguments ++ parts.view }
 
--- the last word: an option would lack its value
-abbrev pub split_last : Option RunOption → List ℕ → Option SplitWords
-split_last asked word = if is_some asked then None else Some (record { settings = []; view = word ∷ [] })
+-- the last argument: an option would lack its value
+abbrev pub split_last : Option RunOption → List ℕ → Option SplitArguments
+split_last asked argument = if is_some asked then None else Some (record { settings = []; view = argument ∷ [] })
 
--- ---- one word at a time
+-- ---- one argument at a time
 
 -- the texts of references
 abbrev texts : List (Bor (List ℕ)) → List (List ℕ)
-texts words = map (λ word. word.now) words
+texts arguments = map (λ argument. argument.now) arguments
 
 -- a list with an item begins with it
 pub one-up : {A : Type 0} (f : A → List ℕ) (xs : List A) (d : A) → 1 ≤ length xs → map f xs ≡ f (get_or xs 0 d) ∷ map f (take (length xs - 1) (drop 1 xs))
@@ -53,47 +53,47 @@ left-later f xs n =
     let short : length (drop n xs) ≤ length xs - n = omega (arith, length-drop n xs) in
     ap (λ l. map f l) (sym (take_all (length xs - n) (drop n xs) short))
 
-module _ (run : Subcommand) (word : List ℕ) (old : PartialPlan) where
-  -- given what the word is
-  next-is : (o : Option RunOption) (takes : Bool) (next : List ℕ) (rest : List (List ℕ)) → option_of run word ≡ o → takes_value run word ≡ takes
-      → drafted run (word ∷ next ∷ rest) old ≡ next_drafted o takes word next (drafted run rest) (drafted run (next ∷ rest)) old
+module _ (run : Subcommand) (argument : List ℕ) (old : PartialPlan) where
+  -- given what the argument is
+  next-is : (o : Option RunOption) (takes : Bool) (next : List ℕ) (rest : List (List ℕ)) → option_of run argument ≡ o → takes_value run argument ≡ takes
+      → drafted run (argument ∷ next ∷ rest) old ≡ next_drafted o takes argument next (drafted run rest) (drafted run (next ∷ rest)) old
   next-is o takes next rest is value_is =
-      ap (λ (p : Option RunOption). next_drafted p (takes_value run word) word next (drafted run rest) (drafted run (next ∷ rest)) old) is
-      ∙ ap (λ (b : Bool). next_drafted o b word next (drafted run rest) (drafted run (next ∷ rest)) old) value_is
+      ap (λ (p : Option RunOption). next_drafted p (takes_value run argument) argument next (drafted run rest) (drafted run (next ∷ rest)) old) is
+      ∙ ap (λ (b : Bool). next_drafted o b argument next (drafted run rest) (drafted run (next ∷ rest)) old) value_is
 
   -- an option and its value
-  pub option-next : (asked : RunOption) (others : List (Bor (List ℕ))) (value : Bor (List ℕ)) → Some value ≡ slice_get others 0 → Some asked ≡ option_of run word
-      → drafted run (word ∷ texts others) old ≡ option_and_then (drafted run (texts (drop 1 others))) (with_value asked value.now old)
+  pub option-next : (asked : RunOption) (others : List (Bor (List ℕ))) (value : Bor (List ℕ)) → Some value ≡ slice_get others 0 → Some asked ≡ option_of run argument
+      → drafted run (argument ∷ texts others) old ≡ option_and_then (drafted run (texts (drop 1 others))) (with_value asked value.now old)
   option-next asked [] value first is = absurd (none≢some value (sym first))
   option-next asked (next ∷ rest) value first is =
-      next-is (Some asked) (takes_value run word) next.now (texts rest) (sym is) refl
+      next-is (Some asked) (takes_value run argument) next.now (texts rest) (sym is) refl
       ∙ ap (λ (v : Bor (List ℕ)). option_and_then (drafted run (texts rest)) (with_value asked v.now old)) (sym (some-same value next first))
 
   pub option-taken : (asked : RunOption) (others : List (Bor (List ℕ))) (value : Bor (List ℕ)) (new : PartialPlan) → Some value ≡ slice_get others 0
-      → Some asked ≡ option_of run word → with_value asked value.now old ≡ Some new → drafted run (word ∷ texts others) old ≡ drafted run (texts (drop 1 others)) new
+      → Some asked ≡ option_of run argument → with_value asked value.now old ≡ Some new → drafted run (argument ∷ texts others) old ≡ drafted run (texts (drop 1 others)) new
   option-taken asked others value new first is taken =
       option-next asked others value first is ∙ ap (option_and_then (drafted run (texts (drop 1 others)))) taken
 
   pub option-refused : (asked : RunOption) (others : List (Bor (List ℕ))) (value : Bor (List ℕ)) → Some value ≡ slice_get others 0
-      → Some asked ≡ option_of run word → with_value asked value.now old ≡ None → drafted run (word ∷ texts others) old ≡ None
+      → Some asked ≡ option_of run argument → with_value asked value.now old ≡ None → drafted run (argument ∷ texts others) old ≡ None
   option-refused asked others value first is refused =
       option-next asked others value first is ∙ ap (option_and_then (drafted run (texts (drop 1 others)))) refused
 
-  -- a word of the view and its value
-  pub value-taken : (others : List (Bor (List ℕ))) (value : Bor (List ℕ)) → Some value ≡ slice_get others 0 → None ≡ option_of run word
-      → takes_value run word ≡ true → drafted run (word ∷ texts others) old ≡ drafted run (texts (drop 1 others)) (viewed (word ∷ value.now ∷ []) old)
+  -- an argument of the view and its value
+  pub value-taken : (others : List (Bor (List ℕ))) (value : Bor (List ℕ)) → Some value ≡ slice_get others 0 → None ≡ option_of run argument
+      → takes_value run argument ≡ true → drafted run (argument ∷ texts others) old ≡ drafted run (texts (drop 1 others)) (viewed (argument ∷ value.now ∷ []) old)
   value-taken [] value first is takes = absurd (none≢some value (sym first))
   value-taken (next ∷ rest) value first is takes =
       next-is None true next.now (texts rest) (sym is) takes
-      ∙ ap (λ (v : Bor (List ℕ)). drafted run (texts rest) (viewed (word ∷ v.now ∷ []) old)) (sym (some-same value next first))
+      ∙ ap (λ (v : Bor (List ℕ)). drafted run (texts rest) (viewed (argument ∷ v.now ∷ []) old)) (sym (some-same value next first))
 
-  -- a word of the view without one
-  pub word-taken : (others : List (Bor (List ℕ))) (value : Bor (List ℕ)) → Some value ≡ slice_get others 0 → None ≡ option_of run word
-      → takes_value run word ≡ false → drafted run (word ∷ texts others) old ≡ drafted run (texts others) (viewed (word ∷ []) old)
+  -- an argument of the view without one
+  pub word-taken : (others : List (Bor (List ℕ))) (value : Bor (List ℕ)) → Some value ≡ slice_get others 0 → None ≡ option_of run argument
+      → takes_value run argument ≡ false → drafted run (argument ∷ texts others) old ≡ drafted run (texts others) (viewed (argument ∷ []) old)
   word-taken [] value first is takes = absurd (none≢some value (sym first))
   word-taken (next ∷ rest) value first is takes = next-is None false next.now (texts rest) (sym is) takes
 
--- ---- what all words mean
+-- ---- what all arguments mean
 
 -- the value given for an option
 abbrev pub said_of : PartialPlan → RunOption → Option (List ℕ)
@@ -217,19 +217,19 @@ is-set-before asked k value old new settings set =
     ∙ append_assoc (listed old k) (one_of k asked value) (values_of k settings)
     ∙ ap (λ (l : List (List ℕ)). listed old k ++ l) (sym (values-cons k asked value settings))
 
-viewed-says : (k : RunOption) (words : List (List ℕ)) (old : PartialPlan) → listed (viewed words old) k ≡ listed old k
-viewed-says option.Sizes words old = refl
-viewed-says option.First words old = refl
-viewed-says option.Other words old = refl
-viewed-says option.Bases words old = refl
-viewed-says option.Width words old = refl
-viewed-says option.Limit words old = refl
+viewed-says : (k : RunOption) (arguments : List (List ℕ)) (old : PartialPlan) → listed (viewed arguments old) k ≡ listed old k
+viewed-says option.Sizes arguments old = refl
+viewed-says option.First arguments old = refl
+viewed-says option.Other arguments old = refl
+viewed-says option.Bases arguments old = refl
+viewed-says option.Width arguments old = refl
+viewed-says option.Limit arguments old = refl
 
--- ---- words that can be taken
+-- ---- arguments that can be taken
 
--- the words have parts, and what is read after them is what was read before and these
-pub record Gives (said_parts : Option SplitWords) (old new : PartialPlan) : Type 0 where
-  pub parts : SplitWords
+-- the arguments have parts, and what is read after them is what was read before and these
+pub record Gives (said_parts : Option SplitArguments) (old new : PartialPlan) : Type 0 where
+  pub parts : SplitArguments
   pub are : said_parts ≡ Some parts
   pub values : (k : RunOption) → listed new k ≡ listed old k ++ values_of k parts.settings
   pub view : new.view ≡ old.view ++ parts.view
@@ -242,7 +242,7 @@ gives-nothing old new h = record {
   view = ap (λ (s : PartialPlan). s.view) (sym (some-same old new h)) ∙ sym (append-nil old.view);
 }
 
-gives-option : (asked : RunOption) (value : List ℕ) (old mid new : PartialPlan) (p : Option SplitWords) → IsSet asked value old mid → Gives p mid new
+gives-option : (asked : RunOption) (value : List ℕ) (old mid new : PartialPlan) (p : Option SplitArguments) → IsSet asked value old mid → Gives p mid new
     → Gives (option_map (with_setting (asked, value)) p) old new
 gives-option asked value old mid new p set g = record {
   parts = with_setting (asked, value) g.parts;
@@ -251,47 +251,47 @@ gives-option asked value old mid new p set g = record {
   view = g.view ∙ ap (λ (l : List (List ℕ)). l ++ g.parts.view) set.view;
 }
 
-gives-words : (words : List (List ℕ)) (old new : PartialPlan) (p : Option SplitWords) → Gives p (viewed words old) new → Gives (option_map (with_words words) p) old new
-gives-words words old new p g = record {
-  parts = with_words words g.parts;
-  are = ap (option_map (with_words words)) g.are;
-  values = λ k. g.values k ∙ ap (λ (l : List (List ℕ)). l ++ values_of k g.parts.settings) (viewed-says k words old);
-  view = g.view ∙ append_assoc old.view words g.parts.view;
+gives-words : (arguments : List (List ℕ)) (old new : PartialPlan) (p : Option SplitArguments) → Gives p (viewed arguments old) new → Gives (option_map (with_arguments arguments) p) old new
+gives-words arguments old new p g = record {
+  parts = with_arguments arguments g.parts;
+  are = ap (option_map (with_arguments arguments)) g.are;
+  values = λ k. g.values k ∙ ap (λ (l : List (List ℕ)). l ++ values_of k g.parts.settings) (viewed-says k arguments old);
+  view = g.view ∙ append_assoc old.view arguments g.parts.view;
 }
 
-last-gives : (o : Option RunOption) (word : List ℕ) (old new : PartialPlan) → last_drafted o word old ≡ Some new → Gives (split_last o word) old new
-last-gives None word old new h = gives-words (word ∷ []) old new (Some (record { settings = []; view = [] })) (gives-nothing (viewed (word ∷ []) old) new h)
-last-gives (Some asked) word old new h = absurd (none≢some new h)
+last-gives : (o : Option RunOption) (argument : List ℕ) (old new : PartialPlan) → last_drafted o argument old ≡ Some new → Gives (split_last o argument) old new
+last-gives None argument old new h = gives-words (argument ∷ []) old new (Some (record { settings = []; view = [] })) (gives-nothing (viewed (argument ∷ []) old) new h)
+last-gives (Some asked) argument old new h = absurd (none≢some new h)
 
-next-gives : (o : Option RunOption) (takes : Bool) (word next : List ℕ) (old new : PartialPlan) (both one : PartialPlan → Option PartialPlan) (p q : Option SplitWords)
+next-gives : (o : Option RunOption) (takes : Bool) (argument next : List ℕ) (old new : PartialPlan) (both one : PartialPlan → Option PartialPlan) (p q : Option SplitArguments)
     → ((s : PartialPlan) → both s ≡ Some new → Gives p s new) → ((s : PartialPlan) → one s ≡ Some new → Gives q s new)
-    → next_drafted o takes word next both one old ≡ Some new → Gives (split_next o takes word next p q) old new
-next-gives (Some asked) takes word next old new both one p q at_both at_one h = by (with_value asked next old) refl h
+    → next_drafted o takes argument next both one old ≡ Some new → Gives (split_next o takes argument next p q) old new
+next-gives (Some asked) takes argument next old new both one p q at_both at_one h = by (with_value asked next old) refl h
   where
     by : (o : Option PartialPlan) → with_value asked next old ≡ o → option_and_then both o ≡ Some new → Gives (option_map (with_setting (asked, next)) p) old new
     by None is h = absurd (none≢some new h)
     by (Some mid) is h = gives-option asked next old mid new p (is-set asked next old mid is) (at_both mid h)
-next-gives None true word next old new both one p q at_both at_one h =
-    gives-words (word ∷ next ∷ []) old new p (at_both (viewed (word ∷ next ∷ []) old) h)
-next-gives None false word next old new both one p q at_both at_one h =
-    gives-words (word ∷ []) old new q (at_one (viewed (word ∷ []) old) h)
+next-gives None true argument next old new both one p q at_both at_one h =
+    gives-words (argument ∷ next ∷ []) old new p (at_both (viewed (argument ∷ next ∷ []) old) h)
+next-gives None false argument next old new both one p q at_both at_one h =
+    gives-words (argument ∷ []) old new q (at_one (viewed (argument ∷ []) old) h)
 
-pub drafted-gives : (run : Subcommand) (words : List (List ℕ)) (old new : PartialPlan) → drafted run words old ≡ Some new → Gives (split_words run words) old new
+pub drafted-gives : (run : Subcommand) (arguments : List (List ℕ)) (old new : PartialPlan) → drafted run arguments old ≡ Some new → Gives (split_arguments run arguments) old new
 drafted-gives run [] old new h = gives-nothing old new h
-drafted-gives run (word ∷ []) old new h = last-gives (option_of run word) word old new h
-drafted-gives run (word ∷ next ∷ words) old new h =
-    next-gives (option_of run word) (takes_value run word) word next old new (drafted run words) (drafted run (next ∷ words)) (split_words run words)
-    (split_words run (next ∷ words)) (λ s. drafted-gives run words s new) (λ s. drafted-gives run (next ∷ words) s new) h
+drafted-gives run (argument ∷ []) old new h = last-gives (option_of run argument) argument old new h
+drafted-gives run (argument ∷ next ∷ arguments) old new h =
+    next-gives (option_of run argument) (takes_value run argument) argument next old new (drafted run arguments) (drafted run (next ∷ arguments)) (split_arguments run arguments)
+    (split_arguments run (next ∷ arguments)) (λ s. drafted-gives run arguments s new) (λ s. drafted-gives run (next ∷ arguments) s new) h
 
--- ---- words that cannot be taken
+-- ---- arguments that cannot be taken
 
 -- no option has two values
-abbrev pub HasNoTwice : PartialPlan → SplitWords → Type 0
+abbrev pub HasNoTwice : PartialPlan → SplitArguments → Type 0
 HasNoTwice said parts = (k : RunOption) → length (listed said k ++ values_of k parts.settings) ≤ 1
 
--- words that have parts give an option two values
-abbrev pub Never : Option SplitWords → PartialPlan → Type 0
-Never said_parts said = (parts : SplitWords) → said_parts ≡ Some parts → HasNoTwice said parts → ⊥
+-- arguments that have parts give an option two values
+abbrev pub Never : Option SplitArguments → PartialPlan → Type 0
+Never said_parts said = (parts : SplitArguments) → said_parts ≡ Some parts → HasNoTwice said parts → ⊥
 
 given_before : (o : Option (List ℕ)) (said : PartialPlan) → unless_given o said ≡ None → 1 ≤ length (option_to_list o)
 given_before None said h = absurd (none≢some said (sym h))
@@ -323,7 +323,7 @@ twice asked value old settings h once =
     ap (λ (l : List (List ℕ)). length (listed old asked ++ l)) (own asked value settings) ∙ length-append (listed old asked) (value ∷ values_of asked settings) in
     omega (arith, before, parts, once)
 
-never-option : (asked : RunOption) (value : List ℕ) (old : PartialPlan) (p : Option SplitWords)
+never-option : (asked : RunOption) (value : List ℕ) (old : PartialPlan) (p : Option SplitArguments)
     → ((mid : PartialPlan) → with_value asked value old ≡ Some mid → Never p mid) → Never (option_map (with_setting (asked, value)) p) old
 never-option asked value old None at parts are once = none≢some parts are
 never-option asked value old (Some q) at parts are once = by (with_value asked value old) refl
@@ -332,35 +332,35 @@ never-option asked value old (Some q) at parts are once = by (with_value asked v
     same = some-same (with_setting (asked, value) q) parts are
 
     once-of : HasNoTwice old (with_setting (asked, value) q)
-    once-of = subst (λ (x : SplitWords). HasNoTwice old x) (sym same) once
+    once-of = subst (λ (x : SplitArguments). HasNoTwice old x) (sym same) once
 
     by : (o : Option PartialPlan) → with_value asked value old ≡ o → ⊥
     by None is = twice asked value old q.settings is (once-of asked)
     by (Some mid) is =
         at mid is q refl (λ k. subst (λ (l : List (List ℕ)). length l ≤ 1) (sym (is-set-before asked k value old mid q.settings (is-set asked value old mid is))) (once-of k))
 
-never-words : (words : List (List ℕ)) (old : PartialPlan) (p : Option SplitWords) → Never p (viewed words old) → Never (option_map (with_words words) p) old
-never-words words old None never parts are once = none≢some parts are
-never-words words old (Some q) never parts are once =
-    let same = some-same (with_words words q) parts are in
-    never q refl (λ k. subst (λ (l : List (List ℕ)). length (l ++ values_of k q.settings) ≤ 1) (sym (viewed-says k words old))
-    (subst (λ (x : SplitWords). length (listed old k ++ values_of k x.settings) ≤ 1) (sym same) (once k)))
+never-words : (arguments : List (List ℕ)) (old : PartialPlan) (p : Option SplitArguments) → Never p (viewed arguments old) → Never (option_map (with_arguments arguments) p) old
+never-words arguments old None never parts are once = none≢some parts are
+never-words arguments old (Some q) never parts are once =
+    let same = some-same (with_arguments arguments q) parts are in
+    never q refl (λ k. subst (λ (l : List (List ℕ)). length (l ++ values_of k q.settings) ≤ 1) (sym (viewed-says k arguments old))
+    (subst (λ (x : SplitArguments). length (listed old k ++ values_of k x.settings) ≤ 1) (sym same) (once k)))
 
-last-never : (o : Option RunOption) (word : List ℕ) (old : PartialPlan) → last_drafted o word old ≡ None → Never (split_last o word) old
-last-never None word old h parts are once = none≢some (viewed (word ∷ []) old) (sym h)
-last-never (Some asked) word old h parts are once = none≢some parts are
+last-never : (o : Option RunOption) (argument : List ℕ) (old : PartialPlan) → last_drafted o argument old ≡ None → Never (split_last o argument) old
+last-never None argument old h parts are once = none≢some (viewed (argument ∷ []) old) (sym h)
+last-never (Some asked) argument old h parts are once = none≢some parts are
 
-next-never : (o : Option RunOption) (takes : Bool) (word next : List ℕ) (old : PartialPlan) (both one : PartialPlan → Option PartialPlan) (p q : Option SplitWords)
+next-never : (o : Option RunOption) (takes : Bool) (argument next : List ℕ) (old : PartialPlan) (both one : PartialPlan → Option PartialPlan) (p q : Option SplitArguments)
     → ((s : PartialPlan) → both s ≡ None → Never p s) → ((s : PartialPlan) → one s ≡ None → Never q s)
-    → next_drafted o takes word next both one old ≡ None → Never (split_next o takes word next p q) old
-next-never (Some asked) takes word next old both one p q at_both at_one h =
+    → next_drafted o takes argument next both one old ≡ None → Never (split_next o takes argument next p q) old
+next-never (Some asked) takes argument next old both one p q at_both at_one h =
     never-option asked next old p (λ mid is. at_both mid (sym (ap (option_and_then both) is) ∙ h))
-next-never None true word next old both one p q at_both at_one h = never-words (word ∷ next ∷ []) old p (at_both (viewed (word ∷ next ∷ []) old) h)
-next-never None false word next old both one p q at_both at_one h = never-words (word ∷ []) old q (at_one (viewed (word ∷ []) old) h)
+next-never None true argument next old both one p q at_both at_one h = never-words (argument ∷ next ∷ []) old p (at_both (viewed (argument ∷ next ∷ []) old) h)
+next-never None false argument next old both one p q at_both at_one h = never-words (argument ∷ []) old q (at_one (viewed (argument ∷ []) old) h)
 
-pub drafted-never : (run : Subcommand) (words : List (List ℕ)) (old : PartialPlan) → drafted run words old ≡ None → Never (split_words run words) old
+pub drafted-never : (run : Subcommand) (arguments : List (List ℕ)) (old : PartialPlan) → drafted run arguments old ≡ None → Never (split_arguments run arguments) old
 drafted-never run [] old h = absurd (none≢some old (sym h))
-drafted-never run (word ∷ []) old h = last-never (option_of run word) word old h
-drafted-never run (word ∷ next ∷ words) old h =
-    next-never (option_of run word) (takes_value run word) word next old (drafted run words) (drafted run (next ∷ words)) (split_words run words)
-    (split_words run (next ∷ words)) (λ s. drafted-never run words s) (λ s. drafted-never run (next ∷ words) s) h
+drafted-never run (argument ∷ []) old h = last-never (option_of run argument) argument old h
+drafted-never run (argument ∷ next ∷ arguments) old h =
+    next-never (option_of run argument) (takes_value run argument) argument next old (drafted run arguments) (drafted run (next ∷ arguments)) (split_arguments run arguments)
+    (split_arguments run (next ∷ arguments)) (λ s. drafted-never run arguments s) (λ s. drafted-never run (next ∷ arguments) s) h

@@ -1,3 +1,3 @@
 pub mod DraftLemmas
 mod PieceLemmas
-pub mod WordLemmas
+pub mod ArgumentLemmas

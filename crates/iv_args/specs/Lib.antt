@@ -1,4 +1,4 @@
-pub mod Words
+pub mod Arguments
 pub mod InfoRequests
 pub mod Texts
 pub mod Inside

@@ -24,17 +24,17 @@ proved with rattle-kit-13f logic dac8208d650f15bf
 ";
 
 /// Whether a first argument asks for help.
-fn is_help_command(word: &[u8]) -> bool
-    ensures { result ≡ (bytes_eq word.now (codes "--help") || bytes_eq word.now (codes "help")) }
+fn is_help_command(argument: &[u8]) -> bool
+    ensures { result ≡ (bytes_eq argument.now (codes "--help") || bytes_eq argument.now (codes "help")) }
 {
-    word == b"--help".as_slice() || word == b"help".as_slice()
+    argument == b"--help".as_slice() || argument == b"help".as_slice()
 }
 
 /// Whether an option asks for help.
-fn is_help_option(word: &[u8]) -> bool
-    ensures { result ≡ (bytes_eq word.now (codes "--help") || bytes_eq word.now (codes "-h")) }
+fn is_help_option(argument: &[u8]) -> bool
+    ensures { result ≡ (bytes_eq argument.now (codes "--help") || bytes_eq argument.now (codes "-h")) }
 {
-    word == b"--help".as_slice() || word == b"-h".as_slice()
+    argument == b"--help".as_slice() || argument == b"-h".as_slice()
 }
 
 impl InfoRequest {
@@ -42,16 +42,18 @@ impl InfoRequest {
     ///
     /// Help: `--help`, `-h` or `help` alone. Help on a subcommand or on `session`: its argument after `--help` or `help`, or
     /// before `--help` or `-h`. The version: `--version` alone.
-    pub fn of(words: &[&[u8]]) -> Option<InfoRequest>
-        ensures { result ≡ notice_of (map (λ word. word.now) words.now) }
+    pub fn of(arguments: &[&[u8]]) -> Option<InfoRequest>
+        ensures { result ≡ notice_of (map (λ argument. argument.now) arguments.now) }
     {
-        match words {
-            [word] if is_help_command(word) || is_help_option(word) => Some(InfoRequest::Help),
-            [word] if *word == b"--version".as_slice() => Some(InfoRequest::Version),
-            [word, subject] if is_help_command(word) => Subcommand::of(subject).map(
+        match arguments {
+            [argument] if is_help_command(argument) || is_help_option(argument) => Some(
+                InfoRequest::Help,
+            ),
+            [argument] if *argument == b"--version".as_slice() => Some(InfoRequest::Version),
+            [argument, subject] if is_help_command(argument) => Subcommand::of(subject).map(
                 InfoRequest::HelpOf,
             ),
-            [subject, word] if is_help_option(word) => Subcommand::of(subject).map(
+            [subject, argument] if is_help_option(argument) => Subcommand::of(subject).map(
                 InfoRequest::HelpOf,
             ),
             _ => None,

@@ -10,4 +10,4 @@ mod subcommand;
 pub use info_request::InfoRequest;
 pub use options::{OptionUsage, OptionValue, RUNS, RunUsage};
 pub use plan::{Plan, Slot};
-pub use subcommand::{Subcommand, no_option_twice, options_among_view_words};
+pub use subcommand::{Subcommand, no_option_twice, options_among_view_arguments};

@@ -1,14 +1,14 @@
 //! The arguments of a run: what is read of them so far, and what all of them ask for.
 ghost use Rattle.std.specs.Prelude.{◌≡◌, ◌≤◌, ◌⊎◌, ◌∷◌, [], true, Some, None, IsSome, IfOk, IfErr, OnOk, map, length, drop};
 ghost use Rattle.std.specs.Option.{option_copied, option_to_list};
-ghost use Rattle.iv_view.specs.Views.{read_words};
-ghost use Rattle.iv_args.specs.Words.{RunPlan, IsPlan, file_of, is_session, most_limit};
-ghost use Rattle.iv_args.specs.Inside.Drafts.{Makes, are_view_words, begun_by, drafted, has_needed_files, limit_said, viewed, width_said, with_value};
+ghost use Rattle.iv_view.specs.Views.{read_arguments};
+ghost use Rattle.iv_args.specs.Arguments.{RunPlan, IsPlan, file_of, is_session, most_limit};
+ghost use Rattle.iv_args.specs.Inside.Drafts.{Makes, are_view_arguments, begun_by, drafted, has_needed_files, limit_said, viewed, width_said, with_value};
 ghost use Rattle.iv_text.specs.Widths.{IsWidth};
 
 use crate::subcommand::{RunOption, Subcommand};
 use iv_text::{Fault, read_number};
-use iv_view::{Beside, View, ViewFault};
+use iv_view::{Available, View, ViewFault};
 use std::alloc::{AllocError, Allocator, Global};
 use std::marker::Model;
 
@@ -83,7 +83,7 @@ struct PlanDraft<'a, A: Allocator + Copy = Global> {
     bases: Option<&'a [u8]>,
     width: Option<&'a [u8]>,
     limit: Option<&'a [u8]>,
-    words: Vec<&'a [u8], A>,
+    arguments: Vec<&'a [u8], A>,
 }
 
 impl<'a, A: Allocator + Copy> Model for PlanDraft<'a, A> {
@@ -93,13 +93,13 @@ impl<'a, A: Allocator + Copy> Model for PlanDraft<'a, A> {
 
     ghost Value = { PartialPlan };
 
-    ghost view = { λ d. record { sizes = option_copied d.sizes; first = option_copied d.first; other = option_copied d.other; bases = option_copied d.bases; width = option_copied d.width; limit = option_copied d.limit; view = map (λ word. word.now) d.words.items } };
+    ghost view = { λ d. record { sizes = option_copied d.sizes; first = option_copied d.first; other = option_copied d.other; bases = option_copied d.bases; width = option_copied d.width; limit = option_copied d.limit; view = map (λ argument. argument.now) d.arguments.items } };
 }
 
 impl<'a, A: Allocator + Copy> PlanDraft<'a, A> {
     /// What is given once the first argument is read.
-    fn new(alloc: A, run: Subcommand, word: &'a [u8]) -> Result<Self, Fault>
-        ensures ok { IfOk result (λ draft. draft ≡ begun_by run word.now) }
+    fn new(alloc: A, run: Subcommand, argument: &'a [u8]) -> Result<Self, Fault>
+        ensures ok { IfOk result (λ draft. draft ≡ begun_by run argument.now) }
         ensures err { IfErr result (λ fault. fault ≡ Fault.NoMemory) }
     {
         let mut draft = PlanDraft {
@@ -109,31 +109,31 @@ impl<'a, A: Allocator + Copy> PlanDraft<'a, A> {
             bases: None,
             width: None,
             limit: None,
-            words: Vec::new(alloc),
+            arguments: Vec::new(alloc),
         };
         if run != Subcommand::Session {
-            draft.keep(&[word])?;
+            draft.keep(&[argument])?;
         }
         Ok(draft)
     }
 
     /// Keeps more arguments of the view.
-    fn keep(&mut self, words: &[&'a [u8]]) -> Result<(), AllocError>
-        ensures { OnOk result (self.new ≡ viewed (map (λ word. word.now) words.now) self.old) }
+    fn keep(&mut self, arguments: &[&'a [u8]]) -> Result<(), AllocError>
+        ensures { OnOk result (self.new ≡ viewed (map (λ argument. argument.now) arguments.now) self.old) }
     {
-        self.words.extend_from_slice(words)?;
+        self.arguments.extend_from_slice(arguments)?;
         Ok(())
     }
 
     /// Takes all arguments after the first.
-    fn take_all(&mut self, run: Subcommand, words: &[&'a [u8]]) -> Result<(), Fault>
-        ensures ok { OnOk result (drafted run (map (λ word. word.now) words.now) self.old ≡ Some self.new) }
+    fn take_all(&mut self, run: Subcommand, arguments: &[&'a [u8]]) -> Result<(), Fault>
+        ensures ok { OnOk result (drafted run (map (λ argument. argument.now) arguments.now) self.old ≡ Some self.new) }
         ensures err { IfErr result (λ fault. (fault ≡ Fault.NoMemory)
-            ⊎ ((fault ≡ Fault.Words) × (drafted run (map (λ word. word.now) words.now) self.old ≡ None))) }
+            ⊎ ((fault ≡ Fault.Words) × (drafted run (map (λ argument. argument.now) arguments.now) self.old ≡ None))) }
     {
-        let mut rest = words;
-        'words: while let [word, others @ ..] = rest {
-            let values = self.take(run, word, others)?;
+        let mut rest = arguments;
+        'arguments: while let [argument, others @ ..] = rest {
+            let values = self.take(run, argument, others)?;
             rest = &others[values..];
         }
         Ok(())
@@ -141,42 +141,47 @@ impl<'a, A: Allocator + Copy> PlanDraft<'a, A> {
 
     /// Takes one more argument, and the first of the others if that is its value. It answers how many of the others it has
     /// taken: one or none.
-    fn take(&mut self, run: Subcommand, word: &'a [u8], others: &[&'a [u8]]) -> Result<usize, Fault>
-        ensures ok { IfOk result (λ values. drafted run (word.now ∷ map (λ word. word.now) others.now) self.old
-            ≡ drafted run (map (λ word. word.now) (drop values others.now)) self.new) }
+    fn take(
+        &mut self,
+        run: Subcommand,
+        argument: &'a [u8],
+        others: &[&'a [u8]],
+    ) -> Result<usize, Fault>
+        ensures ok { IfOk result (λ values. drafted run (argument.now ∷ map (λ argument. argument.now) others.now) self.old
+            ≡ drafted run (map (λ argument. argument.now) (drop values others.now)) self.new) }
         ensures some { IfOk result (λ values. (values ≤ 1) × (values ≤ length others.now)) }
         ensures err { IfErr result (λ fault. (fault ≡ Fault.NoMemory)
-            ⊎ ((fault ≡ Fault.Words) × (drafted run (word.now ∷ map (λ word. word.now) others.now) self.old ≡ None))) }
+            ⊎ ((fault ≡ Fault.Words) × (drafted run (argument.now ∷ map (λ argument. argument.now) others.now) self.old ≡ None))) }
     {
         let Some(value) = others.first() else {
-            return self.take_last(run, word);
+            return self.take_last(run, argument);
         };
-        match run.option(word) {
+        match run.option(argument) {
             Some(option) => {
                 self.set(option, value)?;
                 Ok(1)
             }
-            None if run.takes_value(word) => {
-                self.keep(&[word, value])?;
+            None if run.takes_value(argument) => {
+                self.keep(&[argument, value])?;
                 Ok(1)
             }
             None => {
-                self.keep(&[word])?;
+                self.keep(&[argument])?;
                 Ok(0)
             }
         }
     }
 
     /// Takes the last argument. No others are taken.
-    fn take_last(&mut self, run: Subcommand, word: &'a [u8]) -> Result<usize, Fault>
-        ensures ok { IfOk result (λ values. (values ≡ 0) × (drafted run (word.now ∷ []) self.old ≡ Some self.new)) }
+    fn take_last(&mut self, run: Subcommand, argument: &'a [u8]) -> Result<usize, Fault>
+        ensures ok { IfOk result (λ values. (values ≡ 0) × (drafted run (argument.now ∷ []) self.old ≡ Some self.new)) }
         ensures err { IfErr result (λ fault. (fault ≡ Fault.NoMemory)
-            ⊎ ((fault ≡ Fault.Words) × (drafted run (word.now ∷ []) self.old ≡ None))) }
+            ⊎ ((fault ≡ Fault.Words) × (drafted run (argument.now ∷ []) self.old ≡ None))) }
     {
-        if run.option(word).is_some() {
+        if run.option(argument).is_some() {
             return Err(Fault::Words);
         }
-        self.keep(&[word])?;
+        self.keep(&[argument])?;
         Ok(0)
     }
 
@@ -208,18 +213,18 @@ impl<'a, A: Allocator + Copy> PlanDraft<'a, A> {
 
     /// What the arguments of the view ask for, for records of six columns beside both files.
     fn read_view(&self) -> Result<View, ViewFault>
-        ensures { result ≡ read_words 6 true true self.now.view }
+        ensures { result ≡ read_arguments 6 true true self.now.view }
     {
-        View::asked(self.words.as_slice())
+        View::asked(self.arguments.as_slice())
     }
 
     /// Whether the arguments of the view are accepted, given what they ask for. A session has none.
     fn has_view(&self, run: Subcommand, view: Result<View, ViewFault>) -> bool
-        requires { view ≡ read_words 6 true true self.now.view }
-        ensures { result ≡ are_view_words run self.now.view }
+        requires { view ≡ read_arguments 6 true true self.now.view }
+        ensures { result ≡ are_view_arguments run self.now.view }
     {
         match run {
-            Subcommand::Session => self.words.is_empty(),
+            Subcommand::Session => self.arguments.is_empty(),
             _ => !matches!(view, Err(ViewFault::Words)),
         }
     }
@@ -256,7 +261,7 @@ pub struct Plan<'a, A: Allocator + Copy = Global> {
     bases: Option<&'a [u8]>,
     width: u8,
     limit: u32,
-    words: Vec<&'a [u8], A>,
+    arguments: Vec<&'a [u8], A>,
     // What the arguments of the view ask for, for records of six columns beside both files.
     view: Result<View, ViewFault>,
 }
@@ -264,14 +269,14 @@ pub struct Plan<'a, A: Allocator + Copy = Global> {
 impl<'a, A: Allocator + Copy> Model for Plan<'a, A> {
     ghost use Rattle.std.specs.Prelude.{◌≡◌, ◌≤◌, true, map};
     ghost use Rattle.std.specs.Option.{option_copied};
-    ghost use Rattle.iv_view.specs.Views.{read_words};
-    ghost use Rattle.iv_args.specs.Words.{RunPlan, most_limit};
+    ghost use Rattle.iv_view.specs.Views.{read_arguments};
+    ghost use Rattle.iv_args.specs.Arguments.{RunPlan, most_limit};
 
     ghost Value = { RunPlan };
 
-    ghost view = { λ p. record { run = p.run; sizes = p.sizes.now; first = p.first.now; other = option_copied p.other; bases = option_copied p.bases; width = p.width; limit = p.limit; view = map (λ word. word.now) p.words.items } };
+    ghost view = { λ p. record { run = p.run; sizes = p.sizes.now; first = p.first.now; other = option_copied p.other; bases = option_copied p.bases; width = p.width; limit = p.limit; view = map (λ argument. argument.now) p.arguments.items } };
 
-    ghost invariant = { λ p. (3 ≤ p.width) × (p.width ≤ 6) × (p.limit ≤ most_limit) × (p.view ≡ read_words 6 true true (map (λ word. word.now) p.words.items)) };
+    ghost invariant = { λ p. (3 ≤ p.width) × (p.width ≤ 6) × (p.limit ≤ most_limit) × (p.view ≡ read_arguments 6 true true (map (λ argument. argument.now) p.arguments.items)) };
 }
 
 /// The plan of what is given, if that makes one.
@@ -300,7 +305,7 @@ fn plan_of<'a, A: Allocator + Copy>(
         bases: draft.bases,
         width,
         limit,
-        words: draft.words,
+        arguments: draft.arguments,
         view,
     })
 }
@@ -318,18 +323,18 @@ impl<'a, A: Allocator + Copy> Plan<'a, A> {
     ///
     /// `Words` (E16) for any other arguments, and `NoMemory` (E22). A fault of the subcommand's options that only the width of the records can
     /// show is not looked for here.
-    pub fn read(alloc: A, words: &[&'a [u8]]) -> Result<Plan<'a, A>, Fault>
-        ensures ok { IfOk result (λ plan. IsPlan (map (λ word. word.now) words.now) plan) }
+    pub fn read(alloc: A, arguments: &[&'a [u8]]) -> Result<Plan<'a, A>, Fault>
+        ensures ok { IfOk result (λ plan. IsPlan (map (λ argument. argument.now) arguments.now) plan) }
         ensures err { IfErr result (λ fault. (fault ≡ Fault.NoMemory)
-            ⊎ ((fault ≡ Fault.Words) × ((plan : RunPlan) → ¬ IsPlan (map (λ word. word.now) words.now) plan))) }
+            ⊎ ((fault ≡ Fault.Words) × ((plan : RunPlan) → ¬ IsPlan (map (λ argument. argument.now) arguments.now) plan))) }
     {
-        let Some((word, rest)) = words.split_first() else {
+        let Some((argument, rest)) = arguments.split_first() else {
             return Err(Fault::Words);
         };
-        let Some(run) = Subcommand::of(word) else {
+        let Some(run) = Subcommand::of(argument) else {
             return Err(Fault::Words);
         };
-        let mut draft = PlanDraft::new(alloc, run, word)?;
+        let mut draft = PlanDraft::new(alloc, run, argument)?;
         draft.take_all(run, rest)?;
         plan_of(run, draft)
     }
@@ -393,10 +398,10 @@ impl<'a, A: Allocator + Copy> Plan<'a, A> {
 
     /// The arguments of the view that is to be printed: the subcommand and its options, in their order. A session has none.
     /// It is for callers outside this repository.
-    pub fn view_words(&self) -> &[&'a [u8]]
-        ensures { map (λ word. word.now) result.now ≡ self.now.view }
+    pub fn view_arguments(&self) -> &[&'a [u8]]
+        ensures { map (λ argument. argument.now) result.now ≡ self.now.view }
     {
-        self.words.as_slice()
+        self.arguments.as_slice()
     }
 
     /// The view that is to be printed, of records of six columns beside a second file and a FASTA file. A session has none.
@@ -405,7 +410,7 @@ impl<'a, A: Allocator + Copy> Plan<'a, A> {
     ///
     /// `Words` in a session.
     pub fn view(&self) -> Result<View, ViewFault>
-        ensures { result ≡ read_words 6 true true self.now.view }
+        ensures { result ≡ read_arguments 6 true true self.now.view }
     {
         self.view
     }
@@ -415,10 +420,10 @@ impl<'a, A: Allocator + Copy> Plan<'a, A> {
     /// # Errors
     ///
     /// `Column`, then `NoStrand`, then `NoSecond` or `NoFasta`, and `Words` in a session.
-    pub fn view_beside(&self, beside: Beside) -> Result<View, ViewFault>
-        ensures { result ≡ read_words beside.width beside.second beside.fasta self.now.view }
+    pub fn view_beside(&self, available: Available) -> Result<View, ViewFault>
+        ensures { result ≡ read_arguments available.width available.second available.fasta self.now.view }
     {
         let view = self.view()?;
-        view.narrowed(beside)
+        view.narrowed(available)
     }
 }

@@ -2,8 +2,8 @@
 ghost use Rattle.std.specs.Prelude.{◌≡◌, ◌≢◌, ◌↔◌, ◌++◌, ◌∷◌, [], ℕ, List, Some, All};
 ghost use Rattle.std.specs.Map.{lookup};
 ghost use Rattle.std.specs.Str.{bytes_eq};
-ghost use Rattle.iv_args.specs.Inside.Pieces.{Piece, IsPiece, piece_words};
-ghost use Rattle.iv_args.specs.Words.{IsPlan, RunPlan, run_of, file_options, option_of, takes_value as value_follows};
+ghost use Rattle.iv_args.specs.Inside.Pieces.{Piece, IsPiece, piece_arguments};
+ghost use Rattle.iv_args.specs.Arguments.{IsPlan, RunPlan, run_of, file_options, option_of, takes_value as value_follows};
 ghost use Rattle.iv_args.specs.declared.subcommand.RunOption.{RunOption};
 
 /// A kind of run: a session, or a subcommand that prints its view of the files and ends.
@@ -39,26 +39,26 @@ pub(crate) enum RunOption {
 
 impl Subcommand {
     /// The kind of run that an argument names: the first of the arguments after the program's name.
-    pub fn of(word: &[u8]) -> Option<Subcommand>
-        ensures { result ≡ run_of word.now }
+    pub fn of(argument: &[u8]) -> Option<Subcommand>
+        ensures { result ≡ run_of argument.now }
     {
-        if word == b"session".as_slice() {
+        if argument == b"session".as_slice() {
             Some(Subcommand::Session)
-        } else if word == b"merge".as_slice() {
+        } else if argument == b"merge".as_slice() {
             Some(Subcommand::Merge)
-        } else if word == b"cluster".as_slice() {
+        } else if argument == b"cluster".as_slice() {
             Some(Subcommand::Cluster)
-        } else if word == b"complement".as_slice() {
+        } else if argument == b"complement".as_slice() {
             Some(Subcommand::Complement)
-        } else if word == b"genomecov".as_slice() {
+        } else if argument == b"genomecov".as_slice() {
             Some(Subcommand::Genomecov)
-        } else if word == b"intersect".as_slice() {
+        } else if argument == b"intersect".as_slice() {
             Some(Subcommand::Intersect)
-        } else if word == b"subtract".as_slice() {
+        } else if argument == b"subtract".as_slice() {
             Some(Subcommand::Subtract)
-        } else if word == b"getfasta".as_slice() {
+        } else if argument == b"getfasta".as_slice() {
             Some(Subcommand::Getfasta)
-        } else if word == b"records".as_slice() {
+        } else if argument == b"records".as_slice() {
             Some(Subcommand::Records)
         } else {
             None
@@ -66,53 +66,55 @@ impl Subcommand {
     }
 
     /// The option that an argument is.
-    pub(crate) fn option(self, word: &[u8]) -> Option<RunOption>
-        ensures { result ≡ option_of self word.now }
+    pub(crate) fn option(self, argument: &[u8]) -> Option<RunOption>
+        ensures { result ≡ option_of self argument.now }
     {
-        if word == b"-g".as_slice() {
+        if argument == b"-g".as_slice() {
             Some(RunOption::Sizes)
-        } else if word == b"-width".as_slice() {
+        } else if argument == b"-width".as_slice() {
             Some(RunOption::Width)
-        } else if word == b"-limit".as_slice() {
+        } else if argument == b"-limit".as_slice() {
             Some(RunOption::Limit)
         } else {
-            self.file_option(word)
+            self.file_option(argument)
         }
     }
 
     /// The option that an argument is, if it names the file of the records, the second file or the FASTA file.
-    fn file_option(self, word: &[u8]) -> Option<RunOption>
-        ensures { result ≡ lookup (bytes_eq word.now) (file_options self) }
+    fn file_option(self, argument: &[u8]) -> Option<RunOption>
+        ensures { result ≡ lookup (bytes_eq argument.now) (file_options self) }
     {
         match self {
-            Subcommand::Session if word == b"-i".as_slice() => Some(RunOption::First),
-            Subcommand::Session if word == b"-b".as_slice() => Some(RunOption::Other),
-            Subcommand::Session if word == b"-fi".as_slice() => Some(RunOption::Bases),
+            Subcommand::Session if argument == b"-i".as_slice() => Some(RunOption::First),
+            Subcommand::Session if argument == b"-b".as_slice() => Some(RunOption::Other),
+            Subcommand::Session if argument == b"-fi".as_slice() => Some(RunOption::Bases),
             Subcommand::Session => None,
-            Subcommand::Intersect | Subcommand::Subtract if word == b"-a".as_slice() => {
+            Subcommand::Intersect | Subcommand::Subtract if argument == b"-a".as_slice() => {
                 Some(RunOption::First)
             }
-            Subcommand::Intersect | Subcommand::Subtract if word == b"-b".as_slice() => {
+            Subcommand::Intersect | Subcommand::Subtract if argument == b"-b".as_slice() => {
                 Some(RunOption::Other)
             }
             Subcommand::Intersect | Subcommand::Subtract => None,
-            Subcommand::Getfasta if word == b"-bed".as_slice() => Some(RunOption::First),
-            Subcommand::Getfasta if word == b"-fi".as_slice() => Some(RunOption::Bases),
+            Subcommand::Getfasta if argument == b"-bed".as_slice() => Some(RunOption::First),
+            Subcommand::Getfasta if argument == b"-fi".as_slice() => Some(RunOption::Bases),
             Subcommand::Getfasta => None,
-            _ if word == b"-i".as_slice() => Some(RunOption::First),
+            _ if argument == b"-i".as_slice() => Some(RunOption::First),
             _ => None,
         }
     }
 
     /// Whether an argument of the view has the next argument as its value.
-    pub(crate) fn takes_value(self, word: &[u8]) -> bool
-        ensures { result ≡ value_follows self word.now }
+    pub(crate) fn takes_value(self, argument: &[u8]) -> bool
+        ensures { result ≡ value_follows self argument.now }
     {
         match self {
             Subcommand::Merge => {
-                word == b"-d".as_slice() || word == b"-c".as_slice() || word == b"-o".as_slice()
+                argument == b"-d".as_slice()
+                    || argument == b"-c".as_slice()
+                    || argument == b"-o".as_slice()
             }
-            Subcommand::Cluster => word == b"-d".as_slice(),
+            Subcommand::Cluster => argument == b"-d".as_slice(),
             _ => false,
         }
     }
@@ -120,11 +122,11 @@ impl Subcommand {
 
 /// Options that name files, the width or the limit may come in any order, also among the arguments of the view: two pieces next to each other
 /// may be exchanged, unless both are of the view or both of one option.
-pub fn options_among_view_words()
-    ensures { (plan : RunPlan) (word : List ℕ) (front : List Piece) (a b : Piece) (back : List (List ℕ)) → All (IsPiece plan.run) (front ++ a ∷ b ∷ []) → option_of plan.run a.word ≢ option_of plan.run b.word → (IsPlan (word ∷ (piece_words (front ++ a ∷ b ∷ []) ++ back)) plan ↔ IsPlan (word ∷ (piece_words (front ++ b ∷ a ∷ []) ++ back)) plan) }
+pub fn options_among_view_arguments()
+    ensures { (plan : RunPlan) (argument : List ℕ) (front : List Piece) (a b : Piece) (back : List (List ℕ)) → All (IsPiece plan.run) (front ++ a ∷ b ∷ []) → option_of plan.run a.argument ≢ option_of plan.run b.argument → (IsPlan (argument ∷ (piece_arguments (front ++ a ∷ b ∷ []) ++ back)) plan ↔ IsPlan (argument ∷ (piece_arguments (front ++ b ∷ a ∷ []) ++ back)) plan) }
 {}
 
 /// Arguments that give an option twice are no plan.
 pub fn no_option_twice()
-    ensures { (plan : RunPlan) (word : List ℕ) (front middle : List Piece) (a b : Piece) (back : List (List ℕ)) (asked : RunOption) → All (IsPiece plan.run) (front ++ a ∷ (middle ++ b ∷ [])) → option_of plan.run a.word ≡ Some asked → option_of plan.run b.word ≡ Some asked → ¬ IsPlan (word ∷ (piece_words (front ++ a ∷ (middle ++ b ∷ [])) ++ back)) plan }
+    ensures { (plan : RunPlan) (argument : List ℕ) (front middle : List Piece) (a b : Piece) (back : List (List ℕ)) (asked : RunOption) → All (IsPiece plan.run) (front ++ a ∷ (middle ++ b ∷ [])) → option_of plan.run a.argument ≡ Some asked → option_of plan.run b.argument ≡ Some asked → ¬ IsPlan (argument ∷ (piece_arguments (front ++ a ∷ (middle ++ b ∷ [])) ++ back)) plan }
 {}

@@ -23,10 +23,10 @@ use Rattle.iv_blocks.proofs.GroupSweeps.{member-in}
 use Rattle.iv_blocks.proofs.MembersLemmas.{between-from}
 
 -- the sequences below this rank have their blocks, and the others have none yet
-pub record IsBuiltTo (genome : Sequences) (rows : List RecordValue) (options : BlockOptions) (rank : ℕ) (now : KeptBlocks) : Type 0 where
+pub record IsBuiltTo (genome : Sequences) (records : List RecordValue) (options : BlockOptions) (rank : ℕ) (now : KeptBlocks) : Type 0 where
   pub for_options : now.options ≡ options
   pub ordered : IsLedger key_cmp now.entries
-  pub below : (k : Key) → k.0 < rank → value_at key_cmp now.entries k ≡ kept_at options (names_of genome) rows k
+  pub below : (k : Key) → k.0 < rank → value_at key_cmp now.entries k ≡ kept_at options (names_of genome) records k
   pub from : (k : Key) → rank ≤ k.0 → value_at key_cmp now.entries k ≡ None
 
 no_entries : IsLedger {V = Kept} key_cmp []
@@ -34,22 +34,22 @@ unfolding IsStrictlySortedBy
 no_entries = tt
 
 -- no block is kept yet
-pub built-none : (genome : Sequences) (rows : List RecordValue) (now : KeptBlocks) → now.entries ≡ [] → IsBuiltTo genome rows now.options 0 now
-built-none genome rows now none = record {
+pub built-none : (genome : Sequences) (records : List RecordValue) (now : KeptBlocks) → now.entries ≡ [] → IsBuiltTo genome records now.options 0 now
+built-none genome records now none = record {
   for_options = refl;
   ordered = subst (λ (l : Entries). IsLedger key_cmp l) (sym none) no_entries;
   below = λ k low. absurd (omega arith);
   from = λ k high. ap (λ (l : Entries). value_at key_cmp l k) none;
 }
 
-module _ (genome : Sequences) (width : ℕ) (rows : List RecordValue) (fit : All (Fits genome width) rows) where
-  fits : (q : RecordValue) → Mem q rows → Fits genome width q
-  fits = all-mem (Fits genome width) rows fit
+module _ (genome : Sequences) (width : ℕ) (records : List RecordValue) (fit : All (Fits genome width) records) where
+  fits : (q : RecordValue) → Mem q records → Fits genome width q
+  fits = all-mem (Fits genome width) records fit
 
   -- no record of a sequence stops past its end
-  pub all-stops : (g : Group) (end : ℕ) → end ≡ sequence_length genome g.rank → All (λ r. r.stop ≤ end) (members_between g 0 end rows)
+  pub all-stops : (g : Group) (end : ℕ) → end ≡ sequence_length genome g.rank → All (λ r. r.stop ≤ end) (members_between g 0 end records)
   all-stops g end is = mem-all (λ r. r.stop ≤ end) _ (λ q m.
-      let member = member-in g 0 end rows q m in
+      let member = member-in g 0 end records q m in
       let within : q.stop ≤ sequence_length genome q.seq = (fits q member.0).is_placed.within.1 in
       omega (arith, is, ap (sequence_length genome) member.1))
 
@@ -57,10 +57,10 @@ module _ (genome : Sequences) (width : ℕ) (rows : List RecordValue) (fit : All
   in_group-rank s rank minus q e = eqb-true _ _ (and_parts (q.seq == rank) (is_on_side s minus q) e).0
 
   -- so all records of a sequence are between its ends
-  pub group-whole : (s : Bool) (rank : ℕ) (minus : Bool) → group s rank minus (between 0 (sequence_length genome rank) rows) ≡ group s rank minus rows
+  pub group-whole : (s : Bool) (rank : ℕ) (minus : Bool) → group s rank minus (between 0 (sequence_length genome rank) records) ≡ group s rank minus records
   group-whole s rank minus =
-      filter-filter (is_in_group s rank minus) (starts_between 0 (sequence_length genome rank)) rows
-      ∙ filter-agree _ _ rows (λ q m. same_tests _ _
+      filter-filter (is_in_group s rank minus) (starts_between 0 (sequence_length genome rank)) records
+      ∙ filter-agree _ _ records (λ q m. same_tests _ _
       (λ e. (and_parts (starts_between 0 (sequence_length genome rank) q) (is_in_group s rank minus q) e).1)
       (λ e.
       let is_placed = (fits q m).is_placed in
@@ -68,15 +68,15 @@ module _ (genome : Sequences) (width : ℕ) (rows : List RecordValue) (fit : All
       and_from _ _ (between-from 0 (sequence_length genome rank) q (omega arith) (omega (arith, is_placed.some, is_placed.within.1, at))) e))
 
   pub kept-whole : (o : BlockOptions) (rank : ℕ) (minus : Bool) (x : ℕ)
-      → kept_at o (names_of genome) (between 0 (sequence_length genome rank) rows) (rank, minus, x) ≡ kept_at o (names_of genome) rows (rank, minus, x)
+      → kept_at o (names_of genome) (between 0 (sequence_length genome rank) records) (rank, minus, x) ≡ kept_at o (names_of genome) records (rank, minus, x)
   kept-whole o rank minus x =
       ap (λ (l : List RecordValue). option_map (kept_block (name_of (names_of genome) rank) (listed o.summaries)) (block_at start_of stop_of o.distance l x)) (group-whole o.stranded rank minus)
 
   -- nor past the last sequence
-  pub kept-past : (o : BlockOptions) (k : Key) → length genome ≤ k.0 → kept_at o (names_of genome) rows k ≡ None
+  pub kept-past : (o : BlockOptions) (k : Key) → length genome ≤ k.0 → kept_at o (names_of genome) records k ≡ None
   kept-past o k past =
       ap (λ (l : List RecordValue). option_map (kept_block (name_of (names_of genome) k.0) (listed o.summaries)) (block_at start_of stop_of o.distance l k.2))
-      (filter-none (is_in_group o.stranded k.0 k.1) rows (λ q m. false_from_ne_true _ (λ e.
+      (filter-none (is_in_group o.stranded k.0 k.1) records (λ q m. false_from_ne_true _ (λ e.
       let low = (fits q m).is_placed.within.0 in
       let at = in_group-rank o.stranded k.0 k.1 q e in
       omega (arith, low, at))))
@@ -84,19 +84,19 @@ module _ (genome : Sequences) (width : ℕ) (rows : List RecordValue) (fit : All
   module _ (rank end : ℕ) (is : end ≡ sequence_length genome rank) (old : KeptBlocks) where
     -- a side's blocks are inserted, as they are to be
     put-whole : (side : Side) (now next : KeptBlocks) → now.options ≡ old.options
-        → AreInserted (record { rank = rank; side = side }) (names_of genome) (between 0 end rows) now next
-        → (x : ℕ) → value_at key_cmp next.entries (rank, is_minus side, x) ≡ option_or (kept_at old.options (names_of genome) rows (rank, is_minus side, x)) (value_at key_cmp now.entries (rank, is_minus side, x))
+        → AreInserted (record { rank = rank; side = side }) (names_of genome) (between 0 end records) now next
+        → (x : ℕ) → value_at key_cmp next.entries (rank, is_minus side, x) ≡ option_or (kept_at old.options (names_of genome) records (rank, is_minus side, x)) (value_at key_cmp now.entries (rank, is_minus side, x))
     put-whole side now next same put x =
         put.here x
-        ∙ ap (λ o. option_or (kept_at o (names_of genome) (between 0 end rows) (rank, is_minus side, x)) (value_at key_cmp now.entries (rank, is_minus side, x))) same
-        ∙ ap (λ (n : ℕ). option_or (kept_at old.options (names_of genome) (between 0 n rows) (rank, is_minus side, x)) (value_at key_cmp now.entries (rank, is_minus side, x))) is
+        ∙ ap (λ o. option_or (kept_at o (names_of genome) (between 0 end records) (rank, is_minus side, x)) (value_at key_cmp now.entries (rank, is_minus side, x))) same
+        ∙ ap (λ (n : ℕ). option_or (kept_at old.options (names_of genome) (between 0 n records) (rank, is_minus side, x)) (value_at key_cmp now.entries (rank, is_minus side, x))) is
         ∙ ap (λ o. option_or o (value_at key_cmp now.entries (rank, is_minus side, x))) (kept-whole old.options rank (is_minus side) x)
 
     -- both sides are all
     pub put-both : (now new : KeptBlocks)
-        → AreInserted (record { rank = rank; side = Plus }) (names_of genome) (between 0 end rows) old now
-        → AreInserted (record { rank = rank; side = Minus }) (names_of genome) (between 0 end rows) now new
-        → AreInsertedOn rank (names_of genome) rows old new
+        → AreInserted (record { rank = rank; side = Plus }) (names_of genome) (between 0 end records) old now
+        → AreInserted (record { rank = rank; side = Minus }) (names_of genome) (between 0 end records) now new
+        → AreInsertedOn rank (names_of genome) records old new
     put-both now new first second = record {
       options = second.options ∙ first.options;
       ordered = second.ordered;
@@ -104,17 +104,17 @@ module _ (genome : Sequences) (width : ℕ) (rows : List RecordValue) (fit : All
       others = λ k other. second.others k (inl other) ∙ first.others k (inl other);
     }
       where
-        both : (minus : Bool) (x : ℕ) → value_at key_cmp new.entries (rank, minus, x) ≡ option_or (kept_at old.options (names_of genome) rows (rank, minus, x)) (value_at key_cmp old.entries (rank, minus, x))
+        both : (minus : Bool) (x : ℕ) → value_at key_cmp new.entries (rank, minus, x) ≡ option_or (kept_at old.options (names_of genome) records (rank, minus, x)) (value_at key_cmp old.entries (rank, minus, x))
         both false x = second.others (rank, false, x) (inr (λ same. cc)) ∙ put-whole Plus old now refl first x
         both true x =
             put-whole Minus now new first.options second x
-            ∙ ap (option_or (kept_at old.options (names_of genome) rows (rank, true, x))) (first.others (rank, true, x) (inr (λ same. cc)))
+            ∙ ap (option_or (kept_at old.options (names_of genome) records (rank, true, x))) (first.others (rank, true, x) (inr (λ same. cc)))
 
   option_or-none : {V : Type 0} (o : Option V) → option_or o None ≡ o
   option_or-none None = refl
   option_or-none (Some v) = refl
 
-  pub built-next : (options : BlockOptions) (rank : ℕ) (now next : KeptBlocks) → IsBuiltTo genome rows options rank now → AreInsertedOn rank (names_of genome) rows now next → IsBuiltTo genome rows options (rank + 1) next
+  pub built-next : (options : BlockOptions) (rank : ℕ) (now next : KeptBlocks) → IsBuiltTo genome records options rank now → AreInsertedOn rank (names_of genome) records now next → IsBuiltTo genome records options (rank + 1) next
   built-next options rank now next built put = record {
     for_options = put.options ∙ built.for_options;
     ordered = put.ordered;
@@ -123,16 +123,16 @@ module _ (genome : Sequences) (width : ℕ) (rows : List RecordValue) (fit : All
           let key : k ≡ (rank, k.1, k.2) = λ i. (at i, k.1, k.2) in
           ap (value_at key_cmp next.entries) key
           ∙ put.here k.1 k.2
-          ∙ ap (option_or (kept_at now.options (names_of genome) rows (rank, k.1, k.2))) (built.from (rank, k.1, k.2) (omega arith))
+          ∙ ap (option_or (kept_at now.options (names_of genome) records (rank, k.1, k.2))) (built.from (rank, k.1, k.2) (omega arith))
           ∙ option_or-none _
-          ∙ ap (λ o. kept_at o (names_of genome) rows (rank, k.1, k.2)) built.for_options
-          ∙ sym (ap (kept_at options (names_of genome) rows) key)
+          ∙ ap (λ o. kept_at o (names_of genome) records (rank, k.1, k.2)) built.for_options
+          ∙ sym (ap (kept_at options (names_of genome) records) key)
       | inr ne ↦ put.others k ne ∙ built.below k (omega arith)
     ];
     from = λ k high. put.others k (λ at. omega arith) ∙ built.from k (omega arith);
   }
 
-  pub built-all : (options : BlockOptions) (rank : ℕ) (now : KeptBlocks) → IsBuiltTo genome rows options rank now → length genome ≤ rank → AreBlocksOf options (names_of genome) rows now.entries
+  pub built-all : (options : BlockOptions) (rank : ℕ) (now : KeptBlocks) → IsBuiltTo genome records options rank now → length genome ≤ rank → AreBlocksOf options (names_of genome) records now.entries
   built-all options rank now built past = record {
     ordered = built.ordered;
     blocks = λ k. elim (cases_lt k.0 rank) [

@@ -60,20 +60,20 @@ until-later q r b precedes passes = elim (or_cases (nat_lt b.sequence q.seq) ((b
       ]
 ]
 
-later-rows : (r : RecordValue) (rows : List RecordValue) → AllByRecursion (λ y. is_le (record_cmp r y) ≡ true) rows → (q : RecordValue) → Mem q rows → Precedes r q
+later-rows : (r : RecordValue) (records : List RecordValue) → AllByRecursion (λ y. is_le (record_cmp r y) ≡ true) records → (q : RecordValue) → Mem q records → Precedes r q
 later-rows r [] all q m = absurd m
-later-rows r (x ∷ rows) all q (inl at) = subst (λ y. Precedes r y) at (precedes-from r x all.0)
-later-rows r (x ∷ rows) all q (inr m) = later-rows r rows all.1 q m
+later-rows r (x ∷ records) all q (inl at) = subst (λ y. Precedes r y) at (precedes-from r x all.0)
+later-rows r (x ∷ records) all q (inr m) = later-rows r records all.1 q m
 
 -- these are the blocks that the walk has gone past: each starts up to each record that remains
-pub record IsPassed (number : ℕ) (all left : List Block) (rows : List RecordValue) : Type 0 where
+pub record IsPassed (number : ℕ) (all left : List Block) (records : List RecordValue) : Type 0 where
   pub passed : List Block
   pub whole : all ≡ passed ++ left
   pub count : number ≡ length passed
-  pub until : (r : RecordValue) → Mem r rows → (b : Block) → Mem b passed → starts_until r.seq r.start b ≡ true
+  pub until : (r : RecordValue) → Mem r records → (b : Block) → Mem b passed → starts_until r.seq r.start b ≡ true
 
-pub IsPassed-begin : (all left : List Block) (rows : List RecordValue) → left ≡ all → IsPassed 0 all left rows
-IsPassed-begin all left rows same = record { passed = []; whole = sym same; count = refl; until = λ r m b never. absurd never }
+pub IsPassed-begin : (all left : List Block) (records : List RecordValue) → left ≡ all → IsPassed 0 all left records
+IsPassed-begin all left records same = record { passed = []; whole = sym same; count = refl; until = λ r m b never. absurd never }
 
 split : (test : Block → Bool) (blocks : List Block) → blocks ≡ take_while test blocks ++ drop_while test blocks
 split test blocks = sym (take-append-drop (prefix_len test blocks) blocks)
@@ -111,7 +111,7 @@ drop-begins test (x ∷ blocks) = go (drop-begins test blocks) (test x) refl
     go rest true is = subst (λ (l : List Block). BeginsElse test l) (sym (drop-first test (x ∷ blocks) blocks x refl is)) rest
     go rest false is = subst (λ (l : List Block). BeginsElse test l) (sym (drop-none test (x ∷ blocks) is)) is
 
-module _ (number more : ℕ) (all left after : List Block) (rows rest : List RecordValue) (r : RecordValue) (h : IsPassed number all left rows) (first : rows ≡ r ∷ rest)
+module _ (number more : ℕ) (all left after : List Block) (records rest : List RecordValue) (r : RecordValue) (h : IsPassed number all left records) (first : records ≡ r ∷ rest)
     (counted : more ≡ length (take_while (starts_until r.seq r.start) left)) (past : after ≡ drop_while (starts_until r.seq r.start) left) where
   passes : (b : Block) → Mem b (h.passed ++ take_while (starts_until r.seq r.start) left) → starts_until r.seq r.start b ≡ true
   passes b m = elim (mem-append h.passed (take_while (starts_until r.seq r.start) left) b m) [
@@ -119,7 +119,7 @@ module _ (number more : ℕ) (all left after : List Block) (rows rest : List Rec
     | inr now ↦ take-passes (starts_until r.seq r.start) left b now
   ]
 
-  pub IsPassed-next : AreInOrder rows → IsPassed (number + more) all after rest
+  pub IsPassed-next : AreInOrder records → IsPassed (number + more) all after rest
   IsPassed-next ordered =
       let sorted : AreInOrder (r ∷ rest) = subst (λ (l : List RecordValue). AreInOrder l) first ordered in
       record {
@@ -153,9 +153,9 @@ module _ (number more : ℕ) (all left after : List Block) (rows rest : List Rec
       ∙ take-all (starts_until r.seq r.start) (h.passed ++ take_while (starts_until r.seq r.start) left) (drop_while (starts_until r.seq r.start) left) passes (drop-begins (starts_until r.seq r.start) left) in
       omega (arith, h.count, counted, length-append h.passed (take_while (starts_until r.seq r.start) left), ap (λ (l : List Block). length l) same)
 
-pub IsPassed-few : (number more : ℕ) (all left : List Block) (rows : List RecordValue) (r : RecordValue) → IsPassed number all left rows → more ≡ length (take_while (starts_until r.seq r.start) left)
+pub IsPassed-few : (number more : ℕ) (all left : List Block) (records : List RecordValue) (r : RecordValue) → IsPassed number all left records → more ≡ length (take_while (starts_until r.seq r.start) left)
     → (number + more ≤ length all) × (length left ≤ length all)
-IsPassed-few number more all left rows r h counted =
+IsPassed-few number more all left records r h counted =
     let whole : length all ≡ length h.passed + length left = ap (λ (l : List Block). length l) h.whole ∙ length-append h.passed left in
     let part : length left ≡ length (take_while (starts_until r.seq r.start) left) + length (drop_while (starts_until r.seq r.start) left)
     = ap (λ (l : List Block). length l) (split (starts_until r.seq r.start) left) ∙ length-append (take_while (starts_until r.seq r.start) left) (drop_while (starts_until r.seq r.start) left) in
@@ -207,47 +207,47 @@ past-key s p x v after side = false_from_ne_true _ (λ e. elim (or_cases (nat_lt
       cc
 ])
 
-pub on-is : (s : ℕ) (rows : List RecordValue) → group false s false rows ≡ on s rows
-on-is s rows = filter-agree (is_in_group false s false) (λ r. r.seq == s) rows (λ q m. and-true (q.seq == s))
+pub on-is : (s : ℕ) (records : List RecordValue) → group false s false records ≡ on s records
+on-is s records = filter-agree (is_in_group false s false) (λ r. r.seq == s) records (λ q m. and-true (q.seq == s))
 
-module _ (o : BlockOptions) (g : Sequences) (width : ℕ) (rows : List RecordValue) (entries : Entries) (right : AreBlocksOf o (names_of g) rows entries) (fit : All (Fits g width) rows)
+module _ (o : BlockOptions) (g : Sequences) (width : ℕ) (records : List RecordValue) (entries : Entries) (right : AreBlocksOf o (names_of g) records entries) (fit : All (Fits g width) records)
     (together : o.stranded ≡ false) where
   abbrev look : Key → Option Kept
-  look = kept_at o (names_of g) rows
+  look = kept_at o (names_of g) records
 
   -- no block is on the other side
   no-other : (s p : ℕ) → look (s, true, p) ≡ None
   no-other s p =
-      let none : group o.stranded s true rows ≡ [] = ap (λ b. group b s true rows) together ∙ group-other s rows in
+      let none : group o.stranded s true records ≡ [] = ap (λ b. group b s true records) together ∙ group-other s records in
       ap (λ (l : List RecordValue). option_map (kept_block (name_of (names_of g) s) (listed o.summaries)) (block_at start_of stop_of o.distance l p)) none
 
   -- how many entries are below a position
-  side-count : (s n : ℕ) → length (side_entries look s false n) ≡ blocks_before o.distance rows s n
+  side-count : (s n : ℕ) → length (side_entries look s false n) ≡ blocks_before o.distance records s n
   side-count s n =
-      ap (λ (l : Entries). length l) (side-is o g rows s false n)
-      ∙ length-map (blocks_below start_of stop_of o.distance (group o.stranded s false rows) n) (entry_of o g s false)
-      ∙ ap (λ (b : Bool). length (blocks_below start_of stop_of o.distance (group b s false rows) n)) together
-      ∙ ap (λ (l : List RecordValue). length (blocks_below start_of stop_of o.distance l n)) (on-is s rows)
+      ap (λ (l : Entries). length l) (side-is o g records s false n)
+      ∙ length-map (blocks_below start_of stop_of o.distance (group o.stranded s false records) n) (entry_of o g s false)
+      ∙ ap (λ (b : Bool). length (blocks_below start_of stop_of o.distance (group b s false records) n)) together
+      ∙ ap (λ (l : List RecordValue). length (blocks_below start_of stop_of o.distance l n)) (on-is s records)
 
-  rank-count : (s : ℕ) → length (rank_entries look (sequence_length g) s) ≡ blocks_before o.distance rows s (sequence_length g s)
+  rank-count : (s : ℕ) → length (rank_entries look (sequence_length g) s) ≡ blocks_before o.distance records s (sequence_length g s)
   rank-count s =
-      ap (λ (l : Entries). length (side_entries look s false (sequence_length g s) ++ l)) (side-other o g rows s (sequence_length g s) together)
+      ap (λ (l : Entries). length (side_entries look s false (sequence_length g s) ++ l)) (side-other o g records s (sequence_length g s) together)
       ∙ ap (λ (l : Entries). length l) (append-nil (side_entries look s false (sequence_length g s)))
       ∙ side-count s (sequence_length g s)
 
-  ranks-count : (n : ℕ) → length (all_entries look (sequence_length g) n) ≡ sum (map (λ s. blocks_before o.distance rows s (sequence_length g s)) (range_with_len 0 n))
+  ranks-count : (n : ℕ) → length (all_entries look (sequence_length g) n) ≡ sum (map (λ s. blocks_before o.distance records s (sequence_length g s)) (range_with_len 0 n))
   ranks-count n =
       length-flat_map (rank_entries look (sequence_length g)) (range_with_len 0 n)
       ∙ ap (λ (f : ℕ → ℕ). sum_by f (range_with_len 0 n)) (λ i s. rank-count s i)
-      ∙ sym (sum-map (λ s. blocks_before o.distance rows s (sequence_length g s)) (range_with_len 0 n))
+      ∙ sym (sum-map (λ s. blocks_before o.distance records s (sequence_length g s)) (range_with_len 0 n))
 
   -- the blocks up to a position of a sequence
-  pub count-until : (s p : ℕ) → length (take_while (starts_until s p) (map interval_of entries)) ≡ blocks_until o.distance g rows s (p + 1)
+  pub count-until : (s p : ℕ) → length (take_while (starts_until s p) (map interval_of entries)) ≡ blocks_until o.distance g records s (p + 1)
   count-until s p =
       let lower : Entries = all_entries look (sequence_length g) s in
       let here : Entries = side_entries look s false (p + 1) in
       let later : Entries = from (s, false, p + 1) entries in
-      let past = none-past o g width rows fit in
+      let past = none-past o g width records fit in
       let parts : entries ≡ (lower ++ here) ++ later
       = ranks-all look (sequence_length g) entries right.ordered right.blocks past s
       ∙ ap (λ (l : Entries). lower ++ l) (walked-on look (sequence_length g) entries right.ordered right.blocks past s false (p + 1))
@@ -287,22 +287,22 @@ module _ (o : BlockOptions) (g : Sequences) (width : ℕ) (rows : List RecordVal
 
   -- up to a record there are no more than up to any position past its start
   pub count-below : (r : RecordValue) (s position number : ℕ) → r.seq ≡ s → r.start < position → number ≡ length (take_while (starts_until r.seq r.start) (map interval_of entries))
-      → number ≤ blocks_until o.distance g rows s position
+      → number ≤ blocks_until o.distance g records s position
   count-below r s position number is_on below is =
       let last : RecordValue = record r { start = position - 1 } in
       let later : Precedes r last = inr (refl, omega (arith, below)) in
       let fewer = take-fewer (starts_until r.seq r.start) (starts_until r.seq (position - 1)) (λ b passes. until-later r last b later passes) (map interval_of entries) in
       let all = count-until r.seq (position - 1) in
       let past : (position - 1) + 1 ≡ position = omega (arith, below) in
-      subst (λ k. number ≤ blocks_until o.distance g rows k position) is_on
-      (subst (λ k. number ≤ blocks_until o.distance g rows r.seq k) past (omega (arith, is, fewer, all)))
+      subst (λ k. number ≤ blocks_until o.distance g records k position) is_on
+      (subst (λ k. number ≤ blocks_until o.distance g records r.seq k) past (omega (arith, is, fewer, all)))
 
   -- the row of a record
   pub row-is : (r : RecordValue) (number : ℕ) → number ≡ length (take_while (starts_until r.seq r.start) (map interval_of entries))
-      → cluster_row o.distance g rows r ≡ record_text g r ++ codes "\t" ++ decimal number ++ codes "\n"
+      → cluster_row o.distance g records r ≡ record_text g r ++ codes "\t" ++ decimal number ++ codes "\n"
   row-is r number is = rw (is ∙ count-until r.seq r.start) refl
 
   -- the row of the next record, and those of the others
   pub rows-next : (left rest : List RecordValue) (r : RecordValue) (number : ℕ) → left ≡ r ∷ rest → number ≡ length (take_while (starts_until r.seq r.start) (map interval_of entries))
-      → flat_map (cluster_row o.distance g rows) left ≡ (record_text g r ++ codes "\t" ++ decimal number ++ codes "\n") ++ flat_map (cluster_row o.distance g rows) rest
-  rows-next left rest r number first is = rw first (ap (λ (l : List ℕ). l ++ flat_map (cluster_row o.distance g rows) rest) (row-is r number is))
+      → flat_map (cluster_row o.distance g records) left ≡ (record_text g r ++ codes "\t" ++ decimal number ++ codes "\n") ++ flat_map (cluster_row o.distance g records) rest
+  rows-next left rest r number first is = rw first (ap (λ (l : List ℕ). l ++ flat_map (cluster_row o.distance g records) rest) (row-is r number is))

@@ -12,10 +12,10 @@ use Rattle.iv_text.specs.Ordered.{AreInOrder}
 use Rattle.iv_text.specs.Read.{IsOnGenome}
 use Rattle.iv_text.specs.RecordValue.{RecordValue}
 use Rattle.iv_cover.specs.Blocks.{blocks_below, is_block_start, block_stop, members}
-use Rattle.iv_cover.specs.Inside.RemainingBlocks.{is_joined, block_of, joined, still_open, coming}
-use Rattle.iv_cover.specs.TrackBlocks.{Group, start_of, stop_of, block_on, blocks_on, blocks_of}
+use Rattle.iv_cover.specs.Inside.RemainingBlocks.{is_joined, block_of, block_with, still_open, remaining_blocks}
+use Rattle.iv_cover.specs.TrackBlocks.{BlockWithMembers, start_of, stop_of, block_on, blocks_on, blocks_of}
 use Rattle.iv_text.specs.CoveredPositions.{on}
-use Rattle.iv_cover.proofs.Comings.{coming-joined, coming-split_up}
+use Rattle.iv_cover.proofs.RemainingLemmas.{remaining-joined, remaining-split_up}
 use Rattle.iv_cover.proofs.Cover.{home}
 use Rattle.iv_cover.proofs.WalkLemmas.{gathered, gathered-more, merge-all, on-in}
 use Rattle.iv_cover.proofs.Positions.{values, values-none, values-some}
@@ -29,39 +29,39 @@ use Rattle.iv_blocks.specs.Inside.BlockSweeps.{numbered_row, numbered_rows}
 -- ---- the records that are in the blocks
 
 -- the members of a block that may be open
-abbrev pub open_members : Option Group → List RecordValue
+abbrev pub open_members : Option BlockWithMembers → List RecordValue
 open_members None = []
 open_members (Some b) = b.members
 
-abbrev pub members_of : List Group → List RecordValue
+abbrev pub members_of : List BlockWithMembers → List RecordValue
 members_of blocks = flat_map (λ b. b.members) blocks
 
 -- each record that is left is in one of the remaining blocks, in order
-pub coming-members : (d : ℕ) (rows : List RecordValue) (current : Option Group) → members_of (coming d current rows) ≡ open_members current ++ rows
-coming-members d [] None = refl
-coming-members d [] (Some b) = refl
-coming-members d (r ∷ rows) None = coming-members d rows (Some (block_of r))
-coming-members d (r ∷ rows) (Some b) = elim (cases_Bool (is_joined d b r)) [
-  | inl e ↦ ap members_of (coming-joined d b r rows e) ∙ coming-members d rows (Some (joined b r)) ∙ append_assoc b.members (r ∷ []) rows
-  | inr e ↦ ap members_of (coming-split_up d b r rows e) ∙ ap (λ (l : List RecordValue). b.members ++ l) (coming-members d rows (Some (block_of r)))
+pub remaining-members : (d : ℕ) (records : List RecordValue) (current : Option BlockWithMembers) → members_of (remaining_blocks d current records) ≡ open_members current ++ records
+remaining-members d [] None = refl
+remaining-members d [] (Some b) = refl
+remaining-members d (r ∷ records) None = remaining-members d records (Some (block_of r))
+remaining-members d (r ∷ records) (Some b) = elim (cases_Bool (is_joined d b r)) [
+  | inl e ↦ ap members_of (remaining-joined d b r records e) ∙ remaining-members d records (Some (block_with b r)) ∙ append_assoc b.members (r ∷ []) records
+  | inr e ↦ ap members_of (remaining-split_up d b r records e) ∙ ap (λ (l : List RecordValue). b.members ++ l) (remaining-members d records (Some (block_of r)))
 ]
 
 -- there are no more blocks than records, beside one that is open
-coming-count : (d : ℕ) (rows : List RecordValue) (current : Option Group) → length (coming d current rows) ≤ length rows + length (still_open current)
-coming-count d [] None = omega arith
-coming-count d [] (Some b) = omega arith
-coming-count d (r ∷ rows) None = omega (arith, coming-count d rows (Some (block_of r)))
-coming-count d (r ∷ rows) (Some b) = elim (cases_Bool (is_joined d b r)) [
-  | inl e ↦ omega (arith, ap (λ (l : List Group). length l) (coming-joined d b r rows e), coming-count d rows (Some (joined b r)))
-  | inr e ↦ omega (arith, ap (λ (l : List Group). length l) (coming-split_up d b r rows e), coming-count d rows (Some (block_of r)))
+remaining-count : (d : ℕ) (records : List RecordValue) (current : Option BlockWithMembers) → length (remaining_blocks d current records) ≤ length records + length (still_open current)
+remaining-count d [] None = omega arith
+remaining-count d [] (Some b) = omega arith
+remaining-count d (r ∷ records) None = omega (arith, remaining-count d records (Some (block_of r)))
+remaining-count d (r ∷ records) (Some b) = elim (cases_Bool (is_joined d b r)) [
+  | inl e ↦ omega (arith, ap (λ (l : List BlockWithMembers). length l) (remaining-joined d b r records e), remaining-count d records (Some (block_with b r)))
+  | inr e ↦ omega (arith, ap (λ (l : List BlockWithMembers). length l) (remaining-split_up d b r records e), remaining-count d records (Some (block_of r)))
 ]
 
-pub coming-few : (d : ℕ) (rows : List RecordValue) → length (coming d None rows) ≤ length rows
-coming-few d rows = omega (arith, coming-count d rows None)
+pub remaining-few : (d : ℕ) (records : List RecordValue) → length (remaining_blocks d None records) ≤ length records
+remaining-few d records = omega (arith, remaining-count d records None)
 
 -- ---- numbers
 
-pub numbered-append : (g : Sequences) (n : ℕ) (xs ys : List Group) → numbered_rows g n (xs ++ ys) ≡ numbered_rows g n xs ++ numbered_rows g (n + length xs) ys
+pub numbered-append : (g : Sequences) (n : ℕ) (xs ys : List BlockWithMembers) → numbered_rows g n (xs ++ ys) ≡ numbered_rows g n xs ++ numbered_rows g (n + length xs) ys
 numbered-append g n [] ys = let same : n + 0 ≡ n = omega arith in ap (λ k. numbered_rows g k ys) (sym same)
 numbered-append g n (x ∷ xs) ys =
     let same : (n + 1) + length xs ≡ n + length (x ∷ xs) = omega arith in
@@ -73,45 +73,45 @@ flat_map-agree_on : {X : Type 0} (f h : X → List ℕ) (xs : List X) → ((x : 
 flat_map-agree_on f h [] same = refl
 flat_map-agree_on f h (x ∷ xs) same = ap₂ (λ (a b : List ℕ). a ++ b) (same x (inl refl)) (flat_map-agree_on f h xs (λ y m. same y (inr m)))
 
-module _ (d : ℕ) (g : Sequences) (rows : List RecordValue) (lie : All (IsOnGenome g) rows) where
+module _ (d : ℕ) (g : Sequences) (records : List RecordValue) (lie : All (IsOnGenome g) records) where
   -- how many blocks there are on the sequences below a rank
   abbrev total : ℕ → ℕ
-  total s = length (gathered (blocks_on d g rows) s)
+  total s = length (gathered (blocks_on d g records) s)
 
-  total-is : (s : ℕ) → total s ≡ sum (map (λ rank. blocks_before d rows rank (sequence_length g rank)) (range_with_len 0 s))
+  total-is : (s : ℕ) → total s ≡ sum (map (λ rank. blocks_before d records rank (sequence_length g rank)) (range_with_len 0 s))
   total-is s =
-      length-flat_map (blocks_on d g rows) (range_with_len 0 s)
-      ∙ ap (λ (f : ℕ → ℕ). sum_by f (range_with_len 0 s)) (λ i rank. length-map (blocks_below start_of stop_of d (on rank rows) (sequence_length g rank)) (block_on rank) i)
-      ∙ sym (sum-map (λ rank. blocks_before d rows rank (sequence_length g rank)) (range_with_len 0 s))
+      length-flat_map (blocks_on d g records) (range_with_len 0 s)
+      ∙ ap (λ (f : ℕ → ℕ). sum_by f (range_with_len 0 s)) (λ i rank. length-map (blocks_below start_of stop_of d (on rank records) (sequence_length g rank)) (block_on rank) i)
+      ∙ sym (sum-map (λ rank. blocks_before d records rank (sequence_length g rank)) (range_with_len 0 s))
 
   -- the rows of the members of a block
-  abbrev block_rows : Group → List ℕ
-  block_rows b = flat_map (cluster_row d g rows) b.members
+  abbrev block_rows : BlockWithMembers → List ℕ
+  block_rows b = flat_map (cluster_row d g records) b.members
 
   -- the number of a member of the block that starts at x
-  member-number : (s x : ℕ) (r : RecordValue) → Mem r (members start_of stop_of d (on s rows) x)
-      → (y : ℕ × (ℕ × List RecordValue)) → at d g rows lie s x ≡ Some y → block_number d g rows r ≡ total s + length (values (at d g rows lie s) x) + 1
+  member-number : (s x : ℕ) (r : RecordValue) → Mem r (members start_of stop_of d (on s records) x)
+      → (y : ℕ × (ℕ × List RecordValue)) → at d g records lie s x ≡ Some y → block_number d g records r ≡ total s + length (values (at d g records lie s) x) + 1
   member-number s x r m y there =
-      let is_placed = on-in s rows r (mem-filter _ (on s rows) r m).0 in
-      let start : own d g rows lie r ≡ x
-      = ap (λ k. home start_of stop_of d (on k rows) r) is_placed.1 ∙ same-home d g rows lie s x r (mem-contains _ r m) in
-      let count : blocks_before d rows r.seq (r.start + 1) ≡ length (values (at d g rows lie s) (suc x))
-      = own-number d g rows lie r ∙ ap₂ (λ (k z : ℕ). length (values (at d g rows lie k) (suc z))) is_placed.1 start in
-      let lower : sum (map (λ rank. blocks_before d rows rank (sequence_length g rank)) (range_with_len 0 r.seq)) ≡ total s
-      = ap (λ (k : ℕ). sum (map (λ rank. blocks_before d rows rank (sequence_length g rank)) (range_with_len 0 k))) is_placed.1 ∙ sym (total-is s) in
-      let more : length (values (at d g rows lie s) (suc x)) ≡ length (values (at d g rows lie s) x) + 1
-      = ap (λ (l : List (ℕ × (ℕ × List RecordValue))). length l) (values-some (at d g rows lie s) x y there) ∙ length-append (values (at d g rows lie s) x) (y ∷ []) in
+      let is_placed = on-in s records r (mem-filter _ (on s records) r m).0 in
+      let start : own d g records lie r ≡ x
+      = ap (λ k. home start_of stop_of d (on k records) r) is_placed.1 ∙ same-home d g records lie s x r (mem-contains _ r m) in
+      let count : blocks_before d records r.seq (r.start + 1) ≡ length (values (at d g records lie s) (suc x))
+      = own-number d g records lie r ∙ ap₂ (λ (k z : ℕ). length (values (at d g records lie k) (suc z))) is_placed.1 start in
+      let lower : sum (map (λ rank. blocks_before d records rank (sequence_length g rank)) (range_with_len 0 r.seq)) ≡ total s
+      = ap (λ (k : ℕ). sum (map (λ rank. blocks_before d records rank (sequence_length g rank)) (range_with_len 0 k))) is_placed.1 ∙ sym (total-is s) in
+      let more : length (values (at d g records lie s) (suc x)) ≡ length (values (at d g records lie s) x) + 1
+      = ap (λ (l : List (ℕ × (ℕ × List RecordValue))). length l) (values-some (at d g records lie s) x y there) ∙ length-append (values (at d g records lie s) x) (y ∷ []) in
       omega (arith, lower, count, more)
 
   -- the block that starts at a position has the members of the definition
-  members-are : (s x : ℕ) (y : ℕ × (ℕ × List RecordValue)) → at d g rows lie s x ≡ Some y → y.1.1 ≡ members start_of stop_of d (on s rows) x
-  members-are s x y there = elim (cases_Bool (is_block_start start_of stop_of d (on s rows) x)) [
+  members-are : (s x : ℕ) (y : ℕ × (ℕ × List RecordValue)) → at d g records lie s x ≡ Some y → y.1.1 ≡ members start_of stop_of d (on s records) x
+  members-are s x y there = elim (cases_Bool (is_block_start start_of stop_of d (on s records) x)) [
     | inl e ↦
-        let same : Some (x, (block_stop start_of stop_of d (on s rows) x, members start_of stop_of d (on s rows) x)) ≡ Some y
-        = sym (ap (option_map (λ (b : ℕ × List RecordValue). (x, b))) (cond-true (is_block_start start_of stop_of d (on s rows) x) _ _ e)) ∙ there in
+        let same : Some (x, (block_stop start_of stop_of d (on s records) x, members start_of stop_of d (on s records) x)) ≡ Some y
+        = sym (ap (option_map (λ (b : ℕ × List RecordValue). (x, b))) (cond-true (is_block_start start_of stop_of d (on s records) x) _ _ e)) ∙ there in
         some-is _ y same
     | inr e ↦
-        let never : None ≡ Some y = sym (ap (option_map (λ (b : ℕ × List RecordValue). (x, b))) (cond-false (is_block_start start_of stop_of d (on s rows) x) _ _ e)) ∙ there in
+        let never : None ≡ Some y = sym (ap (option_map (λ (b : ℕ × List RecordValue). (x, b))) (cond-false (is_block_start start_of stop_of d (on s records) x) _ _ e)) ∙ there in
         cc
   ]
     where
@@ -119,13 +119,13 @@ module _ (d : ℕ) (g : Sequences) (rows : List RecordValue) (lie : All (IsOnGen
       some-is z w is = cc
 
   -- one more block of a sequence
-  block-more : (s x : ℕ) (y : ℕ × (ℕ × List RecordValue)) → at d g rows lie s x ≡ Some y
-      → numbered_rows g (total s + length (map (block_on s) (values (at d g rows lie s) x))) (block_on s y ∷ []) ≡ flat_map block_rows (block_on s y ∷ [])
+  block-more : (s x : ℕ) (y : ℕ × (ℕ × List RecordValue)) → at d g records lie s x ≡ Some y
+      → numbered_rows g (total s + length (map (block_on s) (values (at d g records lie s) x))) (block_on s y ∷ []) ≡ flat_map block_rows (block_on s y ∷ [])
   block-more s x y there =
-      let k : ℕ = total s + length (map (block_on s) (values (at d g rows lie s) x)) + 1 in
-      ap (λ (l : List ℕ). l ++ []) (flat_map-agree_on (numbered_row g k) (cluster_row d g rows) y.1.1 (λ r m.
+      let k : ℕ = total s + length (map (block_on s) (values (at d g records lie s) x)) + 1 in
+      ap (λ (l : List ℕ). l ++ []) (flat_map-agree_on (numbered_row g k) (cluster_row d g records) y.1.1 (λ r m.
       let number = member-number s x r (subst (λ (l : List RecordValue). Mem r l) (members-are s x y there) m) y there in
-      let same : k ≡ block_number d g rows r = omega (arith, number, length-map (values (at d g rows lie s) x) (block_on s)) in
+      let same : k ≡ block_number d g records r = omega (arith, number, length-map (values (at d g records lie s) x) (block_on s)) in
       ap (λ n. numbered_row g n r) same))
 
   -- the blocks on a sequence, from the first on, have the numbers of their members
@@ -133,14 +133,14 @@ module _ (d : ℕ) (g : Sequences) (rows : List RecordValue) (lie : All (IsOnGen
   AreNumbered s l = numbered_rows g (total s) (map (block_on s) l) ≡ flat_map block_rows (map (block_on s) l)
 
   -- the blocks of a sequence that start below n
-  sequence-rows : (s n : ℕ) → numbered_rows g (total s) (map (block_on s) (values (at d g rows lie s) n)) ≡ flat_map block_rows (map (block_on s) (values (at d g rows lie s) n))
+  sequence-rows : (s n : ℕ) → numbered_rows g (total s) (map (block_on s) (values (at d g records lie s) n)) ≡ flat_map block_rows (map (block_on s) (values (at d g records lie s) n))
   sequence-rows s zero = refl
-  sequence-rows s (suc n) = go (sequence-rows s n) (at d g rows lie s n) refl
+  sequence-rows s (suc n) = go (sequence-rows s n) (at d g records lie s n) refl
     where
-      go : AreNumbered s (values (at d g rows lie s) n) → (o : Option (ℕ × (ℕ × List RecordValue))) → at d g rows lie s n ≡ o → AreNumbered s (values (at d g rows lie s) (suc n))
-      go rest None is = subst (AreNumbered s) (sym (values-none (at d g rows lie s) n is)) rest
+      go : AreNumbered s (values (at d g records lie s) n) → (o : Option (ℕ × (ℕ × List RecordValue))) → at d g records lie s n ≡ o → AreNumbered s (values (at d g records lie s) (suc n))
+      go rest None is = subst (AreNumbered s) (sym (values-none (at d g records lie s) n is)) rest
       go rest (Some y) is =
-          let vs = values (at d g rows lie s) n in
+          let vs = values (at d g records lie s) n in
           let split : map (block_on s) (vs ++ y ∷ []) ≡ map (block_on s) vs ++ block_on s y ∷ [] = map-append (block_on s) vs (y ∷ []) in
           let all : AreNumbered s (vs ++ y ∷ []) =
           ap (numbered_rows g (total s)) split
@@ -148,21 +148,21 @@ module _ (d : ℕ) (g : Sequences) (rows : List RecordValue) (lie : All (IsOnGen
           ∙ ap₂ (λ (a b : List ℕ). a ++ b) rest (block-more s n y is)
           ∙ sym (flat_map-append block_rows (map (block_on s) vs) (block_on s y ∷ []))
           ∙ ap (flat_map block_rows) (sym split) in
-          subst (AreNumbered s) (sym (values-some (at d g rows lie s) n y is)) all
+          subst (AreNumbered s) (sym (values-some (at d g records lie s) n y is)) all
 
   -- the blocks of the sequences below n
-  ranks-rows : (n : ℕ) → numbered_rows g 0 (gathered (blocks_on d g rows) n) ≡ flat_map block_rows (gathered (blocks_on d g rows) n)
+  ranks-rows : (n : ℕ) → numbered_rows g 0 (gathered (blocks_on d g records) n) ≡ flat_map block_rows (gathered (blocks_on d g records) n)
   ranks-rows zero = refl
   ranks-rows (suc n) =
       let first : 0 + total n ≡ total n = omega arith in
-      ap (numbered_rows g 0) (gathered-more (blocks_on d g rows) n)
-      ∙ numbered-append g 0 (gathered (blocks_on d g rows) n) (blocks_on d g rows n)
-      ∙ ap₂ (λ (a b : List ℕ). a ++ b) (ranks-rows n) (ap (λ k. numbered_rows g k (blocks_on d g rows n)) first ∙ sequence-rows n (sequence_length g n))
-      ∙ sym (flat_map-append block_rows (gathered (blocks_on d g rows) n) (blocks_on d g rows n))
-      ∙ ap (flat_map block_rows) (sym (gathered-more (blocks_on d g rows) n))
+      ap (numbered_rows g 0) (gathered-more (blocks_on d g records) n)
+      ∙ numbered-append g 0 (gathered (blocks_on d g records) n) (blocks_on d g records n)
+      ∙ ap₂ (λ (a b : List ℕ). a ++ b) (ranks-rows n) (ap (λ k. numbered_rows g k (blocks_on d g records n)) first ∙ sequence-rows n (sequence_length g n))
+      ∙ sym (flat_map-append block_rows (gathered (blocks_on d g records) n) (blocks_on d g records n))
+      ∙ ap (flat_map block_rows) (sym (gathered-more (blocks_on d g records) n))
 
-  pub cluster-rows : AreInOrder rows → numbered_rows g 0 (blocks_of d g rows) ≡ cluster_text d g rows
+  pub cluster-rows : AreInOrder records → numbered_rows g 0 (blocks_of d g records) ≡ cluster_text d g records
   cluster-rows order =
       ranks-rows (seq_count g)
-      ∙ sym (flat_map-flat_map (cluster_row d g rows) (λ (b : Group). b.members) (blocks_of d g rows))
-      ∙ ap (flat_map (cluster_row d g rows)) (ap members_of (sym (merge-all d g rows order lie)) ∙ coming-members d rows None)
+      ∙ sym (flat_map-flat_map (cluster_row d g records) (λ (b : BlockWithMembers). b.members) (blocks_of d g records))
+      ∙ ap (flat_map (cluster_row d g records)) (ap members_of (sym (merge-all d g records order lie)) ∙ remaining-members d records None)

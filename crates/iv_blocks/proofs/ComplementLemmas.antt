@@ -119,28 +119,28 @@ value-mem {Y} f (suc n) x y low is = go (λ before. value-mem f n x y before is)
 
 -- ---- the depth
 
-depth-counts : (rows : List RecordValue) (s p : ℕ) → depth rows s p ≡ length (filter (covers s p) rows)
-depth-counts rows s p = sym (length-filter (covers s p) rows)
+depth-counts : (records : List RecordValue) (s p : ℕ) → depth records s p ≡ length (filter (covers s p) records)
+depth-counts records s p = sym (length-filter (covers s p) records)
 
-pub in-group : (s : ℕ) (rows : List RecordValue) (q : RecordValue) → Mem q rows → q.seq ≡ s → Mem q (group false s false rows)
-in-group s rows q m rank = mem-filter_from (is_in_group false s false) rows q m (and_from _ _ (eq-eqb q.seq s rank) refl)
+pub in-group : (s : ℕ) (records : List RecordValue) (q : RecordValue) → Mem q records → q.seq ≡ s → Mem q (group false s false records)
+in-group s records q m rank = mem-filter_from (is_in_group false s false) records q m (and_from _ _ (eq-eqb q.seq s rank) refl)
 
 -- a covered position has a depth
-pub depth-some : (rows : List RecordValue) (s p : ℕ) → Covered start_of stop_of 0 (group false s false rows) (suc p) → depth rows s p ≢ 0
-depth-some rows s p c none =
-    let both = group-in false s false rows c.0 c.1 in
+pub depth-some : (records : List RecordValue) (s p : ℕ) → Covered start_of stop_of 0 (group false s false records) (suc p) → depth records s p ≢ 0
+depth-some records s p c none =
+    let both = group-in false s false records c.0 c.1 in
     let covers_it : covers s p c.0 ≡ true = and_from _ _ (eq-eqb c.0.seq s both.1) (and_from _ _ (le-leb c.0.start p (omega (arith, c.2))) (lt-ltb p c.0.stop (omega (arith, c.3)))) in
-    let at = mem-place (filter (covers s p) rows) c.0 c.0 (mem-filter_from (covers s p) rows c.0 both.0 covers_it) in
-    omega (arith, depth-counts rows s p, none, at.1)
+    let at = mem-place (filter (covers s p) records) c.0 c.0 (mem-filter_from (covers s p) records c.0 both.0 covers_it) in
+    omega (arith, depth-counts records s p, none, at.1)
 
 -- and a free one has none
-pub depth-none : (rows : List RecordValue) (s p : ℕ) → Free start_of stop_of 0 (group false s false rows) (suc p) → depth rows s p ≡ 0
-depth-none rows s p free =
-    depth-counts rows s p
-    ∙ ap (λ (l : List RecordValue). length l) (filter-none (covers s p) rows (λ q m. false_from_ne_true _ (λ e.
+pub depth-none : (records : List RecordValue) (s p : ℕ) → Free start_of stop_of 0 (group false s false records) (suc p) → depth records s p ≡ 0
+depth-none records s p free =
+    depth-counts records s p
+    ∙ ap (λ (l : List RecordValue). length l) (filter-none (covers s p) records (λ q m. false_from_ne_true _ (λ e.
     let first = and_parts (q.seq == s) (nat_le q.start p && nat_lt p q.stop) e in
     let rest = and_parts (nat_le q.start p) (nat_lt p q.stop) first.1 in
-    omega (arith, free q (in-group s rows q m (eqb-true _ _ first.0)) (omega (arith, leb-true _ _ rest.0)), ltb-true _ _ rest.1))))
+    omega (arith, free q (in-group s records q m (eqb-true _ _ first.0)) (omega (arith, leb-true _ _ rest.0)), ltb-true _ _ rest.1))))
 
 -- ---- the blocks of a sequence
 
@@ -164,89 +164,89 @@ shown-some from to (b ∷ blocks) some = refl
 
 -- where the block on a sequence is that starts at a position, if there is one
 abbrev pub interval_at : List RecordValue → ℕ → ℕ → Option Block
-interval_at rows s x = place_of s x (block_at start_of stop_of 0 (group false s false rows) x)
+interval_at records s x = place_of s x (block_at start_of stop_of 0 (group false s false records) x)
 
 -- where the blocks on a sequence are
 abbrev pub intervals_on : Sequences → List RecordValue → ℕ → List Block
-intervals_on g rows s = values (interval_at rows s) (sequence_length g s)
+intervals_on g records s = values (interval_at records s) (sequence_length g s)
 
-module _ (g : Sequences) (rows : List RecordValue) (lie : All (IsOnGenome g) rows) where
-  are-own : AreOwn g (intervals_on g rows)
+module _ (g : Sequences) (records : List RecordValue) (lie : All (IsOnGenome g) records) where
+  are-own : AreOwn g (intervals_on g records)
   are-own s b m =
-      let found = mem-values (interval_at rows s) (sequence_length g s) b m in
-      let is_placed = place-is_placed s found.0 (block_at start_of stop_of 0 (group false s false rows) found.0) b found.2 in
+      let found = mem-values (interval_at records s) (sequence_length g s) b m in
+      let is_placed = place-is_placed s found.0 (block_at start_of stop_of 0 (group false s false records) found.0) b found.2 in
       (is_placed.0, omega (arith, is_placed.1, found.1))
 
   -- the records of a sequence end on it
-  pub within : (s : ℕ) (q : RecordValue) → Mem q (group false s false rows) → (q.start < q.stop) × (q.stop ≤ sequence_length g s)
+  pub within : (s : ℕ) (q : RecordValue) → Mem q (group false s false records) → (q.start < q.stop) × (q.stop ≤ sequence_length g s)
   within s q m =
-      let both = group-in false s false rows q m in
-      let is_placed = all-mem (IsOnGenome g) rows lie q both.0 in
+      let both = group-in false s false records q m in
+      let is_placed = all-mem (IsOnGenome g) records lie q both.0 in
       (is_placed.some, rw both.1 at is_placed.within.1)
 
-  runs-are : (s : ℕ) → gaps_between true 0 (sequence_length g s) (intervals_on g rows s) ≡ empty_runs (depth rows s) 0 (sequence_length g s)
-  runs-are s = all_gaps-are (group false s false rows) (depth rows s) s (sequence_length g s)
-      (λ q m. (within s q m).0) (λ q m. (within s q m).1) (depth-some rows s) (depth-none rows s)
+  runs-are : (s : ℕ) → gaps_between true 0 (sequence_length g s) (intervals_on g records s) ≡ empty_runs (depth records s) 0 (sequence_length g s)
+  runs-are s = all_gaps-are (group false s false records) (depth records s) s (sequence_length g s)
+      (λ q m. (within s q m).0) (λ q m. (within s q m).1) (depth-some records s) (depth-none records s)
 
   -- a sequence with a record has a block
-  own-some : (s : ℕ) → list_any (λ r. r.seq == s) rows ≡ true → intervals_on g rows s ≢ []
+  own-some : (s : ℕ) → list_any (λ r. r.seq == s) records ≡ true → intervals_on g records s ≢ []
   own-some s e none =
-      let found = any-found (λ (r : RecordValue). r.seq == s) rows e in
-      let m = in-group s rows found.0 found.1 (eqb-true _ _ found.2) in
-      let first = some_start start_of stop_of 0 (group false s false rows) found.0.start found.0 m (omega arith) in
+      let found = any-found (λ (r : RecordValue). r.seq == s) records e in
+      let m = in-group s records found.0 found.1 (eqb-true _ _ found.2) in
+      let first = some_start start_of stop_of 0 (group false s false records) found.0.start found.0 m (omega arith) in
       let fits = within s found.0 m in
-      let stop : ℕ = block_stop start_of stop_of 0 (group false s false rows) first.0 in
-      let block = block_at-some start_of stop_of 0 (group false s false rows) first.0 stop (λ q m. (within s q m).0)
-      (block_at_start start_of stop_of 0 (group false s false rows) first.0 (λ q m. (within s q m).0) first.2) in
+      let stop : ℕ = block_stop start_of stop_of 0 (group false s false records) first.0 in
+      let block = block_at-some start_of stop_of 0 (group false s false records) first.0 stop (λ q m. (within s q m).0)
+      (block_at_start start_of stop_of 0 (group false s false records) first.0 (λ q m. (within s q m).0) first.2) in
       let b : Block = record { sequence = s; start = first.0; stop = stop } in
-      let there = value-mem (interval_at rows s) (sequence_length g s) first.0 b (omega (arith, first.1, fits)) (ap (place_of s first.0) block) in
+      let there = value-mem (interval_at records s) (sequence_length g s) first.0 b (omega (arith, first.1, fits)) (ap (place_of s first.0) block) in
       subst (λ (l : List Block). Mem b l) none there
 
   -- and one without has none
-  own-none : (s : ℕ) → list_any (λ r. r.seq == s) rows ≡ false → intervals_on g rows s ≡ []
+  own-none : (s : ℕ) → list_any (λ r. r.seq == s) records ≡ false → intervals_on g records s ≡ []
   own-none s e =
-      let empty : group false s false rows ≡ [] = filter-none (is_in_group false s false) rows (λ q m. and_left _ _ (any-none (λ (r : RecordValue). r.seq == s) rows e q m)) in
-      values-none_from (interval_at rows s) (sequence_length g s) 0 (omega arith)
+      let empty : group false s false records ≡ [] = filter-none (is_in_group false s false) records (λ q m. and_left _ _ (any-none (λ (r : RecordValue). r.seq == s) records e q m)) in
+      values-none_from (interval_at records s) (sequence_length g s) 0 (omega arith)
       (λ x from below. ap (λ (l : List RecordValue). place_of s x (block_at start_of stop_of 0 l x)) empty)
 
-  sequence-is : (limited : Bool) (s : ℕ) → sequence_text (not limited) g s (intervals_on g rows s) ≡ gap_rows None limited g rows s
+  sequence-is : (limited : Bool) (s : ℕ) → sequence_text (not limited) g s (intervals_on g records s) ≡ gap_rows None limited g records s
   sequence-is false s = ap (flat_map (gap_row (sequence_name g s))) (runs-are s)
-  sequence-is true s = go (list_any (λ r. r.seq == s) rows) refl
+  sequence-is true s = go (list_any (λ r. r.seq == s) records) refl
     where
-      go : (b : Bool) → list_any (λ r. r.seq == s) rows ≡ b → sequence_text false g s (intervals_on g rows s) ≡ gap_rows None true g rows s
-      go true e = ap (flat_map (gap_row (sequence_name g s))) (shown-some 0 (sequence_length g s) (intervals_on g rows s) (own-some s e) ∙ runs-are s)
-          ∙ sym (ap (flat_map (gap_row (sequence_name g s))) (cond-true (is_shown true rows s) (empty_runs (depth rows s) 0 (sequence_length g s)) [] e))
+      go : (b : Bool) → list_any (λ r. r.seq == s) records ≡ b → sequence_text false g s (intervals_on g records s) ≡ gap_rows None true g records s
+      go true e = ap (flat_map (gap_row (sequence_name g s))) (shown-some 0 (sequence_length g s) (intervals_on g records s) (own-some s e) ∙ runs-are s)
+          ∙ sym (ap (flat_map (gap_row (sequence_name g s))) (cond-true (is_shown true records s) (empty_runs (depth records s) 0 (sequence_length g s)) [] e))
       go false e = ap (sequence_text false g s) (own-none s e)
-          ∙ sym (ap (flat_map (gap_row (sequence_name g s))) (cond-false (is_shown true rows s) (empty_runs (depth rows s) 0 (sequence_length g s)) [] e))
+          ∙ sym (ap (flat_map (gap_row (sequence_name g s))) (cond-false (is_shown true records s) (empty_runs (depth records s) 0 (sequence_length g s)) [] e))
 
   -- the rows of the gaps of all blocks
-  pub gaps-of_blocks : (limited : Bool) → texts (not limited) g 0 (seq_count g) (flat_map (intervals_on g rows) (range_with_len 0 (seq_count g))) ≡ complement_text limited g rows
+  pub gaps-of_blocks : (limited : Bool) → texts (not limited) g 0 (seq_count g) (flat_map (intervals_on g records) (range_with_len 0 (seq_count g))) ≡ complement_text limited g records
   gaps-of_blocks limited =
-      texts-are (not limited) g (intervals_on g rows) are-own (seq_count g) 0
-      ∙ flat_map-agree (λ s. sequence_text (not limited) g s (intervals_on g rows s)) (gap_rows None limited g rows) (range_with_len 0 (seq_count g)) (sequence-is limited)
+      texts-are (not limited) g (intervals_on g records) are-own (seq_count g) 0
+      ∙ flat_map-agree (λ s. sequence_text (not limited) g s (intervals_on g records s)) (gap_rows None limited g records) (range_with_len 0 (seq_count g)) (sequence-is limited)
 
-module _ (o : BlockOptions) (g : Sequences) (width : ℕ) (rows : List RecordValue) (entries : Entries) (right : AreBlocksOf o (names_of g) rows entries) (fit : All (Fits g width) rows)
+module _ (o : BlockOptions) (g : Sequences) (width : ℕ) (records : List RecordValue) (entries : Entries) (right : AreBlocksOf o (names_of g) records entries) (fit : All (Fits g width) records)
     (distance : o.distance ≡ 0) (together : o.stranded ≡ false) where
   -- where the entries of a sequence are
   abbrev own_entries : ℕ → Entries
-  own_entries s = flat_map (λ t. map (entry_of o g s t) (side_blocks o g rows s t)) (sides o.stranded)
+  own_entries s = flat_map (λ t. map (entry_of o g s t) (side_blocks o g records s t)) (sides o.stranded)
 
-  own-are : (s : ℕ) → map interval_of (own_entries s) ≡ intervals_on g rows s
+  own-are : (s : ℕ) → map interval_of (own_entries s) ≡ intervals_on g records s
   own-are s =
       let n : ℕ = sequence_length g s in
-      ap₂ (λ (d : ℕ) (apart : Bool). map interval_of (flat_map (λ t. map (entry_of o g s t) (blocks_below start_of stop_of d (group apart s t rows) n)) (sides apart))) distance together
-      ∙ ap (map interval_of) (append-nil (map (entry_of o g s false) (blocks_below start_of stop_of 0 (group false s false rows) n)))
-      ∙ ap (map interval_of) (map-filter_map (entry_of o g s false) (λ x. option_map (λ b. (x, b)) (block_at start_of stop_of 0 (group false s false rows) x)) (range_with_len 0 n))
-      ∙ map-filter_map interval_of (λ x. option_map (entry_of o g s false) (option_map (λ b. (x, b)) (block_at start_of stop_of 0 (group false s false rows) x))) (range_with_len 0 n)
-      ∙ values-agree (λ x. option_map interval_of (option_map (entry_of o g s false) (option_map (λ b. (x, b)) (block_at start_of stop_of 0 (group false s false rows) x)))) (interval_at rows s) n
-      (λ x below. place-of o g s x (block_at start_of stop_of 0 (group false s false rows) x))
+      ap₂ (λ (d : ℕ) (apart : Bool). map interval_of (flat_map (λ t. map (entry_of o g s t) (blocks_below start_of stop_of d (group apart s t records) n)) (sides apart))) distance together
+      ∙ ap (map interval_of) (append-nil (map (entry_of o g s false) (blocks_below start_of stop_of 0 (group false s false records) n)))
+      ∙ ap (map interval_of) (map-filter_map (entry_of o g s false) (λ x. option_map (λ b. (x, b)) (block_at start_of stop_of 0 (group false s false records) x)) (range_with_len 0 n))
+      ∙ map-filter_map interval_of (λ x. option_map (entry_of o g s false) (option_map (λ b. (x, b)) (block_at start_of stop_of 0 (group false s false records) x))) (range_with_len 0 n)
+      ∙ values-agree (λ x. option_map interval_of (option_map (entry_of o g s false) (option_map (λ b. (x, b)) (block_at start_of stop_of 0 (group false s false records) x)))) (interval_at records s) n
+      (λ x below. place-of o g s x (block_at start_of stop_of 0 (group false s false records) x))
 
-  is_placed-all : map interval_of entries ≡ flat_map (intervals_on g rows) (range_with_len 0 (seq_count g))
+  is_placed-all : map interval_of entries ≡ flat_map (intervals_on g records) (range_with_len 0 (seq_count g))
   is_placed-all =
-      ap (map interval_of) (entries-are o g width rows fit entries right)
+      ap (map interval_of) (entries-are o g width records fit entries right)
       ∙ map-flat_map interval_of own_entries (range_with_len 0 (seq_count g))
-      ∙ flat_map-agree (λ s. map interval_of (own_entries s)) (intervals_on g rows) (range_with_len 0 (seq_count g)) own-are
+      ∙ flat_map-agree (λ s. map interval_of (own_entries s)) (intervals_on g records) (range_with_len 0 (seq_count g)) own-are
 
   -- the rows of all gaps
-  pub gaps-are : (limited : Bool) → texts (not limited) g 0 (seq_count g) (map interval_of entries) ≡ complement_text limited g rows
-  gaps-are limited = ap (texts (not limited) g 0 (seq_count g)) is_placed-all ∙ gaps-of_blocks g rows (all-lie g width rows fit) limited
+  pub gaps-are : (limited : Bool) → texts (not limited) g 0 (seq_count g) (map interval_of entries) ≡ complement_text limited g records
+  gaps-are limited = ap (texts (not limited) g 0 (seq_count g)) is_placed-all ∙ gaps-of_blocks g records (all-lie g width records fit) limited

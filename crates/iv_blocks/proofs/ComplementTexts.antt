@@ -7,9 +7,9 @@ use Rattle.iv_text.specs.Genome.{Sequences, seq_count, sequence_length}
 use Rattle.iv_text.specs.Read.{IsOnGenome}
 use Rattle.iv_text.specs.RecordValue.{RecordValue}
 use Rattle.iv_cover.specs.Blocks.{block_at, blocks_below}
-use Rattle.iv_cover.specs.Inside.RemainingBlocks.{is_joined, block_of, joined, coming}
-use Rattle.iv_cover.specs.TrackBlocks.{Group, start_of, stop_of, block_on, blocks_on, blocks_of}
-use Rattle.iv_cover.proofs.Comings.{coming-joined, coming-split_up}
+use Rattle.iv_cover.specs.Inside.RemainingBlocks.{is_joined, block_of, block_with, remaining_blocks}
+use Rattle.iv_cover.specs.TrackBlocks.{BlockWithMembers, start_of, stop_of, block_on, blocks_on, blocks_of}
+use Rattle.iv_cover.proofs.RemainingLemmas.{remaining-joined, remaining-split_up}
 use Rattle.iv_cover.proofs.Positions.{values-agree}
 use Rattle.iv_blocks.specs.Inside.Texts.{complement_text}
 use Rattle.iv_blocks.specs.Groups.{group}
@@ -23,16 +23,16 @@ use Rattle.iv_blocks.specs.Inside.BlockSweeps.{interval_of, next_start}
 -- ---- the next block
 
 -- a block that is open starts where it did
-open-start : (d : ℕ) (rows : List RecordValue) (b : Group) → next_start (map interval_of (coming d (Some b) rows)) ≡ Some (b.sequence, b.start)
+open-start : (d : ℕ) (records : List RecordValue) (b : BlockWithMembers) → next_start (map interval_of (remaining_blocks d (Some b) records)) ≡ Some (b.sequence, b.start)
 open-start d [] b = refl
-open-start d (r ∷ rows) b = elim (cases_Bool (is_joined d b r)) [
-  | inl e ↦ ap (λ (l : List Group). next_start (map interval_of l)) (coming-joined d b r rows e) ∙ open-start d rows (joined b r)
-  | inr e ↦ ap (λ (l : List Group). next_start (map interval_of l)) (coming-split_up d b r rows e)
+open-start d (r ∷ records) b = elim (cases_Bool (is_joined d b r)) [
+  | inl e ↦ ap (λ (l : List BlockWithMembers). next_start (map interval_of l)) (remaining-joined d b r records e) ∙ open-start d records (block_with b r)
+  | inr e ↦ ap (λ (l : List BlockWithMembers). next_start (map interval_of l)) (remaining-split_up d b r records e)
 ]
 
 -- the next block starts with the first record
-pub coming-start : (d : ℕ) (r : RecordValue) (rows : List RecordValue) → next_start (map interval_of (coming d None (r ∷ rows))) ≡ Some (r.seq, r.start)
-coming-start d r rows = open-start d rows (block_of r)
+pub remaining-start : (d : ℕ) (r : RecordValue) (records : List RecordValue) → next_start (map interval_of (remaining_blocks d None (r ∷ records))) ≡ Some (r.seq, r.start)
+remaining-start d r records = open-start d records (block_of r)
 
 -- ---- where the blocks are
 
@@ -40,20 +40,20 @@ place-of : (s x : ℕ) (at : Option (ℕ × List RecordValue)) → option_map in
 place-of s x None = refl
 place-of s x (Some b) = refl
 
-module _ (g : Sequences) (rows : List RecordValue) where
-  sequence-is_placed : (s : ℕ) → map interval_of (blocks_on 0 g rows s) ≡ intervals_on g rows s
+module _ (g : Sequences) (records : List RecordValue) where
+  sequence-is_placed : (s : ℕ) → map interval_of (blocks_on 0 g records s) ≡ intervals_on g records s
   sequence-is_placed s =
       let n : ℕ = sequence_length g s in
-      ap (λ (l : List RecordValue). map interval_of (map (block_on s) (blocks_below start_of stop_of 0 l n))) (sym (on-is s rows))
-      ∙ ap (map interval_of) (map-filter_map (block_on s) (λ x. option_map (λ b. (x, b)) (block_at start_of stop_of 0 (group false s false rows) x)) (range_with_len 0 n))
-      ∙ map-filter_map interval_of (λ x. option_map (block_on s) (option_map (λ b. (x, b)) (block_at start_of stop_of 0 (group false s false rows) x))) (range_with_len 0 n)
-      ∙ values-agree (λ x. option_map interval_of (option_map (block_on s) (option_map (λ b. (x, b)) (block_at start_of stop_of 0 (group false s false rows) x)))) (interval_at rows s) n
-      (λ x below. place-of s x (block_at start_of stop_of 0 (group false s false rows) x))
+      ap (λ (l : List RecordValue). map interval_of (map (block_on s) (blocks_below start_of stop_of 0 l n))) (sym (on-is s records))
+      ∙ ap (map interval_of) (map-filter_map (block_on s) (λ x. option_map (λ b. (x, b)) (block_at start_of stop_of 0 (group false s false records) x)) (range_with_len 0 n))
+      ∙ map-filter_map interval_of (λ x. option_map (block_on s) (option_map (λ b. (x, b)) (block_at start_of stop_of 0 (group false s false records) x))) (range_with_len 0 n)
+      ∙ values-agree (λ x. option_map interval_of (option_map (block_on s) (option_map (λ b. (x, b)) (block_at start_of stop_of 0 (group false s false records) x)))) (interval_at records s) n
+      (λ x below. place-of s x (block_at start_of stop_of 0 (group false s false records) x))
 
   -- the rows of all gaps
-  pub gap-texts : (limited : Bool) → All (IsOnGenome g) rows → texts (not limited) g 0 (seq_count g) (map interval_of (blocks_of 0 g rows)) ≡ complement_text limited g rows
+  pub gap-texts : (limited : Bool) → All (IsOnGenome g) records → texts (not limited) g 0 (seq_count g) (map interval_of (blocks_of 0 g records)) ≡ complement_text limited g records
   gap-texts limited lie =
       ap (texts (not limited) g 0 (seq_count g))
-      (map-flat_map interval_of (blocks_on 0 g rows) (range_with_len 0 (seq_count g))
-      ∙ flat_map-agree (λ s. map interval_of (blocks_on 0 g rows s)) (intervals_on g rows) (range_with_len 0 (seq_count g)) sequence-is_placed)
-      ∙ gaps-of_blocks g rows lie limited
+      (map-flat_map interval_of (blocks_on 0 g records) (range_with_len 0 (seq_count g))
+      ∙ flat_map-agree (λ s. map interval_of (blocks_on 0 g records s)) (intervals_on g records) (range_with_len 0 (seq_count g)) sequence-is_placed)
+      ∙ gaps-of_blocks g records lie limited

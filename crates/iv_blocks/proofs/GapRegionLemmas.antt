@@ -18,7 +18,7 @@ use Rattle.iv_cover.proofs.EmptyLemmas.{empty_runs-none, empty_runs-skip}
 use Rattle.iv_cover.proofs.EmptyMeanings.{empty-bare}
 use Rattle.iv_blocks.specs.ComplementRows.{gap_row}
 use Rattle.iv_blocks.specs.Inside.Texts.{is_shown}
-use Rattle.iv_blocks.specs.Groups.{group, joined, listed}
+use Rattle.iv_blocks.specs.Groups.{group, plain_options, listed}
 use Rattle.iv_blocks.specs.Inside.BlockCursor.{gap_between}
 use Rattle.iv_blocks.specs.Inside.Lookups.{IsFirstBlock, IsLastBlock}
 use Rattle.iv_blocks.specs.Inside.Regions.{BeginsGap, gaps_from, kept_on}
@@ -109,9 +109,9 @@ early-none start stop f (suc j) from p to near low high some early =
 
 -- ---- the gaps of a sequence
 
-module _ (g : Sequences) (width : ℕ) (rows : List RecordValue) (entries : Entries) (right : AreBlocksOf (joined 0) (names_of g) rows entries) (fit : All (Fits g width) rows) (s : ℕ) where
+module _ (g : Sequences) (width : ℕ) (records : List RecordValue) (entries : Entries) (right : AreBlocksOf (plain_options 0) (names_of g) records entries) (fit : All (Fits g width) records) (s : ℕ) where
   abbrev own : List RecordValue
-  own = group false s false rows
+  own = group false s false records
 
   abbrev look : ℕ → Option Kept
   look x = kept_on entries s x
@@ -120,19 +120,19 @@ module _ (g : Sequences) (width : ℕ) (rows : List RecordValue) (entries : Entr
   end = sequence_length g s
 
   last_own : Lasting start_of stop_of 0 own
-  last_own = lasting (joined 0) g width rows entries right fit s false
+  last_own = lasting (plain_options 0) g width records entries right fit s false
 
   block : (x : ℕ) (b : Kept) → look x ≡ Some b → IsBlock start_of stop_of 0 own x b.stop
-  block x b e = block-is (joined 0) g width rows entries right fit s false x b e
+  block x b e = block-is (plain_options 0) g width records entries right fit s false x b e
 
   low-start : (x : ℕ) (b : Kept) → look x ≡ Some b → x < end
-  low-start x b e = starts-low (joined 0) g width rows entries right fit s false x b e
+  low-start x b e = starts-low (plain_options 0) g width records entries right fit s false x b e
 
   not_start : (x : ℕ) → look x ≡ None → is_block_start start_of stop_of 0 own x ≡ false
-  not_start x e = none-shown_is 0 (name_of (names_of g) s) (listed (joined 0).summaries) own x last_own (sym (right.blocks (s, false, x)) ∙ e)
+  not_start x e = none-shown_is 0 (name_of (names_of g) s) (listed (plain_options 0).summaries) own x last_own (sym (right.blocks (s, false, x)) ∙ e)
 
   inside : (q : RecordValue) → Mem q own → (q.start < q.stop) × (q.stop ≤ end)
-  inside q m = within g rows (all-lie g width rows fit) s q m
+  inside q m = within g records (all-lie g width records fit) s q m
 
   low-stop : (x : ℕ) (b : Kept) → look x ≡ Some b → b.stop ≤ end
   low-stop x b e =
@@ -158,28 +158,28 @@ module _ (g : Sequences) (width : ℕ) (rows : List RecordValue) (entries : Entr
   low-within low (inr after) = omega (arith, low-stop after.0 after.1 after.2, after.3)
 
   -- from a gap's begin to the next block the depth is 0
-  clear : (low next : ℕ) → BeginsGap look low → ((x : ℕ) → low ≤ x → x < next → look x ≡ None) → (p : ℕ) → low ≤ p → p < next → depth rows s p ≡ 0
-  clear low next begin none p above below = depth-none rows s p (λ q m before. elim (cases_lt q.start (suc low)) [
+  clear : (low next : ℕ) → BeginsGap look low → ((x : ℕ) → low ≤ x → x < next → look x ≡ None) → (p : ℕ) → low ≤ p → p < next → depth records s p ≡ 0
+  clear low next begin none p above below = depth-none records s p (λ q m before. elim (cases_lt q.start (suc low)) [
     | inl early ↦ omega (arith, open_at low begin q m early, above)
     | inr late ↦
         let z = next_start start_of stop_of 0 own q.start (suc low) q m (open_at low begin) late (omega arith) in
         absurd (both_ways _ (not_start z.0 (none z.0 (omega (arith, z.1)) (omega (arith, z.2, before, below)))) z.3)
   ])
 
-  full : (x : ℕ) (b : Kept) → look x ≡ Some b → (p : ℕ) → x ≤ p → p < b.stop → depth rows s p ≢ 0
-  full x b e p above below = depth-some rows s p ((block x b e).covered (suc p) (omega arith) (omega arith))
+  full : (x : ℕ) (b : Kept) → look x ≡ Some b → (p : ℕ) → x ≤ p → p < b.stop → depth records s p ≢ 0
+  full x b e p above below = depth-some records s p ((block x b e).covered (suc p) (omega arith) (omega arith))
 
   gap-next : (low next : ℕ) (b : Kept) → BeginsGap look low → low ≤ next → ((x : ℕ) → low ≤ x → x < next → look x ≡ None) → look next ≡ Some b
-      → empty_runs (depth rows s) low end ≡ gap_between low next ++ empty_runs (depth rows s) b.stop end
+      → empty_runs (depth records s) low end ≡ gap_between low next ++ empty_runs (depth records s) b.stop end
   gap-next low next b begin above none e =
       let long = (block next b e).long in
-      runs-gap (depth rows s) low next end above (omega (arith, low-start next b e)) (clear low next begin none) (λ below is. full next b e next (omega arith) long (sym is))
-      ∙ ap (λ (l : List Run). gap_between low next ++ l) (empty_runs-skip (depth rows s) next b.stop end (omega (arith, long)) (low-stop next b e) (full next b e))
+      runs-gap (depth records s) low next end above (omega (arith, low-start next b e)) (clear low next begin none) (λ below is. full next b e next (omega arith) long (sym is))
+      ∙ ap (λ (l : List Run). gap_between low next ++ l) (empty_runs-skip (depth records s) next b.stop end (omega (arith, long)) (low-stop next b e) (full next b e))
 
-  gap-last : (low : ℕ) → BeginsGap look low → ((x : ℕ) → low ≤ x → look x ≡ None) → empty_runs (depth rows s) low end ≡ gap_between low end
+  gap-last : (low : ℕ) → BeginsGap look low → ((x : ℕ) → low ≤ x → look x ≡ None) → empty_runs (depth records s) low end ≡ gap_between low end
   gap-last low begin none =
-      runs-gap (depth rows s) low end end (low-within low begin) (omega arith) (clear low end begin (λ x above below. none x above)) (λ never. absurd (omega arith))
-      ∙ ap (λ (l : List Run). gap_between low end ++ l) (empty_runs-none (depth rows s) end end (omega arith))
+      runs-gap (depth records s) low end end (low-within low begin) (omega arith) (clear low end begin (λ x above below. none x above)) (λ never. absurd (omega arith))
+      ∙ ap (λ (l : List Run). gap_between low end ++ l) (empty_runs-none (depth records s) end end (omega arith))
       ∙ append-nil (gap_between low end)
 
   -- a block starts past a gap's begin
@@ -191,19 +191,19 @@ module _ (g : Sequences) (width : ℕ) (rows : List RecordValue) (entries : Entr
         absurd (omega (arith, open_at low begin first.0 first.1 (omega (arith, first.2, same)), (inside first.0 first.1).0, first.2, above))
   ]
 
-  shown-some : (limited : Bool) (x : ℕ) (b : Kept) → look x ≡ Some b → is_shown limited rows s ≡ true
+  shown-some : (limited : Bool) (x : ℕ) (b : Kept) → look x ≡ Some b → is_shown limited records s ≡ true
   shown-some false x b e = refl
   shown-some true x b e =
       let first = (block x b e).starts in
-      let both = group-in false s false rows first.0 first.1 in
-      any-at (λ (r : RecordValue). r.seq == s) rows first.0 both.0 (eq-eqb first.0.seq s both.1)
+      let both = group-in false s false records first.0 first.1 in
+      any-at (λ (r : RecordValue). r.seq == s) records first.0 both.0 (eq-eqb first.0.seq s both.1)
 
-  shown-last : (limited : Bool) (low : ℕ) → BeginsGap look low → ((x : ℕ) → low ≤ x → look x ≡ None) → is_shown limited rows s ≡ not (limited && (low == 0))
+  shown-last : (limited : Bool) (low : ℕ) → BeginsGap look low → ((x : ℕ) → low ≤ x → look x ≡ None) → is_shown limited records s ≡ not (limited && (low == 0))
   shown-last false low begin none = refl
   shown-last true low (inl begin) none =
       false_from_ne_true _ (λ e.
-      let found = any-found (λ (r : RecordValue). r.seq == s) rows e in
-      before-none found.0.start (λ x below. none x (omega (arith, begin.0))) found.0 (in-group s rows found.0 found.1 (eqb-true _ _ found.2)) (omega arith))
+      let found = any-found (λ (r : RecordValue). r.seq == s) records e in
+      before-none found.0.start (λ x below. none x (omega (arith, begin.0))) found.0 (in-group s records found.0 found.1 (eqb-true _ _ found.2)) (omega arith))
       ∙ sym (ap not (eq-eqb low 0 begin.0))
   shown-last true low (inr after) none =
       shown-some true after.0 after.1 after.2
@@ -211,16 +211,16 @@ module _ (g : Sequences) (width : ℕ) (rows : List RecordValue) (entries : Entr
 
   module _ (limited : Bool) (start stop : ℕ) where
     abbrev left : ℕ → List Run
-    left low = gaps_from limited g rows s start stop low
+    left low = gaps_from limited g records s start stop low
 
     left-next : (low : ℕ) (found : ℕ × ℕ) → BeginsGap look low → IsFirstBlock look low found → low < stop → start < found.0 → left low ≡ gap_between low found.0 ++ left found.1
     left-next low found begin entry near past =
         let b : Kept = record { stop = found.1; results = entry.results } in
         let shown = shown-some limited found.0 b entry.is in
-        cond-true (is_shown limited rows s) _ _ shown
+        cond-true (is_shown limited records s) _ _ shown
         ∙ ap (filter (is_near start stop)) (gap-next low found.0 b begin entry.within entry.none entry.is)
-        ∙ filter-append (is_near start stop) (gap_between low found.0) (empty_runs (depth rows s) found.1 end)
-        ∙ ap₂ (λ (k l : List Run). k ++ l) (gap-all start stop low found.0 near past) (sym (cond-true (is_shown limited rows s) _ _ shown))
+        ∙ filter-append (is_near start stop) (gap_between low found.0) (empty_runs (depth records s) found.1 end)
+        ∙ ap₂ (λ (k l : List Run). k ++ l) (gap-all start stop low found.0 near past) (sym (cond-true (is_shown limited records s) _ _ shown))
 
     pub text-next : (name : List ℕ) (low : ℕ) (found : ℕ × ℕ) → BeginsGap look low → IsFirstBlock look low found → low < stop → start < found.0
         → flat_map (gap_row name) (left low) ≡ flat_map (gap_row name) (gap_between low found.0) ++ flat_map (gap_row name) (left found.1)
@@ -250,7 +250,7 @@ module _ (g : Sequences) (width : ℕ) (rows : List RecordValue) (entries : Entr
     pub left-last : (low : ℕ) → BeginsGap look low → ((x : ℕ) → low ≤ x → look x ≡ None) → low < stop
         → left low ≡ (if (limited && (low == 0)) || nat_le end start then [] else gap_between low end)
     left-last low begin none near =
-        ap (λ (b : Bool). if b then filter (is_near start stop) (empty_runs (depth rows s) low end) else []) (shown-last limited low begin none)
+        ap (λ (b : Bool). if b then filter (is_near start stop) (empty_runs (depth records s) low end) else []) (shown-last limited low begin none)
         ∙ ap (λ (l : List Run). if not (limited && (low == 0)) then filter (is_near start stop) l else []) (gap-last low begin none)
         ∙ go (limited && (low == 0))
       where
@@ -262,26 +262,26 @@ module _ (g : Sequences) (width : ℕ) (rows : List RecordValue) (entries : Entr
         ]
 
     pub left-none : (low : ℕ) → stop ≤ low → left low ≡ []
-    left-none low far = elim (cases_Bool (is_shown limited rows s)) [
-      | inl e ↦ cond-true (is_shown limited rows s) _ _ e ∙ far-none start stop (depth rows s) low end far
-      | inr e ↦ cond-false (is_shown limited rows s) _ _ e
+    left-none low far = elim (cases_Bool (is_shown limited records s)) [
+      | inl e ↦ cond-true (is_shown limited records s) _ _ e ∙ far-none start stop (depth records s) low end far
+      | inr e ↦ cond-false (is_shown limited records s) _ _ e
     ]
 
     -- ---- where the first gap may begin
 
-    pub left-all : gaps_in limited g rows s start stop ≡ left 0
-    left-all = filter-if (is_near start stop) (is_shown limited rows s) (empty_runs (depth rows s) 0 end)
+    pub left-all : gaps_in limited g records s start stop ≡ left 0
+    left-all = filter-if (is_near start stop) (is_shown limited records s) (empty_runs (depth records s) 0 end)
 
     -- the gaps before the last block that starts up to the region's start aren't near it
-    pub left-begin : (last : ℕ) (found : ℕ × ℕ) → last ≤ start → IsLastBlock look last found → gaps_in limited g rows s start stop ≡ left found.1
+    pub left-begin : (last : ℕ) (found : ℕ × ℕ) → last ≤ start → IsLastBlock look last found → gaps_in limited g records s start stop ≡ left found.1
     left-begin last found low entry =
         let b : Kept = record { stop = found.1; results = entry.results } in
         let long = (block found.0 b entry.is).long in
         let some = full found.0 b entry.is in
         left-all
-        ∙ ap (λ (l : List Run). if is_shown limited rows s then l else [])
-        (early-none start stop (depth rows s) found.0 0 found.0 end (omega arith) (omega arith) (low-start found.0 b entry.is) (some found.0 (omega arith) long) (omega (arith, entry.within, low))
-        ∙ ap (filter (is_near start stop)) (empty_runs-skip (depth rows s) found.0 found.1 end (omega (arith, long)) (low-stop found.0 b entry.is) some))
+        ∙ ap (λ (l : List Run). if is_shown limited records s then l else [])
+        (early-none start stop (depth records s) found.0 0 found.0 end (omega arith) (omega arith) (low-start found.0 b entry.is) (some found.0 (omega arith) long) (omega (arith, entry.within, low))
+        ∙ ap (filter (is_near start stop)) (empty_runs-skip (depth records s) found.0 found.1 end (omega (arith, long)) (low-stop found.0 b entry.is) some))
 
     module _ (last : ℕ) (is : last ≡ min end start) where
       pub past-last : (x : ℕ) (b : Kept) → last < x → look x ≡ Some b → start < x

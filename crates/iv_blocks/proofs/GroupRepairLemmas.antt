@@ -52,61 +52,61 @@ one_side false r true b e f = absurd (false≢true e)
 one_side false r false true e f = absurd (false≢true f)
 one_side false r false false e f = refl
 
-filter-swap : (p t : RecordValue → Bool) (rows : List RecordValue) → filter p (filter t rows) ≡ filter t (filter p rows)
-filter-swap p t rows =
-    filter-filter p t rows
-    ∙ filter-agree (λ q. t q && p q) (λ q. p q && t q) rows (λ q m. same_tests _ _
+filter-swap : (p t : RecordValue → Bool) (records : List RecordValue) → filter p (filter t records) ≡ filter t (filter p records)
+filter-swap p t records =
+    filter-filter p t records
+    ∙ filter-agree (λ q. t q && p q) (λ q. p q && t q) records (λ q m. same_tests _ _
     (λ e. let both = and_parts (t q) (p q) e in and_from _ _ both.1 both.0)
     (λ e. let both = and_parts (p q) (t q) e in and_from _ _ both.1 both.0))
-    ∙ sym (filter-filter t p rows)
+    ∙ sym (filter-filter t p records)
 
 -- ---- one record more
 
 -- where a record is added, as two parts around it
-added-parts : (rows : List RecordValue) (r : RecordValue) → (xs : List RecordValue) × (ys : List RecordValue) × (rows ≡ xs ++ ys) × (added rows r ≡ xs ++ r ∷ ys)
+added-parts : (records : List RecordValue) (r : RecordValue) → (xs : List RecordValue) × (ys : List RecordValue) × (records ≡ xs ++ ys) × (added records r ≡ xs ++ r ∷ ys)
 added-parts [] r = ([], [], refl, refl)
-added-parts (q ∷ rows) r = go (is_le (record_cmp r q)) refl (added-parts rows r)
+added-parts (q ∷ records) r = go (is_le (record_cmp r q)) refl (added-parts records r)
   where
-    go : (b : Bool) → is_le (record_cmp r q) ≡ b → (xs : List RecordValue) × (ys : List RecordValue) × (rows ≡ xs ++ ys) × (added rows r ≡ xs ++ r ∷ ys)
-        → (xs : List RecordValue) × (ys : List RecordValue) × (q ∷ rows ≡ xs ++ ys) × (added (q ∷ rows) r ≡ xs ++ r ∷ ys)
-    go true e rest = ([], q ∷ rows, refl, cond-true _ _ _ e)
+    go : (b : Bool) → is_le (record_cmp r q) ≡ b → (xs : List RecordValue) × (ys : List RecordValue) × (records ≡ xs ++ ys) × (added records r ≡ xs ++ r ∷ ys)
+        → (xs : List RecordValue) × (ys : List RecordValue) × (q ∷ records ≡ xs ++ ys) × (added (q ∷ records) r ≡ xs ++ r ∷ ys)
+    go true e rest = ([], q ∷ records, refl, cond-true _ _ _ e)
     go false e rest = (q ∷ rest.0, rest.1, ap (λ (l : List RecordValue). q ∷ l) rest.2, cond-false _ _ _ e ∙ ap (λ (l : List RecordValue). q ∷ l) rest.3)
 
-added-more : (rows : List RecordValue) (r : RecordValue) → HasOneMore rows r (added rows r)
-added-more rows r =
-    let parts = added-parts rows r in
-    subst (λ l. HasOneMore l r (added rows r)) (sym parts.2) (subst (λ l. HasOneMore (parts.0 ++ parts.1) r l) (sym parts.3) (one_more parts.0 parts.1 r))
+added-more : (records : List RecordValue) (r : RecordValue) → HasOneMore records r (added records r)
+added-more records r =
+    let parts = added-parts records r in
+    subst (λ l. HasOneMore l r (added records r)) (sym parts.2) (subst (λ l. HasOneMore (parts.0 ++ parts.1) r l) (sym parts.3) (one_more parts.0 parts.1 r))
 
 -- the records that pass are no fewer with it
-added-fewer : (p : RecordValue → Bool) (rows : List RecordValue) (r : RecordValue) → length (filter p rows) ≤ length (filter p (added rows r))
+added-fewer : (p : RecordValue → Bool) (records : List RecordValue) (r : RecordValue) → length (filter p records) ≤ length (filter p (added records r))
 added-fewer p [] r = omega arith
-added-fewer p (q ∷ rows) r = go (is_le (record_cmp r q)) refl (cases_Bool (p q)) (cases_Bool (p r)) (added-fewer p rows r)
+added-fewer p (q ∷ records) r = go (is_le (record_cmp r q)) refl (cases_Bool (p q)) (cases_Bool (p r)) (added-fewer p records r)
   where
-    go : (b : Bool) → is_le (record_cmp r q) ≡ b → (p q ≡ true) ⊎ (p q ≡ false) → (p r ≡ true) ⊎ (p r ≡ false) → length (filter p rows) ≤ length (filter p (added rows r))
-        → length (filter p (q ∷ rows)) ≤ length (filter p (added (q ∷ rows) r))
+    go : (b : Bool) → is_le (record_cmp r q) ≡ b → (p q ≡ true) ⊎ (p q ≡ false) → (p r ≡ true) ⊎ (p r ≡ false) → length (filter p records) ≤ length (filter p (added records r))
+        → length (filter p (q ∷ records)) ≤ length (filter p (added (q ∷ records) r))
     go true e of_q (inl t) rest = rw (e, t) (omega arith)
     go true e of_q (inr f) rest = rw (e, f) (omega arith)
     go false e (inl t) of_r rest = rw (e, t) (omega arith)
     go false e (inr f) of_r rest = rw (e, f) rest
 
-fits-last : (genome : Sequences) (width : ℕ) (rows : List RecordValue) → All (Fits genome width) rows → (q : RecordValue) → Mem q rows → q.start < q.stop
-fits-last genome width rows fit q m = let fits = all-mem (Fits genome width) rows fit q m in fits.is_placed.some
+fits-last : (genome : Sequences) (width : ℕ) (records : List RecordValue) → All (Fits genome width) records → (q : RecordValue) → Mem q records → q.start < q.stop
+fits-last genome width records fit q m = let fits = all-mem (Fits genome width) records fit q m in fits.is_placed.some
 
-fits-last_more : (genome : Sequences) (width : ℕ) (less rows : List RecordValue) (r : RecordValue) → HasOneMore less r rows → All (Fits genome width) less → Fits genome width r → (q : RecordValue) → Mem q rows → q.start < q.stop
-fits-last_more genome width less rows r more fit fits q m = elim (more.cases q m) [
+fits-last_more : (genome : Sequences) (width : ℕ) (less records : List RecordValue) (r : RecordValue) → HasOneMore less r records → All (Fits genome width) less → Fits genome width r → (q : RecordValue) → Mem q records → q.start < q.stop
+fits-last_more genome width less records r more fit fits q m = elim (more.cases q m) [
   | inl at ↦ subst (λ (x : RecordValue). x.start < x.stop) at fits.is_placed.some
   | inr old ↦ fits-last genome width less fit q old
 ]
 
 -- nothing changes where the record is not
-kept-beside : (o : BlockOptions) (names : List (List ℕ)) (less rows : List RecordValue) (r : RecordValue) (k : Key) → HasOneMore less r rows → is_in_group o.stranded k.0 k.1 r ≡ false → kept_at o names rows k ≡ kept_at o names less k
-kept-beside o names less rows r k more beside =
+kept-beside : (o : BlockOptions) (names : List (List ℕ)) (less records : List RecordValue) (r : RecordValue) (k : Key) → HasOneMore less r records → is_in_group o.stranded k.0 k.1 r ≡ false → kept_at o names records k ≡ kept_at o names less k
+kept-beside o names less records r k more beside =
     ap (λ (l : List RecordValue). option_map (kept_block (name_of names k.0) (listed o.summaries)) (block_at start_of stop_of o.distance l k.2)) (more.others (is_in_group o.stranded k.0 k.1) beside)
 
 -- so nothing changes if the record is in no group
-right-beside : (o : BlockOptions) (names : List (List ℕ)) (less rows : List RecordValue) (r : RecordValue) → HasOneMore less r rows → ((minus : Bool) → is_on_side o.stranded minus r ≡ false) → (k : Key) → kept_at o names rows k ≡ kept_at o names less k
-right-beside o names less rows r more beside k =
-    kept-beside o names less rows r k more (false_from_ne_true _ (λ e. both_ways _ (beside k.1) (and_parts (r.seq == k.0) (is_on_side o.stranded k.1 r) e).1))
+right-beside : (o : BlockOptions) (names : List (List ℕ)) (less records : List RecordValue) (r : RecordValue) → HasOneMore less r records → ((minus : Bool) → is_on_side o.stranded minus r ≡ false) → (k : Key) → kept_at o names records k ≡ kept_at o names less k
+right-beside o names less records r more beside k =
+    kept-beside o names less records r k more (false_from_ne_true _ (λ e. both_ways _ (beside k.1) (and_parts (r.seq == k.0) (is_on_side o.stranded k.1 r) e).1))
 
 -- what follows from two clauses about a success
 pub on-both : {T E : Type 0} (result : Result T E) (P Q R : Type 0) → (P → Q → R) → OnOk result P → OnOk result Q → OnOk result R
@@ -114,16 +114,16 @@ on-both (Ok x) P Q R f p q = f p q
 on-both (Err e) P Q R f p q = p
 
 -- r is of the group g, rows have it, and less are the others
-pub record IsEdit (o : BlockOptions) (g : Group) (r : RecordValue) (less rows : List RecordValue) : Type 0 where
-  pub more : HasOneMore less r rows
+pub record IsEdit (o : BlockOptions) (g : Group) (r : RecordValue) (less records : List RecordValue) : Type 0 where
+  pub more : HasOneMore less r records
   pub apart : is_apart g.side ≡ o.stranded
   pub in_group : is_in_group o.stranded g.rank (is_minus g.side) r ≡ true
-  pub lasts : (q : RecordValue) → Mem q rows → q.start < q.stop
+  pub lasts : (q : RecordValue) → Mem q records → q.start < q.stop
 
 -- what an edit knows of the record's group, which was found by the options p
-edit-of : (o p : BlockOptions) (g : Group) (r : RecordValue) (less rows : List RecordValue) → p ≡ o → (is_apart g.side ≡ p.stranded) × (is_in_group p.stranded g.rank (is_minus g.side) r ≡ true)
-    → HasOneMore less r rows → ((q : RecordValue) → Mem q rows → q.start < q.stop) → IsEdit o g r less rows
-edit-of o p g r less rows same known more lasts =
+edit-of : (o p : BlockOptions) (g : Group) (r : RecordValue) (less records : List RecordValue) → p ≡ o → (is_apart g.side ≡ p.stranded) × (is_in_group p.stranded g.rank (is_minus g.side) r ≡ true)
+    → HasOneMore less r records → ((q : RecordValue) → Mem q records → q.start < q.stop) → IsEdit o g r less records
+edit-of o p g r less records same known more lasts =
     let stranded : p.stranded ≡ o.stranded = ap (λ (x : BlockOptions). x.stranded) same in
     record {
       more = more;
@@ -132,35 +132,35 @@ edit-of o p g r less rows same known more lasts =
       lasts = lasts;
     }
 
-pub edit-added : (o p : BlockOptions) (g : Group) (r : RecordValue) (less rows : List RecordValue) (genome : Sequences) (width : ℕ) → p ≡ o → (is_apart g.side ≡ p.stranded) × (is_in_group p.stranded g.rank (is_minus g.side) r ≡ true)
-    → rows ≡ added less r → All (Fits genome width) rows → IsEdit o g r less rows
-edit-added o p g r less rows genome width same known rows_are fit =
-    edit-of o p g r less rows same known (subst (λ (l : List RecordValue). HasOneMore less r l) (sym rows_are) (added-more less r)) (fits-last genome width rows fit)
+pub edit-added : (o p : BlockOptions) (g : Group) (r : RecordValue) (less records : List RecordValue) (genome : Sequences) (width : ℕ) → p ≡ o → (is_apart g.side ≡ p.stranded) × (is_in_group p.stranded g.rank (is_minus g.side) r ≡ true)
+    → records ≡ added less r → All (Fits genome width) records → IsEdit o g r less records
+edit-added o p g r less records genome width same known rows_are fit =
+    edit-of o p g r less records same known (subst (λ (l : List RecordValue). HasOneMore less r l) (sym rows_are) (added-more less r)) (fits-last genome width records fit)
 
-pub edit-removed : (o p : BlockOptions) (g : Group) (r : RecordValue) (rows : List RecordValue) (genome : Sequences) (width : ℕ) → p ≡ o → (is_apart g.side ≡ p.stranded) × (is_in_group p.stranded g.rank (is_minus g.side) r ≡ true)
-    → All (Fits genome width) rows → Fits genome width r → IsEdit o g r rows (added rows r)
-edit-removed o p g r rows genome width same known fit fits =
-    let more = added-more rows r in
-    edit-of o p g r rows (added rows r) same known more (fits-last_more genome width rows (added rows r) r more fit fits)
+pub edit-removed : (o p : BlockOptions) (g : Group) (r : RecordValue) (records : List RecordValue) (genome : Sequences) (width : ℕ) → p ≡ o → (is_apart g.side ≡ p.stranded) × (is_in_group p.stranded g.rank (is_minus g.side) r ≡ true)
+    → All (Fits genome width) records → Fits genome width r → IsEdit o g r records (added records r)
+edit-removed o p g r records genome width same known fit fits =
+    let more = added-more records r in
+    edit-of o p g r records (added records r) same known more (fits-last_more genome width records (added records r) r more fit fits)
 
 -- blocks stay right if the record is in no group
-pub beside-added : (o p : BlockOptions) (names : List (List ℕ)) (less rows : List RecordValue) (r : RecordValue) (entries : Entries) → p ≡ o → ((minus : Bool) → is_on_side p.stranded minus r ≡ false)
-    → rows ≡ added less r → AreBlocksOf o names less entries → AreBlocksOf o names rows entries
-beside-added o p names less rows r entries same beside rows_are right =
-    let more : HasOneMore less r rows = subst (λ (l : List RecordValue). HasOneMore less r l) (sym rows_are) (added-more less r) in
+pub beside-added : (o p : BlockOptions) (names : List (List ℕ)) (less records : List RecordValue) (r : RecordValue) (entries : Entries) → p ≡ o → ((minus : Bool) → is_on_side p.stranded minus r ≡ false)
+    → records ≡ added less r → AreBlocksOf o names less entries → AreBlocksOf o names records entries
+beside-added o p names less records r entries same beside rows_are right =
+    let more : HasOneMore less r records = subst (λ (l : List RecordValue). HasOneMore less r l) (sym rows_are) (added-more less r) in
     record {
       ordered = right.ordered;
-      blocks = λ k. right.blocks k ∙ sym (right-beside o names less rows r more (subst (λ (x : BlockOptions). (minus : Bool) → is_on_side x.stranded minus r ≡ false) same beside) k);
+      blocks = λ k. right.blocks k ∙ sym (right-beside o names less records r more (subst (λ (x : BlockOptions). (minus : Bool) → is_on_side x.stranded minus r ≡ false) same beside) k);
     }
 
-pub beside-removed : (o p : BlockOptions) (names : List (List ℕ)) (rows : List RecordValue) (r : RecordValue) (entries : Entries) → p ≡ o → ((minus : Bool) → is_on_side p.stranded minus r ≡ false)
-    → AreBlocksOf o names (added rows r) entries → AreBlocksOf o names rows entries
-beside-removed o p names rows r entries same beside right = record {
+pub beside-removed : (o p : BlockOptions) (names : List (List ℕ)) (records : List RecordValue) (r : RecordValue) (entries : Entries) → p ≡ o → ((minus : Bool) → is_on_side p.stranded minus r ≡ false)
+    → AreBlocksOf o names (added records r) entries → AreBlocksOf o names records entries
+beside-removed o p names records r entries same beside right = record {
   ordered = right.ordered;
-  blocks = λ k. right.blocks k ∙ right-beside o names rows (added rows r) r (added-more rows r) (subst (λ (x : BlockOptions). (minus : Bool) → is_on_side x.stranded minus r ≡ false) same beside) k;
+  blocks = λ k. right.blocks k ∙ right-beside o names records (added records r) r (added-more records r) (subst (λ (x : BlockOptions). (minus : Bool) → is_on_side x.stranded minus r ≡ false) same beside) k;
 }
 
-module _ (o : BlockOptions) (names : List (List ℕ)) (g : Group) (r : RecordValue) (less rows : List RecordValue) (edit : IsEdit o g r less rows) where
+module _ (o : BlockOptions) (names : List (List ℕ)) (g : Group) (r : RecordValue) (less records : List RecordValue) (edit : IsEdit o g r less records) where
   parts : (r.seq == g.rank ≡ true) × (is_on_side o.stranded (is_minus g.side) r ≡ true)
   parts = and_parts (r.seq == g.rank) (is_on_side o.stranded (is_minus g.side) r) edit.in_group
 
@@ -171,17 +171,17 @@ module _ (o : BlockOptions) (names : List (List ℕ)) (g : Group) (r : RecordVal
   G = group o.stranded g.rank (is_minus g.side) less
 
   abbrev H : List RecordValue
-  H = group o.stranded g.rank (is_minus g.side) rows
+  H = group o.stranded g.rank (is_minus g.side) records
 
   more_g : HasOneMore G r H
-  more_g = one_more-filter (is_in_group o.stranded g.rank (is_minus g.side)) less rows r edit.more edit.in_group
+  more_g = one_more-filter (is_in_group o.stranded g.rank (is_minus g.side)) less records r edit.more edit.in_group
 
   lasting : Lasting start_of stop_of o.distance H
-  lasting q m = edit.lasts q (mem-filter (is_in_group o.stranded g.rank (is_minus g.side)) rows q m).0
+  lasting q m = edit.lasts q (mem-filter (is_in_group o.stranded g.rank (is_minus g.side)) records q m).0
 
   -- other groups stay as they are
-  kept-other : (k : Key) → IsOfOther g k → kept_at o names rows k ≡ kept_at o names less k
-  kept-other k other = kept-beside o names less rows r k edit.more (false_from_ne_true _ (λ e.
+  kept-other : (k : Key) → IsOfOther g k → kept_at o names records k ≡ kept_at o names less k
+  kept-other k other = kept-beside o names less records r k edit.more (false_from_ne_true _ (λ e.
       let both = and_parts (r.seq == k.0) (is_on_side o.stranded k.1 r) e in
       elim other [
         | inl ne ↦ ne (sym (eqb-true r.seq k.0 both.0) ∙ rank-is)
@@ -189,17 +189,17 @@ module _ (o : BlockOptions) (names : List (List ℕ)) (g : Group) (r : RecordVal
       ]))
 
   -- how many records there are around r
-  around-is : (low to : ℕ) → IsBlock start_of stop_of o.distance H low to → low ≤ r.start → r.start < to → around o rows r ≡ length (between_on g.rank low to rows)
+  around-is : (low to : ℕ) → IsBlock start_of stop_of o.distance H low to → low ≤ r.start → r.start < to → around o records r ≡ length (between_on g.rank low to records)
   around-is low to block above below =
       pick (is_minus g.side) refl
-      ∙ ap (λ (n : ℕ). within_block o.distance (group o.stranded n (is_minus g.side) rows) rows r) rank-is
-      ∙ home-count o.distance (name_of names g.rank) (listed o.summaries) G H r more_g lasting low to rows block above below
-      ∙ ap (λ (n : ℕ). length (between_on n low to rows)) rank-is
+      ∙ ap (λ (n : ℕ). within_block o.distance (group o.stranded n (is_minus g.side) records) records r) rank-is
+      ∙ home-count o.distance (name_of names g.rank) (listed o.summaries) G H r more_g lasting low to records block above below
+      ∙ ap (λ (n : ℕ). length (between_on n low to records)) rank-is
     where
       W : Bool → ℕ
-      W minus = within_block o.distance (group o.stranded r.seq minus rows) rows r
+      W minus = within_block o.distance (group o.stranded r.seq minus records) records r
 
-      pick : (minus : Bool) → is_minus g.side ≡ minus → around o rows r ≡ W (is_minus g.side)
+      pick : (minus : Bool) → is_minus g.side ≡ minus → around o records r ≡ W (is_minus g.side)
       pick false e =
           let on : is_on_side o.stranded false r ≡ true = ap (λ (m : Bool). is_on_side o.stranded m r) (sym e) ∙ parts.1 in
           cond-true _ _ _ on ∙ ap W (sym e)
@@ -208,12 +208,12 @@ module _ (o : BlockOptions) (names : List (List ℕ)) (g : Group) (r : RecordVal
           let off : is_on_side o.stranded false r ≡ false = false_from_ne_true _ (λ t. false≢true (one_side o.stranded r false true t on)) in
           cond-false _ _ _ off ∙ cond-true _ _ _ on ∙ ap W (sym e)
 
-  own-fewer : (low to : ℕ) → length (filter (starts_in start_of stop_of o.distance low to) H) ≤ length (between_on g.rank low to rows)
+  own-fewer : (low to : ℕ) → length (filter (starts_in start_of stop_of o.distance low to) H) ≤ length (between_on g.rank low to records)
   own-fewer low to =
-      let fewer = filter-weaker (λ q. is_in_group o.stranded g.rank (is_minus g.side) q && starts_between low to q) (λ q. (q.seq == g.rank) && starts_between low to q) rows (λ q m e.
+      let fewer = filter-weaker (λ q. is_in_group o.stranded g.rank (is_minus g.side) q && starts_between low to q) (λ q. (q.seq == g.rank) && starts_between low to q) records (λ q m e.
       let both = and_parts (is_in_group o.stranded g.rank (is_minus g.side) q) (starts_between low to q) e in
       and_from _ _ (and_parts (q.seq == g.rank) (is_on_side o.stranded (is_minus g.side) q) both.0).0 both.1) in
-      omega (arith, fewer, ap length (filter-filter (starts_in start_of stop_of o.distance low to) (is_in_group o.stranded g.rank (is_minus g.side)) rows))
+      omega (arith, fewer, ap length (filter-filter (starts_in start_of stop_of o.distance low to) (is_in_group o.stranded g.rank (is_minus g.side)) records))
 
   -- ---- r is added
   module _ (old mid next : KeptBlocks) (joined : ℕ × ℕ) (to : ℕ) (right : AreBlocksOf o names less old.entries)
@@ -231,7 +231,7 @@ module _ (o : BlockOptions) (names : List (List ℕ)) (g : Group) (r : RecordVal
     below : r.start < to
     below = added-below o.distance (name_of names g.rank) (listed o.summaries) G H r more_g lasting joined.0 joined.1 to (kept_in mid.entries g) (kept_in next.entries g) state after
 
-    added-steps : (count_from (kept_in mid.entries g) r.start (to + o.distance + 1 - r.start) ≤ around o rows r) × (length (between_on g.rank joined.0 to rows) ≤ around o rows r)
+    added-steps : (count_from (kept_in mid.entries g) r.start (to + o.distance + 1 - r.start) ≤ around o records r) × (length (between_on g.rank joined.0 to records) ≤ around o records r)
     added-steps =
         let all = around-is joined.0 to block above below in
         let few = added-count o.distance (name_of names g.rank) (listed o.summaries) G H r more_g lasting joined.0 joined.1 to (kept_in mid.entries g) (kept_in next.entries g) state after in
@@ -239,7 +239,7 @@ module _ (o : BlockOptions) (names : List (List ℕ)) (g : Group) (r : RecordVal
 
     pub added-takes : (start d m0 m1 m2 m3 : ℕ) → start ≡ r.start → d ≡ o.distance → TakesUpTo m0 m1 2
         → TakesUpTo m1 m2 (1 + 2 * count_from (kept_in mid.entries g) start (to + d + 1 - start))
-        → TakesUpTo m2 m3 (3 + length (between_on g.rank joined.0 to rows)) → TakesUpTo m0 m3 (block_steps o rows r)
+        → TakesUpTo m2 m3 (3 + length (between_on g.rank joined.0 to records)) → TakesUpTo m0 m3 (block_steps o records r)
     added-takes start d m0 m1 m2 m3 at distance first second third =
         let few = added-steps in
         let same : count_from (kept_in mid.entries g) start (to + d + 1 - start) ≡ count_from (kept_in mid.entries g) r.start (to + o.distance + 1 - r.start) =
@@ -247,11 +247,11 @@ module _ (o : BlockOptions) (names : List (List ℕ)) (g : Group) (r : RecordVal
         record { no_less = omega (arith, first, second, third); at_most = omega (arith, first, second, third, few.0, few.1, same) }
 
     pub added-all : (new : KeptBlocks) (genome : Sequences) → names ≡ names_of genome → KeepsOthers g old mid → KeepsOthers g mid next → mid.options ≡ o
-        → new ≡ with_block next genome rows g joined.0 to → IsLedger key_cmp new.entries → AreBlocksOf o names rows new.entries
+        → new ≡ with_block next genome records g joined.0 to → IsLedger key_cmp new.entries → AreBlocksOf o names records new.entries
     added-all new genome of_genome first second options put sorted = record {
       ordered = sorted;
       blocks = λ k. elim (key-cases g k) [
-        | inl at ↦ ap (value_at key_cmp new.entries) at ∙ here k.2 ∙ ap (kept_at o names rows) (sym at)
+        | inl at ↦ ap (value_at key_cmp new.entries) at ∙ here k.2 ∙ ap (kept_at o names records) (sym at)
         | inr other ↦
             ap (λ (b : KeptBlocks). value_at key_cmp b.entries k) put
             ∙ look-put_other next.entries g joined.0 _ k other
@@ -260,22 +260,22 @@ module _ (o : BlockOptions) (names : List (List ℕ)) (g : Group) (r : RecordVal
     }
       where
         value : Kept
-        value = kept_block (sequence_name genome g.rank) (listed next.options.summaries) (to, members_between g joined.0 to rows)
+        value = kept_block (sequence_name genome g.rank) (listed next.options.summaries) (to, members_between g joined.0 to records)
 
         value-is : value ≡ kept_block (name_of names g.rank) (listed o.summaries) (to, filter (starts_in start_of stop_of o.distance joined.0 to) H)
         value-is =
-            ap (λ (n : List ℕ). kept_block n (listed next.options.summaries) (to, members_between g joined.0 to rows)) (sym (name-same genome g.rank) ∙ ap (λ (l : List (List ℕ)). name_of l g.rank) (sym of_genome))
-            ∙ ap (λ (p : BlockOptions). kept_block (name_of names g.rank) (listed p.summaries) (to, members_between g joined.0 to rows)) (second.options ∙ options)
-            ∙ ap (λ (s : Bool). kept_block (name_of names g.rank) (listed o.summaries) (to, filter (λ q. is_in_group s g.rank (is_minus g.side) q && starts_between joined.0 to q) rows)) edit.apart
-            ∙ ap (λ (l : List RecordValue). kept_block (name_of names g.rank) (listed o.summaries) (to, l)) (sym (filter-filter (starts_between joined.0 to) (is_in_group o.stranded g.rank (is_minus g.side)) rows))
+            ap (λ (n : List ℕ). kept_block n (listed next.options.summaries) (to, members_between g joined.0 to records)) (sym (name-same genome g.rank) ∙ ap (λ (l : List (List ℕ)). name_of l g.rank) (sym of_genome))
+            ∙ ap (λ (p : BlockOptions). kept_block (name_of names g.rank) (listed p.summaries) (to, members_between g joined.0 to records)) (second.options ∙ options)
+            ∙ ap (λ (s : Bool). kept_block (name_of names g.rank) (listed o.summaries) (to, filter (λ q. is_in_group s g.rank (is_minus g.side) q && starts_between joined.0 to q) records)) edit.apart
+            ∙ ap (λ (l : List RecordValue). kept_block (name_of names g.rank) (listed o.summaries) (to, l)) (sym (filter-filter (starts_between joined.0 to) (is_in_group o.stranded g.rank (is_minus g.side)) records))
 
-        here : (x : ℕ) → kept_in new.entries g x ≡ kept_at o names rows (key_of g x)
+        here : (x : ℕ) → kept_in new.entries g x ≡ kept_at o names records (key_of g x)
         here x = added-right o.distance (name_of names g.rank) (listed o.summaries) G H r more_g lasting joined.0 joined.1 to (kept_in mid.entries g) (kept_in next.entries g) state after (kept_in new.entries g)
             (λ y. ap (λ (b : KeptBlocks). kept_in b.entries g y) put ∙ look-put next.entries g joined.0 value y
             ∙ ap (λ (v : Kept). if y == joined.0 then Some v else kept_in next.entries g y) value-is) x
 
   -- ---- r is taken away
-  module _ (old : KeptBlocks) (right : AreBlocksOf o names rows old.entries) where
+  module _ (old : KeptBlocks) (right : AreBlocksOf o names records old.entries) where
     pub removed-found : ((x : ℕ) → x ≤ r.start → kept_in old.entries g x ≡ None) → ⊥
     removed-found none = found-some o.distance (name_of names g.rank) (listed o.summaries) G H r more_g lasting (kept_in old.entries g) (λ x. right.blocks (key_of g x)) none
 
@@ -284,7 +284,7 @@ module _ (o : BlockOptions) (names : List (List ℕ)) (g : Group) (r : RecordVal
     removed-covered start stop at_start at_stop stays = record {
       ordered = right.ordered;
       blocks = λ k. elim (key-cases g k) [
-        | inl at ↦ right.blocks k ∙ ap (kept_at o names rows) at ∙ same k.2 ∙ ap (kept_at o names less) (sym at)
+        | inl at ↦ right.blocks k ∙ ap (kept_at o names records) at ∙ same k.2 ∙ ap (kept_at o names less) (sym at)
         | inr other ↦ right.blocks k ∙ kept-other k other
       ];
     }
@@ -299,7 +299,7 @@ module _ (o : BlockOptions) (names : List (List ℕ)) (g : Group) (r : RecordVal
             let both = and_parts (is_in_group (is_apart g.side) g.rank (is_minus g.side) q) (starts_between start stop q) is.1 in
             mem-filter_from (is_in_group o.stranded g.rank (is_minus g.side)) less q is.0 (ap (λ (s : Bool). is_in_group s g.rank (is_minus g.side) q) (sym edit.apart) ∙ both.0)
 
-        same : (x : ℕ) → kept_at o names rows (key_of g x) ≡ kept_at o names less (key_of g x)
+        same : (x : ℕ) → kept_at o names records (key_of g x) ≡ kept_at o names less (key_of g x)
         same x = shown-less o.distance (name_of names g.rank) (listed o.summaries) G H r more_g lasting q here (stays.starts ∙ at_start) (omega (arith, stays.reaches, at_stop))
             (λ s a b. subst (λ (l : List ColumnSummary). kept_block (name_of names g.rank) l (s, a) ≡ kept_block (name_of names g.rank) l (s, b)) (sym stays.plain) refl) x
 
@@ -315,7 +315,7 @@ module _ (o : BlockOptions) (names : List (List ℕ)) (g : Group) (r : RecordVal
       removed-stops = mem-all (λ q. q.stop ≤ b.1) _ (λ q m.
           let is = mem-filter (λ q. is_in_group (is_apart g.side) g.rank (is_minus g.side) q && starts_between b.0 b.1 q) less q m in
           let both = and_parts (is_in_group (is_apart g.side) g.rank (is_minus g.side) q) (starts_between b.0 b.1 q) is.1 in
-          let here = mem-filter_from (is_in_group o.stranded g.rank (is_minus g.side)) rows q (edit.more.old q is.0) (ap (λ (s : Bool). is_in_group s g.rank (is_minus g.side) q) (sym edit.apart) ∙ both.0) in
+          let here = mem-filter_from (is_in_group o.stranded g.rank (is_minus g.side)) records q (edit.more.old q is.0) (ap (λ (s : Bool). is_in_group s g.rank (is_minus g.side) q) (sym edit.apart) ∙ both.0) in
           let range = starts_in-true start_of stop_of o.distance b.0 b.1 q both.1 in
           stops_within start_of stop_of o.distance H b.0 b.1 block_is q here (omega (arith, range.1)))
 
@@ -373,8 +373,8 @@ module _ (o : BlockOptions) (names : List (List ℕ)) (g : Group) (r : RecordVal
             count-parts g.rank b.0 r.start b.1 less last.within (omega (arith, long, ends)),
           )
 
-      pub covered-takes : (start stop m0 m1 m2 : ℕ) → start ≡ r.start → stop ≡ r.stop → rows ≡ added less r → TakesUpTo m0 m1 1
-          → TakesUpTo m1 m2 (2 + length (between_on g.rank start stop less)) → TakesUpTo m0 m2 (block_steps o rows r)
+      pub covered-takes : (start stop m0 m1 m2 : ℕ) → start ≡ r.start → stop ≡ r.stop → records ≡ added less r → TakesUpTo m0 m1 1
+          → TakesUpTo m1 m2 (2 + length (between_on g.rank start stop less)) → TakesUpTo m0 m2 (block_steps o records r)
       covered-takes start stop m0 m1 m2 at_start at_stop rows_are first second =
           let all = around-is b.0 b.1 block_is last.within (omega (arith, ends, lasting r more_g.added)) in
           let fewer = added-fewer (λ q. (q.seq == g.rank) && starts_between b.0 b.1 q) less r in
@@ -383,9 +383,9 @@ module _ (o : BlockOptions) (names : List (List ℕ)) (g : Group) (r : RecordVal
           ap (λ (n : ℕ). length (between_on g.rank n stop less)) at_start ∙ ap (λ (n : ℕ). length (between_on g.rank r.start n less)) at_stop in
           record { no_less = omega (arith, first, second); at_most = omega (arith, first, second, all, fewer, same, here, own-within) }
 
-      pub removed-takes : (start stop m0 m1 m2 m3 m4 : ℕ) → start ≡ r.start → stop ≡ r.stop → rows ≡ added less r → TakesUpTo m0 m1 1
+      pub removed-takes : (start stop m0 m1 m2 m3 m4 : ℕ) → start ≡ r.start → stop ≡ r.stop → records ≡ added less r → TakesUpTo m0 m1 1
           → TakesUpTo m1 m2 (2 + length (between_on g.rank start stop less)) → TakesUpTo m2 m3 1
-          → TakesUpTo m3 m4 (2 + 5 * length (between_on g.rank b.0 b.1 less)) → TakesUpTo m0 m4 (block_steps o rows r)
+          → TakesUpTo m3 m4 (2 + 5 * length (between_on g.rank b.0 b.1 less)) → TakesUpTo m0 m4 (block_steps o records r)
       removed-takes start stop m0 m1 m2 m3 m4 at_start at_stop rows_are zeroth look second third =
           let all = around-is b.0 b.1 block_is last.within (omega (arith, ends, lasting r more_g.added)) in
           let fewer = added-fewer (λ q. (q.seq == g.rank) && starts_between b.0 b.1 q) less r in

@@ -29,19 +29,19 @@ use Rattle.iv_blocks.proofs.MembersLemmas.{between-true, between-from, in_group-
 -- ---- records of a range
 
 -- a member of a range is a record of the track, in the group and in the range
-pub member-in : (g : Group) (from to : ℕ) (rows : List RecordValue) (q : RecordValue) → Mem q (members_between g from to rows)
-    → Mem q rows × (q.seq ≡ g.rank) × (from ≤ q.start) × (q.start < to)
-member-in g from to rows q m =
-    let both = mem-filter (λ r. is_in_group (is_apart g.side) g.rank (is_minus g.side) r && starts_between from to r) rows q m in
+pub member-in : (g : Group) (from to : ℕ) (records : List RecordValue) (q : RecordValue) → Mem q (members_between g from to records)
+    → Mem q records × (q.seq ≡ g.rank) × (from ≤ q.start) × (q.start < to)
+member-in g from to records q m =
+    let both = mem-filter (λ r. is_in_group (is_apart g.side) g.rank (is_minus g.side) r && starts_between from to r) records q m in
     let tests = and_parts (is_in_group (is_apart g.side) g.rank (is_minus g.side) q) (starts_between from to q) both.1 in
     let range = between-true from to q tests.1 in
     (both.0, in_group-on g q tests.0, range.0, range.1)
 
 -- the members of a range within another
-pub members-narrow : (g : Group) (from to x s : ℕ) (rows : List RecordValue) → from ≤ x → s ≤ to → filter (starts_between x s) (members_between g from to rows) ≡ members_between g x s rows
-members-narrow g from to x s rows above within =
-    filter-filter (starts_between x s) (λ r. is_in_group (is_apart g.side) g.rank (is_minus g.side) r && starts_between from to r) rows
-    ∙ filter-agree _ _ rows (λ q m. same_tests _ _
+pub members-narrow : (g : Group) (from to x s : ℕ) (records : List RecordValue) → from ≤ x → s ≤ to → filter (starts_between x s) (members_between g from to records) ≡ members_between g x s records
+members-narrow g from to x s records above within =
+    filter-filter (starts_between x s) (λ r. is_in_group (is_apart g.side) g.rank (is_minus g.side) r && starts_between from to r) records
+    ∙ filter-agree _ _ records (λ q m. same_tests _ _
     (λ e.
     let both = and_parts (is_in_group (is_apart g.side) g.rank (is_minus g.side) q && starts_between from to q) (starts_between x s q) e in
     and_from _ _ (and_parts (is_in_group (is_apart g.side) g.rank (is_minus g.side) q) (starts_between from to q) both.0).0 both.1)
@@ -51,21 +51,21 @@ members-narrow g from to x s rows above within =
     and_from _ _ (and_from _ _ both.0 (between-from from to q (omega (arith, range.0)) (omega (arith, range.1)))) both.1))
 
 -- the group's records of a range
-pub members-group : (g : Group) (from to : ℕ) (rows : List RecordValue) → group (is_apart g.side) g.rank (is_minus g.side) (between from to rows) ≡ members_between g from to rows
-members-group g from to rows =
-    filter-filter (is_in_group (is_apart g.side) g.rank (is_minus g.side)) (starts_between from to) rows
-    ∙ filter-agree _ _ rows (λ q m. same_tests _ _
+pub members-group : (g : Group) (from to : ℕ) (records : List RecordValue) → group (is_apart g.side) g.rank (is_minus g.side) (between from to records) ≡ members_between g from to records
+members-group g from to records =
+    filter-filter (is_in_group (is_apart g.side) g.rank (is_minus g.side)) (starts_between from to) records
+    ∙ filter-agree _ _ records (λ q m. same_tests _ _
     (λ e. let both = and_parts (starts_between from to q) (is_in_group (is_apart g.side) g.rank (is_minus g.side) q) e in and_from _ _ both.1 both.0)
     (λ e. let both = and_parts (is_in_group (is_apart g.side) g.rank (is_minus g.side) q) (starts_between from to q) e in and_from _ _ both.1 both.0))
 
 -- ---- how many there are
 
 -- those of a range are those of its two parts
-pub count-parts : (rank from mid to : ℕ) (rows : List RecordValue) → from ≤ mid → mid ≤ to
-    → length (between_on rank from to rows) ≡ length (between_on rank from mid rows) + length (between_on rank mid to rows)
+pub count-parts : (rank from mid to : ℕ) (records : List RecordValue) → from ≤ mid → mid ≤ to
+    → length (between_on rank from to records) ≡ length (between_on rank from mid records) + length (between_on rank mid to records)
 count-parts rank from mid to [] low high = refl
-count-parts rank from mid to (r ∷ rows) low high =
-    let rest = count-parts rank from mid to rows low high in
+count-parts rank from mid to (r ∷ records) low high =
+    let rest = count-parts rank from mid to records low high in
     let whole : Bool = (r.seq == rank) && starts_between from to r in
     let first : Bool = (r.seq == rank) && starts_between from mid r in
     let second : Bool = (r.seq == rank) && starts_between mid to r in
@@ -73,40 +73,40 @@ count-parts rank from mid to (r ∷ rows) low high =
       | inr off ↦ omega (
         arith,
         rest,
-        ap length (cond-false ((r.seq == rank) && starts_between from to r) (r ∷ between_on rank from to rows) (between_on rank from to rows) (and_left _ _ off)),
-        ap length (cond-false ((r.seq == rank) && starts_between from mid r) (r ∷ between_on rank from mid rows) (between_on rank from mid rows) (and_left _ _ off)),
-        ap length (cond-false ((r.seq == rank) && starts_between mid to r) (r ∷ between_on rank mid to rows) (between_on rank mid to rows) (and_left _ _ off)),
+        ap length (cond-false ((r.seq == rank) && starts_between from to r) (r ∷ between_on rank from to records) (between_on rank from to records) (and_left _ _ off)),
+        ap length (cond-false ((r.seq == rank) && starts_between from mid r) (r ∷ between_on rank from mid records) (between_on rank from mid records) (and_left _ _ off)),
+        ap length (cond-false ((r.seq == rank) && starts_between mid to r) (r ∷ between_on rank mid to records) (between_on rank mid to records) (and_left _ _ off)),
       )
       | inl on ↦ elim (cases_lt r.start from) [
         | inl before ↦ omega (
           arith,
           rest,
-          ap length (cond-false ((r.seq == rank) && starts_between from to r) (r ∷ between_on rank from to rows) (between_on rank from to rows) (and_right _ _ (out from to r (inl before)))),
-          ap length (cond-false ((r.seq == rank) && starts_between from mid r) (r ∷ between_on rank from mid rows) (between_on rank from mid rows) (and_right _ _ (out from mid r (inl before)))),
-          ap length (cond-false ((r.seq == rank) && starts_between mid to r) (r ∷ between_on rank mid to rows) (between_on rank mid to rows) (and_right _ _ (out mid to r (inl (omega arith))))),
+          ap length (cond-false ((r.seq == rank) && starts_between from to r) (r ∷ between_on rank from to records) (between_on rank from to records) (and_right _ _ (out from to r (inl before)))),
+          ap length (cond-false ((r.seq == rank) && starts_between from mid r) (r ∷ between_on rank from mid records) (between_on rank from mid records) (and_right _ _ (out from mid r (inl before)))),
+          ap length (cond-false ((r.seq == rank) && starts_between mid to r) (r ∷ between_on rank mid to records) (between_on rank mid to records) (and_right _ _ (out mid to r (inl (omega arith))))),
         )
         | inr after ↦ elim (cases_lt r.start mid) [
           | inl below ↦ omega (
             arith,
             rest,
-            ap length (cond-true ((r.seq == rank) && starts_between from to r) (r ∷ between_on rank from to rows) (between_on rank from to rows) (and_from _ _ on (between-from from to r after (omega arith)))),
-            ap length (cond-true ((r.seq == rank) && starts_between from mid r) (r ∷ between_on rank from mid rows) (between_on rank from mid rows) (and_from _ _ on (between-from from mid r after below))),
-            ap length (cond-false ((r.seq == rank) && starts_between mid to r) (r ∷ between_on rank mid to rows) (between_on rank mid to rows) (and_right _ _ (out mid to r (inl below)))),
+            ap length (cond-true ((r.seq == rank) && starts_between from to r) (r ∷ between_on rank from to records) (between_on rank from to records) (and_from _ _ on (between-from from to r after (omega arith)))),
+            ap length (cond-true ((r.seq == rank) && starts_between from mid r) (r ∷ between_on rank from mid records) (between_on rank from mid records) (and_from _ _ on (between-from from mid r after below))),
+            ap length (cond-false ((r.seq == rank) && starts_between mid to r) (r ∷ between_on rank mid to records) (between_on rank mid to records) (and_right _ _ (out mid to r (inl below)))),
           )
           | inr above ↦ elim (cases_lt r.start to) [
             | inl within ↦ omega (
               arith,
               rest,
-              ap length (cond-true ((r.seq == rank) && starts_between from to r) (r ∷ between_on rank from to rows) (between_on rank from to rows) (and_from _ _ on (between-from from to r after within))),
-              ap length (cond-false ((r.seq == rank) && starts_between from mid r) (r ∷ between_on rank from mid rows) (between_on rank from mid rows) (and_right _ _ (out from mid r (inr above)))),
-              ap length (cond-true ((r.seq == rank) && starts_between mid to r) (r ∷ between_on rank mid to rows) (between_on rank mid to rows) (and_from _ _ on (between-from mid to r above within))),
+              ap length (cond-true ((r.seq == rank) && starts_between from to r) (r ∷ between_on rank from to records) (between_on rank from to records) (and_from _ _ on (between-from from to r after within))),
+              ap length (cond-false ((r.seq == rank) && starts_between from mid r) (r ∷ between_on rank from mid records) (between_on rank from mid records) (and_right _ _ (out from mid r (inr above)))),
+              ap length (cond-true ((r.seq == rank) && starts_between mid to r) (r ∷ between_on rank mid to records) (between_on rank mid to records) (and_from _ _ on (between-from mid to r above within))),
             )
             | inr past ↦ omega (
               arith,
               rest,
-              ap length (cond-false ((r.seq == rank) && starts_between from to r) (r ∷ between_on rank from to rows) (between_on rank from to rows) (and_right _ _ (out from to r (inr past)))),
-              ap length (cond-false ((r.seq == rank) && starts_between from mid r) (r ∷ between_on rank from mid rows) (between_on rank from mid rows) (and_right _ _ (out from mid r (inr above)))),
-              ap length (cond-false ((r.seq == rank) && starts_between mid to r) (r ∷ between_on rank mid to rows) (between_on rank mid to rows) (and_right _ _ (out mid to r (inr past)))),
+              ap length (cond-false ((r.seq == rank) && starts_between from to r) (r ∷ between_on rank from to records) (between_on rank from to records) (and_right _ _ (out from to r (inr past)))),
+              ap length (cond-false ((r.seq == rank) && starts_between from mid r) (r ∷ between_on rank from mid records) (between_on rank from mid records) (and_right _ _ (out from mid r (inr above)))),
+              ap length (cond-false ((r.seq == rank) && starts_between mid to r) (r ∷ between_on rank mid to records) (between_on rank mid to records) (and_right _ _ (out mid to r (inr past)))),
             )
           ]
         ]
@@ -117,13 +117,13 @@ count-parts rank from mid to (r ∷ rows) low high =
     out from to q (inl before) = false_from_ne_true _ (λ e. let range = between-true from to q e in omega arith)
     out from to q (inr past) = false_from_ne_true _ (λ e. let range = between-true from to q e in omega arith)
 
-pub count-within : (rank from to end : ℕ) (rows : List RecordValue) → from ≤ to → to ≤ end → length (between_on rank from to rows) ≤ length (between_on rank from end rows)
-count-within rank from to end rows low high = omega (arith, count-parts rank from to end rows low high)
+pub count-within : (rank from to end : ℕ) (records : List RecordValue) → from ≤ to → to ≤ end → length (between_on rank from to records) ≤ length (between_on rank from end records)
+count-within rank from to end records low high = omega (arith, count-parts rank from to end records low high)
 
 -- a range that some record opens has one at least
-pub count-some : (rank from to : ℕ) (rows : List RecordValue) (q : RecordValue) → Mem q rows → q.seq ≡ rank → from ≤ q.start → q.start < to → 1 ≤ length (between_on rank from to rows)
-count-some rank from to rows q m at above below =
-    some (between_on rank from to rows) (mem-filter_from (λ r. (r.seq == rank) && starts_between from to r) rows q m (and_from _ _ (eq-eqb _ _ at) (between-from from to q above below)))
+pub count-some : (rank from to : ℕ) (records : List RecordValue) (q : RecordValue) → Mem q records → q.seq ≡ rank → from ≤ q.start → q.start < to → 1 ≤ length (between_on rank from to records)
+count-some rank from to records q m at above below =
+    some (between_on rank from to records) (mem-filter_from (λ r. (r.seq == rank) && starts_between from to r) records q m (and_from _ _ (eq-eqb _ _ at) (between-from from to q above below)))
   where
     some : (xs : List RecordValue) → Mem q xs → 1 ≤ length xs
     some [] m = absurd m
@@ -140,7 +140,7 @@ on_ok_both (Err e) p q both = tt
 abbrev pub look : Group → Entries → ℕ → Option Kept
 look g entries x = value_at key_cmp entries (key_of g x)
 
-module _ (o : KeptBlocks) (genome : Sequences) (rows : List RecordValue) (g : Group) (from to : ℕ) where
+module _ (o : KeptBlocks) (genome : Sequences) (records : List RecordValue) (g : Group) (from to : ℕ) where
   -- a block of the group, as it is kept
   abbrev pub kept : ℕ × List RecordValue → Kept
   kept = kept_block (sequence_name genome g.rank) (listed o.options.summaries)
@@ -148,7 +148,7 @@ module _ (o : KeptBlocks) (genome : Sequences) (rows : List RecordValue) (g : Gr
   -- the open block starts and stops here: those before it are inserted, and these members are left
   pub record IsSweeping (now : KeptBlocks) (start stop : ℕ) (left : List RecordValue) : Type 0 where
     pub passed : List RecordValue
-    pub all : members_between g from to rows ≡ passed ++ left
+    pub all : members_between g from to records ≡ passed ++ left
     pub put : IsPut start_of stop_of o.options.distance kept passed start stop (look g o.entries) (look g now.entries)
     pub above : from ≤ start
     pub within : stop ≤ to
@@ -157,37 +157,37 @@ module _ (o : KeptBlocks) (genome : Sequences) (rows : List RecordValue) (g : Gr
 
   -- what the sweep knows of the records
   pub record IsSwept : Type 0 where
-    pub ordered : AreInOrder rows
-    pub lasting : (q : RecordValue) → Mem q rows → q.start < q.stop
-    pub stops : (q : RecordValue) → Mem q (members_between g from to rows) → q.stop ≤ to
+    pub ordered : AreInOrder records
+    pub lasting : (q : RecordValue) → Mem q records → q.start < q.stop
+    pub stops : (q : RecordValue) → Mem q (members_between g from to records) → q.stop ≤ to
 
   module _ (known : IsSwept) where
     -- a member that was passed or is next
-    member : (passed left : List RecordValue) (r : RecordValue) → members_between g from to rows ≡ passed ++ r ∷ left → (q : RecordValue) → Mem q (passed ++ r ∷ []) → Mem q (members_between g from to rows)
+    member : (passed left : List RecordValue) (r : RecordValue) → members_between g from to records ≡ passed ++ r ∷ left → (q : RecordValue) → Mem q (passed ++ r ∷ []) → Mem q (members_between g from to records)
     member passed left r all q m = subst (λ (l : List RecordValue). Mem q l) (sym all) (elim (mem-append passed (r ∷ []) q m) [
       | inl old ↦ mem-left passed (r ∷ left) q old
       | inr new ↦ mem-right passed (r ∷ left) q (elim new [ inl at ↦ inl at | inr none ↦ absurd none ])
     ])
 
-    lasts : (passed left : List RecordValue) (r : RecordValue) → members_between g from to rows ≡ passed ++ r ∷ left → Lasting start_of stop_of o.options.distance (passed ++ r ∷ [])
-    lasts passed left r all q m = known.lasting q (member-in g from to rows q (member passed left r all q m)).0
+    lasts : (passed left : List RecordValue) (r : RecordValue) → members_between g from to records ≡ passed ++ r ∷ left → Lasting start_of stop_of o.options.distance (passed ++ r ∷ [])
+    lasts passed left r all q m = known.lasting q (member-in g from to records q (member passed left r all q m)).0
 
     -- each that was passed starts no later than each that is left
-    pub in_order : (passed left : List RecordValue) → members_between g from to rows ≡ passed ++ left → (q r : RecordValue) → Mem q passed → Mem r left → q.start ≤ r.start
+    pub in_order : (passed left : List RecordValue) → members_between g from to records ≡ passed ++ left → (q r : RecordValue) → Mem q passed → Mem r left → q.start ≤ r.start
     in_order passed left all q r m n =
-        let order : AreInOrder (passed ++ left) = subst (λ (l : List RecordValue). AreInOrder l) all (in_order-filter record_cmp _ rows known.ordered) in
-        let at_q = (member-in g from to rows q (subst (λ (l : List RecordValue). Mem q l) (sym all) (mem-left passed left q m))).1 in
-        let at_r = (member-in g from to rows r (subst (λ (l : List RecordValue). Mem r l) (sym all) (mem-right passed left r n))).1 in
+        let order : AreInOrder (passed ++ left) = subst (λ (l : List RecordValue). AreInOrder l) all (in_order-filter record_cmp _ records known.ordered) in
+        let at_q = (member-in g from to records q (subst (λ (l : List RecordValue). Mem q l) (sym all) (mem-left passed left q m))).1 in
+        let at_r = (member-in g from to records r (subst (λ (l : List RecordValue). Mem r l) (sym all) (mem-right passed left r n))).1 in
         elim (in_order-parts passed left order q r m n) [
           | inl less ↦ omega (arith, at_q, at_r)
           | inr equal ↦ equal.1
         ]
 
     -- the first member opens a block
-    pub sweep-first : (r : RecordValue) (left : List RecordValue) → members_between g from to rows ≡ r ∷ left → IsSweeping o r.start r.stop left
+    pub sweep-first : (r : RecordValue) (left : List RecordValue) → members_between g from to records ≡ r ∷ left → IsSweeping o r.start r.stop left
     sweep-first r left all =
-        let here : Mem r (members_between g from to rows) = member [] left r all r (inl refl) in
-        let is = member-in g from to rows r here in
+        let here : Mem r (members_between g from to records) = member [] left r all r (inl refl) in
+        let is = member-in g from to records r here in
         record {
           passed = r ∷ [];
           all = all;
@@ -199,10 +199,10 @@ module _ (o : KeptBlocks) (genome : Sequences) (rows : List RecordValue) (g : Gr
         }
 
     module _ (now : KeptBlocks) (start stop : ℕ) (r : RecordValue) (left : List RecordValue) (s : IsSweeping now start stop (r ∷ left)) where
-      pub here : Mem r (members_between g from to rows)
+      pub here : Mem r (members_between g from to records)
       here = member s.passed left r s.all r (mem-right s.passed (r ∷ []) r (inl refl))
 
-      pub all-more : members_between g from to rows ≡ (s.passed ++ r ∷ []) ++ left
+      pub all-more : members_between g from to records ≡ (s.passed ++ r ∷ []) ++ left
       all-more = s.all ∙ sym (append_assoc s.passed (r ∷ []) left)
 
       before : (q : RecordValue) → Mem q s.passed → q.start ≤ r.start
@@ -224,26 +224,26 @@ module _ (o : KeptBlocks) (genome : Sequences) (rows : List RecordValue) (g : Gr
     pub sweep-rest : (now : KeptBlocks) (start stop : ℕ) (left : List RecordValue) → to ≤ stop → IsSweeping now start stop left → IsSweeping now start stop []
     sweep-rest now start stop [] full s = s
     sweep-rest now start stop (r ∷ left) full s =
-        let opens : Mem r (members_between g from to rows) = here now start stop r left s in
-        let is = member-in g from to rows r opens in
+        let opens : Mem r (members_between g from to records) = here now start stop r left s in
+        let is = member-in g from to records r opens in
         let same : max stop r.stop ≡ stop = omega (arith, known.stops r opens, full) in
         sweep-rest now start stop left full
         (subst (λ (n : ℕ). IsSweeping now start n left) same (sweep-join now start stop r left s (omega (arith, is.3, full))))
 
     -- the members of the open block
     own : (now : KeptBlocks) (start stop : ℕ) (left : List RecordValue) → (s : IsSweeping now start stop left) → ((q : RecordValue) → Mem q left → stop ≤ q.start)
-        → filter (starts_in start_of stop_of o.options.distance start stop) s.passed ≡ members_between g start stop rows
+        → filter (starts_in start_of stop_of o.options.distance start stop) s.passed ≡ members_between g start stop records
     own now start stop left s past =
         let test = starts_between start stop in
         sym (append-nil (filter test s.passed))
         ∙ ap (λ (l : List RecordValue). filter test s.passed ++ l) (sym (filter-none test left (λ q m. false_from_ne_true (test q) (λ e. let range = between-true start stop q e in let late = past q m in omega arith))))
         ∙ sym (filter-append test s.passed left)
         ∙ ap (filter test) (sym s.all)
-        ∙ members-narrow g from to start stop rows s.above s.within
+        ∙ members-narrow g from to start stop records s.above s.within
 
     -- the open block, once it is inserted
     step : (now next : KeptBlocks) (start stop : ℕ) (left : List RecordValue) → (s : IsSweeping now start stop left) → ((q : RecordValue) → Mem q left → stop ≤ q.start)
-        → next ≡ with_block now genome rows g start stop
+        → next ≡ with_block now genome records g start stop
         → (x : ℕ) → look g next.entries x ≡ (if x == start then Some (kept (stop, filter (starts_in start_of stop_of o.options.distance start stop) s.passed)) else look g now.entries x)
     step now next start stop left s past is x =
         ap (λ (b : KeptBlocks). look g b.entries x) is
@@ -251,16 +251,16 @@ module _ (o : KeptBlocks) (genome : Sequences) (rows : List RecordValue) (g : Gr
         ∙ ap₂ (λ (options : BlockOptions) (l : List RecordValue). if x == start then Some (kept_block (sequence_name genome g.rank) (listed options.summaries) (stop, l)) else look g now.entries x)
         s.options (sym (own now start stop left s past))
 
-    step_others : (now next : KeptBlocks) (start stop : ℕ) (left : List RecordValue) → IsSweeping now start stop left → next ≡ with_block now genome rows g start stop
+    step_others : (now next : KeptBlocks) (start stop : ℕ) (left : List RecordValue) → IsSweeping now start stop left → next ≡ with_block now genome records g start stop
         → (k : Key) → IsOfOther g k → value_at key_cmp next.entries k ≡ value_at key_cmp o.entries k
     step_others now next start stop left s is k other =
         ap (λ (b : KeptBlocks). value_at key_cmp b.entries k) is ∙ look-put_other now.entries g start _ k other ∙ s.others k other
 
     -- the open block is inserted, and a member opens the next
     pub sweep-open : (now next : KeptBlocks) (start stop : ℕ) (r : RecordValue) (left : List RecordValue) → (s : IsSweeping now start stop (r ∷ left)) → stop + o.options.distance < r.start
-        → next ≡ with_block now genome rows g start stop → IsSweeping next r.start r.stop left
+        → next ≡ with_block now genome records g start stop → IsSweeping next r.start r.stop left
     sweep-open now next start stop r left s parts is =
-        let opens : Mem r (members_between g from to rows) = here now start stop r left s in
+        let opens : Mem r (members_between g from to records) = here now start stop r left s in
         let late : (q : RecordValue) → Mem q (r ∷ left) → stop ≤ q.start =
         λ q m. elim m [
           | inl at ↦ omega (arith, ap start_of at)
@@ -271,7 +271,7 @@ module _ (o : KeptBlocks) (genome : Sequences) (rows : List RecordValue) (g : Gr
           all = all-more now start stop r left s;
           put = put-open start_of stop_of o.options.distance kept s.passed r start stop (look g o.entries) (look g now.entries) (lasts s.passed left r s.all)
               (before now start stop r left s) s.put parts (look g next.entries) (step now next start stop (r ∷ left) s late is);
-          above = (member-in g from to rows r opens).2;
+          above = (member-in g from to records r opens).2;
           within = known.stops r opens;
           options = ap (λ (b : KeptBlocks). b.options) is ∙ s.options;
           others = step_others now next start stop (r ∷ left) s is;
@@ -279,19 +279,19 @@ module _ (o : KeptBlocks) (genome : Sequences) (rows : List RecordValue) (g : Gr
 
     -- what is kept of the group's records of the range
     shown-kept : is_apart g.side ≡ o.options.stranded → (x : ℕ)
-        → shown start_of stop_of o.options.distance kept (members_between g from to rows) x ≡ kept_at o.options (names_of genome) (between from to rows) (key_of g x)
+        → shown start_of stop_of o.options.distance kept (members_between g from to records) x ≡ kept_at o.options (names_of genome) (between from to records) (key_of g x)
     shown-kept apart x =
         ap₂ (λ (name : List ℕ) (l : List RecordValue). option_map (kept_block name (listed o.options.summaries)) (block_at start_of stop_of o.options.distance l x))
         (sym (name-same genome g.rank))
-        (sym (members-group g from to rows) ∙ ap (λ (b : Bool). group b g.rank (is_minus g.side) (between from to rows)) apart)
+        (sym (members-group g from to records) ∙ ap (λ (b : Bool). group b g.rank (is_minus g.side) (between from to records)) apart)
 
     -- after the last member the open block is inserted, and all are
-    pub sweep-all : (now next : KeptBlocks) (start stop : ℕ) → IsSweeping now start stop [] → is_apart g.side ≡ o.options.stranded → next ≡ with_block now genome rows g start stop
-        → IsLedger key_cmp next.entries → AreInserted g (names_of genome) (between from to rows) o next
+    pub sweep-all : (now next : KeptBlocks) (start stop : ℕ) → IsSweeping now start stop [] → is_apart g.side ≡ o.options.stranded → next ≡ with_block now genome records g start stop
+        → IsLedger key_cmp next.entries → AreInserted g (names_of genome) (between from to records) o next
     sweep-all now next start stop s apart is ledger =
-        let whole : members_between g from to rows ≡ s.passed = s.all ∙ append-nil s.passed in
+        let whole : members_between g from to records ≡ s.passed = s.all ∙ append-nil s.passed in
         let lasting : Lasting start_of stop_of o.options.distance s.passed =
-        λ q m. known.lasting q (member-in g from to rows q (subst (λ (l : List RecordValue). Mem q l) (sym whole) m)).0 in
+        λ q m. known.lasting q (member-in g from to records q (subst (λ (l : List RecordValue). Mem q l) (sym whole) m)).0 in
         record {
           options = ap (λ (b : KeptBlocks). b.options) is ∙ s.options;
           ordered = ledger;
@@ -304,7 +304,7 @@ module _ (o : KeptBlocks) (genome : Sequences) (rows : List RecordValue) (g : Gr
         }
 
     -- if there is no member, nothing is inserted
-    pub sweep-none : is_apart g.side ≡ o.options.stranded → members_between g from to rows ≡ [] → IsLedger key_cmp o.entries → AreInserted g (names_of genome) (between from to rows) o o
+    pub sweep-none : is_apart g.side ≡ o.options.stranded → members_between g from to records ≡ [] → IsLedger key_cmp o.entries → AreInserted g (names_of genome) (between from to records) o o
     sweep-none apart none ledger = record {
       options = refl;
       ordered = ledger;
@@ -315,22 +315,22 @@ module _ (o : KeptBlocks) (genome : Sequences) (rows : List RecordValue) (g : Gr
 
     -- a block is inserted in so many steps, which its records pay for
     pub sweep-pays : (now : KeptBlocks) (start stop : ℕ) (left : List RecordValue) → IsSweeping now start stop left
-        → 4 * length (between_on g.rank from start rows) + (3 + length (between_on g.rank start stop rows)) ≤ 4 * length (between_on g.rank from stop rows)
+        → 4 * length (between_on g.rank from start records) + (3 + length (between_on g.rank start stop records)) ≤ 4 * length (between_on g.rank from stop records)
     sweep-pays now start stop left s =
         let first = s.put.last.block.starts in
-        let is = member-in g from to rows first.0 (subst (λ (l : List RecordValue). Mem first.0 l) (sym s.all) (mem-left s.passed left first.0 first.1)) in
+        let is = member-in g from to records first.0 (subst (λ (l : List RecordValue). Mem first.0 l) (sym s.all) (mem-left s.passed left first.0 first.1)) in
         let long : start < stop = s.put.last.block.long in
         omega (
           arith,
-          count-parts g.rank from start stop rows s.above (omega arith),
-          count-some g.rank start stop rows first.0 is.0 is.1 (omega (arith, first.2)) (omega (arith, first.2)),
+          count-parts g.rank from start stop records s.above (omega arith),
+          count-some g.rank start stop records first.0 is.0 is.1 (omega (arith, first.2)) (omega (arith, first.2)),
         )
 
 -- what a sweep knows of a track's records
-pub swept-from : (o : KeptBlocks) (genome : Sequences) (rows : List RecordValue) (g : Group) (from to width : ℕ) → AreInOrder rows → All (Fits genome width) rows
-    → All (λ r. r.stop ≤ to) (members_between g from to rows) → IsSwept o genome rows g from to
-swept-from o genome rows g from to width order fit stops = record {
+pub swept-from : (o : KeptBlocks) (genome : Sequences) (records : List RecordValue) (g : Group) (from to width : ℕ) → AreInOrder records → All (Fits genome width) records
+    → All (λ r. r.stop ≤ to) (members_between g from to records) → IsSwept o genome records g from to
+swept-from o genome records g from to width order fit stops = record {
   ordered = order;
-  lasting = λ q m. (all-mem (Fits genome width) rows fit q m).is_placed.some;
-  stops = all-mem (λ r. r.stop ≤ to) (members_between g from to rows) stops;
+  lasting = λ q m. (all-mem (Fits genome width) records fit q m).is_placed.some;
+  stops = all-mem (λ r. r.stop ≤ to) (members_between g from to records) stops;
 }

@@ -40,14 +40,14 @@ flat_map-flat_map {Z} h f (x ∷ xs) = flat_map-append h (f x) (flat_map f xs) �
 
 -- ---- groups
 
-pub group-in : (stranded : Bool) (s : ℕ) (t : Bool) (rows : List RecordValue) (q : RecordValue) → Mem q (group stranded s t rows) → Mem q rows × (q.seq ≡ s)
-group-in stranded s t rows q m =
-    let both = mem-filter (is_in_group stranded s t) rows q m in
+pub group-in : (stranded : Bool) (s : ℕ) (t : Bool) (records : List RecordValue) (q : RecordValue) → Mem q (group stranded s t records) → Mem q records × (q.seq ≡ s)
+group-in stranded s t records q m =
+    let both = mem-filter (is_in_group stranded s t) records q m in
     (both.0, eqb-true _ _ (and_parts (q.seq == s) (is_on_side stranded t q) both.1).0)
 
 -- with strands together no record is on the other side
-pub group-other : (s : ℕ) (rows : List RecordValue) → group false s true rows ≡ []
-group-other s rows = filter-none (is_in_group false s true) rows (λ q m. and_right (q.seq == s) false refl)
+pub group-other : (s : ℕ) (records : List RecordValue) → group false s true records ≡ []
+group-other s records = filter-none (is_in_group false s true) records (λ q m. and_right (q.seq == s) false refl)
 
 pub name_is : (g : Sequences) (rank : ℕ) → name_of (names_of g) rank ≡ sequence_name g rank
 name_is g rank = ap (λ o. unwrap_or o []) (slice_get-map (λ (s : List ℕ × ℕ). s.0) g rank)
@@ -61,69 +61,69 @@ option_map-map h f None = refl
 option_map-map h f (Some a) = refl
 
 -- the entries of a side are those of its blocks
-pub side-is : (o : BlockOptions) (g : Sequences) (rows : List RecordValue) (s : ℕ) (t : Bool) (n : ℕ)
-    → side_entries (kept_at o (names_of g) rows) s t n ≡ map (entry_of o g s t) (blocks_below start_of stop_of o.distance (group o.stranded s t rows) n)
-side-is o g rows s t n =
-    let at : ℕ → Option (ℕ × List RecordValue) = λ p. block_at start_of stop_of o.distance (group o.stranded s t rows) p in
-    values-agree (λ p. option_map (λ v. ((s, t, p), v)) (kept_at o (names_of g) rows (s, t, p))) (λ p. option_map (entry_of o g s t) (option_map (λ b. (p, b)) (at p))) n
+pub side-is : (o : BlockOptions) (g : Sequences) (records : List RecordValue) (s : ℕ) (t : Bool) (n : ℕ)
+    → side_entries (kept_at o (names_of g) records) s t n ≡ map (entry_of o g s t) (blocks_below start_of stop_of o.distance (group o.stranded s t records) n)
+side-is o g records s t n =
+    let at : ℕ → Option (ℕ × List RecordValue) = λ p. block_at start_of stop_of o.distance (group o.stranded s t records) p in
+    values-agree (λ p. option_map (λ v. ((s, t, p), v)) (kept_at o (names_of g) records (s, t, p))) (λ p. option_map (entry_of o g s t) (option_map (λ b. (p, b)) (at p))) n
     (λ p below.
     option_map-map (λ v. ((s, t, p), v)) (kept_block (name_of (names_of g) s) (listed o.summaries)) (at p)
     ∙ ap (λ name. option_map (λ (b : ℕ × List RecordValue). ((s, t, p), kept_block name (listed o.summaries) b)) (at p)) (name_is g s)
     ∙ sym (option_map-map (entry_of o g s t) (λ b. (p, b)) (at p)))
     ∙ sym (map-filter_map (entry_of o g s t) (λ p. option_map (λ b. (p, b)) (at p)) (range_with_len 0 n))
 
-pub side-other : (o : BlockOptions) (g : Sequences) (rows : List RecordValue) (s : ℕ) (n : ℕ) → o.stranded ≡ false
-    → side_entries (kept_at o (names_of g) rows) s true n ≡ []
-side-other o g rows s n together =
-    let none : group o.stranded s true rows ≡ [] = ap (λ b. group b s true rows) together ∙ group-other s rows in
-    side-is o g rows s true n
+pub side-other : (o : BlockOptions) (g : Sequences) (records : List RecordValue) (s : ℕ) (n : ℕ) → o.stranded ≡ false
+    → side_entries (kept_at o (names_of g) records) s true n ≡ []
+side-other o g records s n together =
+    let none : group o.stranded s true records ≡ [] = ap (λ b. group b s true records) together ∙ group-other s records in
+    side-is o g records s true n
     ∙ ap (λ (l : List RecordValue). map (entry_of o g s true) (blocks_below start_of stop_of o.distance l n)) none
     ∙ ap (map (entry_of o g s true)) (blocks-none o.distance n)
 
 -- the entries of both sides are those of the sides that are printed
-pub sides-are : (o : BlockOptions) (g : Sequences) (rows : List RecordValue) (s : ℕ)
-    → rank_entries (kept_at o (names_of g) rows) (sequence_length g) s ≡ flat_map (λ t. map (entry_of o g s t) (side_blocks o g rows s t)) (sides o.stranded)
-sides-are o g rows s = go o.stranded refl
+pub sides-are : (o : BlockOptions) (g : Sequences) (records : List RecordValue) (s : ℕ)
+    → rank_entries (kept_at o (names_of g) records) (sequence_length g) s ≡ flat_map (λ t. map (entry_of o g s t) (side_blocks o g records s t)) (sides o.stranded)
+sides-are o g records s = go o.stranded refl
   where
     first : List (Key × Kept)
-    first = map (entry_of o g s false) (side_blocks o g rows s false)
+    first = map (entry_of o g s false) (side_blocks o g records s false)
 
     other : List (Key × Kept)
-    other = map (entry_of o g s true) (side_blocks o g rows s true)
+    other = map (entry_of o g s true) (side_blocks o g records s true)
 
     go : (b : Bool) → o.stranded ≡ b
-        → rank_entries (kept_at o (names_of g) rows) (sequence_length g) s ≡ flat_map (λ t. map (entry_of o g s t) (side_blocks o g rows s t)) (sides b)
+        → rank_entries (kept_at o (names_of g) records) (sequence_length g) s ≡ flat_map (λ t. map (entry_of o g s t) (side_blocks o g records s t)) (sides b)
     go true is =
-        ap (λ (l : Entries). l ++ side_entries (kept_at o (names_of g) rows) s true (sequence_length g s)) (side-is o g rows s false (sequence_length g s))
-        ∙ ap (λ (l : Entries). first ++ l) (side-is o g rows s true (sequence_length g s) ∙ sym (append-nil other))
+        ap (λ (l : Entries). l ++ side_entries (kept_at o (names_of g) records) s true (sequence_length g s)) (side-is o g records s false (sequence_length g s))
+        ∙ ap (λ (l : Entries). first ++ l) (side-is o g records s true (sequence_length g s) ∙ sym (append-nil other))
     go false is =
-        ap (λ (l : Entries). l ++ side_entries (kept_at o (names_of g) rows) s true (sequence_length g s)) (side-is o g rows s false (sequence_length g s))
-        ∙ ap (λ (l : Entries). first ++ l) (side-other o g rows s (sequence_length g s) is)
+        ap (λ (l : Entries). l ++ side_entries (kept_at o (names_of g) records) s true (sequence_length g s)) (side-is o g records s false (sequence_length g s))
+        ∙ ap (λ (l : Entries). first ++ l) (side-other o g records s (sequence_length g s) is)
 
-module _ (o : BlockOptions) (g : Sequences) (width : ℕ) (rows : List RecordValue) (fit : All (Fits g width) rows) where
-  no_block : (s : ℕ) (t : Bool) (p : ℕ) → ((q : RecordValue) → Mem q rows → q.seq ≡ s → q.start ≡ p → ⊥) → kept_at o (names_of g) rows (s, t, p) ≡ None
+module _ (o : BlockOptions) (g : Sequences) (width : ℕ) (records : List RecordValue) (fit : All (Fits g width) records) where
+  no_block : (s : ℕ) (t : Bool) (p : ℕ) → ((q : RecordValue) → Mem q records → q.seq ≡ s → q.start ≡ p → ⊥) → kept_at o (names_of g) records (s, t, p) ≡ None
   no_block s t p none =
       ap (option_map (kept_block (name_of (names_of g) s) (listed o.summaries)))
-      (block_at-none start_of stop_of o.distance (group o.stranded s t rows) p
-      (no_start-test start_of stop_of o.distance (group o.stranded s t rows) p (λ q m at. let both = group-in o.stranded s t rows q m in none q both.0 both.1 at)))
+      (block_at-none start_of stop_of o.distance (group o.stranded s t records) p
+      (no_start-test start_of stop_of o.distance (group o.stranded s t records) p (λ q m at. let both = group-in o.stranded s t records q m in none q both.0 both.1 at)))
 
   -- no block starts past the end of its sequence
-  pub none-past : (s : ℕ) (t : Bool) (p : ℕ) → sequence_length g s ≤ p → kept_at o (names_of g) rows (s, t, p) ≡ None
+  pub none-past : (s : ℕ) (t : Bool) (p : ℕ) → sequence_length g s ≤ p → kept_at o (names_of g) records (s, t, p) ≡ None
   none-past s t p high = no_block s t p (λ q m rank at.
-      let is_placed = (all-mem (Fits g width) rows fit q m).is_placed in
+      let is_placed = (all-mem (Fits g width) records fit q m).is_placed in
       let stop : q.stop ≤ sequence_length g s = rw rank at is_placed.within.1 in
       omega (arith, is_placed.some, stop, at, high))
 
   -- nor past the last sequence
-  pub none-later : (s : ℕ) (t : Bool) (p : ℕ) → seq_count g ≤ s → kept_at o (names_of g) rows (s, t, p) ≡ None
+  pub none-later : (s : ℕ) (t : Bool) (p : ℕ) → seq_count g ≤ s → kept_at o (names_of g) records (s, t, p) ≡ None
   none-later s t p high = no_block s t p (λ q m rank at.
-      let low : q.seq < length g = (all-mem (Fits g width) rows fit q m).is_placed.within.0 in
+      let low : q.seq < length g = (all-mem (Fits g width) records fit q m).is_placed.within.0 in
       omega (arith, low, rank, high))
 
   -- the entries are the definition's blocks, in order
-  pub entries-are : (entries : Entries) → AreBlocksOf o (names_of g) rows entries
-      → entries ≡ flat_map (λ s. flat_map (λ t. map (entry_of o g s t) (side_blocks o g rows s t)) (sides o.stranded)) (range_with_len 0 (seq_count g))
+  pub entries-are : (entries : Entries) → AreBlocksOf o (names_of g) records entries
+      → entries ≡ flat_map (λ s. flat_map (λ t. map (entry_of o g s t) (side_blocks o g records s t)) (sides o.stranded)) (range_with_len 0 (seq_count g))
   entries-are entries right =
-      entries-all (kept_at o (names_of g) rows) (sequence_length g) entries right.ordered right.blocks none-past (seq_count g) none-later
-      ∙ flat_map-agree (rank_entries (kept_at o (names_of g) rows) (sequence_length g)) (λ s. flat_map (λ t. map (entry_of o g s t) (side_blocks o g rows s t)) (sides o.stranded))
-      (range_with_len 0 (seq_count g)) (sides-are o g rows)
+      entries-all (kept_at o (names_of g) records) (sequence_length g) entries right.ordered right.blocks none-past (seq_count g) none-later
+      ∙ flat_map-agree (rank_entries (kept_at o (names_of g) records) (sequence_length g)) (λ s. flat_map (λ t. map (entry_of o g s t) (side_blocks o g records s t)) (sides o.stranded))
+      (range_with_len 0 (seq_count g)) (sides-are o g records)

@@ -64,11 +64,11 @@ pub between-from : (from to : ℕ) (q : RecordValue) → from ≤ q.start → q.
 between-from from to q above below = and_from _ _ (le-leb _ _ above) (lt-ltb _ _ below)
 
 -- a test of records on one sequence, from a start on and below another, as a walk from there on sees it
-pub walked : (p : RecordValue → Bool) (rank from to : ℕ) (rows : List RecordValue) → ((q : RecordValue) → p q ≡ true → q.seq ≡ rank)
-    → filter (λ q. p q && starts_between 0 to q) (filter (is_from rank from) rows) ≡ filter (λ q. p q && starts_between from to q) rows
-walked p rank from to rows on =
-    filter-filter (λ q. p q && starts_between 0 to q) (is_from rank from) rows
-    ∙ filter-agree _ _ rows (λ q m. same_tests _ _
+pub walked : (p : RecordValue → Bool) (rank from to : ℕ) (records : List RecordValue) → ((q : RecordValue) → p q ≡ true → q.seq ≡ rank)
+    → filter (λ q. p q && starts_between 0 to q) (filter (is_from rank from) records) ≡ filter (λ q. p q && starts_between from to q) records
+walked p rank from to records on =
+    filter-filter (λ q. p q && starts_between 0 to q) (is_from rank from) records
+    ∙ filter-agree _ _ records (λ q m. same_tests _ _
     (λ e.
     let both = and_parts (is_from rank from q) (p q && starts_between 0 to q) e in
     let more = and_parts (p q) (starts_between 0 to q) both.1 in
@@ -84,8 +84,8 @@ walked p rank from to rows on =
     and_from _ _ (from-here rank from q (sym (on q both.0)) range.0) (and_from _ _ both.0 (between-from 0 to q (omega arith) range.1))))
 
 -- in a range without a position there is none
-pub none_between : (p : RecordValue → Bool) (from to : ℕ) (rows : List RecordValue) → to ≤ from → filter (λ q. p q && starts_between from to q) rows ≡ []
-none_between p from to rows empty = filter-none _ rows (λ q m. false_from_ne_true _ (λ e.
+pub none_between : (p : RecordValue → Bool) (from to : ℕ) (records : List RecordValue) → to ≤ from → filter (λ q. p q && starts_between from to q) records ≡ []
+none_between p from to records empty = filter-none _ records (λ q m. false_from_ne_true _ (λ e.
     let both = and_parts (p q) (starts_between from to q) e in
     let range = between-true from to q both.1 in
     omega arith))
@@ -97,33 +97,33 @@ on-rank : (rank : ℕ) (q : RecordValue) → (q.seq == rank) ≡ true → q.seq 
 on-rank rank q e = eqb-true _ _ e
 
 -- what is ahead of a walk from a position on
-pub members-walked : (g : Group) (from to : ℕ) (rows : List RecordValue) → members_between g 0 to (filter (is_from g.rank from) rows) ≡ members_between g from to rows
-members-walked g from to rows = walked (is_in_group (is_apart g.side) g.rank (is_minus g.side)) g.rank from to rows (in_group-on g)
+pub members-walked : (g : Group) (from to : ℕ) (records : List RecordValue) → members_between g 0 to (filter (is_from g.rank from) records) ≡ members_between g from to records
+members-walked g from to records = walked (is_in_group (is_apart g.side) g.rank (is_minus g.side)) g.rank from to records (in_group-on g)
 
-pub records-walked : (rank from to : ℕ) (rows : List RecordValue) → between_on rank 0 to (filter (is_from rank from) rows) ≡ between_on rank from to rows
-records-walked rank from to rows = walked (λ q. q.seq == rank) rank from to rows (on-rank rank)
+pub records-walked : (rank from to : ℕ) (records : List RecordValue) → between_on rank 0 to (filter (is_from rank from) records) ≡ between_on rank from to records
+records-walked rank from to records = walked (λ q. q.seq == rank) rank from to records (on-rank rank)
 
 -- what a new walk shows: it begins at the range's start, or the range is empty and it ends at once
-pub coming-walked : (g : Group) (from to begin end : ℕ) (rows left : List RecordValue) → left ≡ filter (is_from g.rank begin) rows
+pub remaining-walked : (g : Group) (from to begin end : ℕ) (records left : List RecordValue) → left ≡ filter (is_from g.rank begin) records
     → ((begin ≡ from) × (end ≡ to)) ⊎ ((to ≤ from) × (end ≡ 0))
-    → ◌≡◌ {A = MembersLeft} (record { members = members_between g 0 end left; records = length (between_on g.rank 0 end left) })
-    (record { members = members_between g from to rows; records = length (between_on g.rank from to rows) })
-coming-walked g from to begin end rows left is (inl at) =
-    let members : members_between g 0 end left ≡ members_between g from to rows = rw (is, at.0, at.1) (members-walked g from to rows) in
-    let records : between_on g.rank 0 end left ≡ between_on g.rank from to rows = rw (is, at.0, at.1) (records-walked g.rank from to rows) in
-    λ i. record { members = members i; records = length (records i) }
-coming-walked g from to begin end rows left is (inr empty) =
-    let members : members_between g 0 end left ≡ members_between g from to rows =
+    → ◌≡◌ {A = MembersLeft} (record { members = members_between g 0 end left; passed_records = length (between_on g.rank 0 end left) })
+    (record { members = members_between g from to records; passed_records = length (between_on g.rank from to records) })
+remaining-walked g from to begin end records left is (inl at) =
+    let members : members_between g 0 end left ≡ members_between g from to records = rw (is, at.0, at.1) (members-walked g from to records) in
+    let passed_records : between_on g.rank 0 end left ≡ between_on g.rank from to records = rw (is, at.0, at.1) (records-walked g.rank from to records) in
+    λ i. record { members = members i; passed_records = length (passed_records i) }
+remaining-walked g from to begin end records left is (inr empty) =
+    let members : members_between g 0 end left ≡ members_between g from to records =
     rw empty.1 (none_between (is_in_group (is_apart g.side) g.rank (is_minus g.side)) 0 0 left (omega arith)
-    ∙ sym (none_between (is_in_group (is_apart g.side) g.rank (is_minus g.side)) from to rows empty.0)) in
-    let records : between_on g.rank 0 end left ≡ between_on g.rank from to rows =
-    rw empty.1 (none_between (λ q. q.seq == g.rank) 0 0 left (omega arith) ∙ sym (none_between (λ q. q.seq == g.rank) from to rows empty.0)) in
-    λ i. record { members = members i; records = length (records i) }
+    ∙ sym (none_between (is_in_group (is_apart g.side) g.rank (is_minus g.side)) from to records empty.0)) in
+    let passed_records : between_on g.rank 0 end left ≡ between_on g.rank from to records =
+    rw empty.1 (none_between (λ q. q.seq == g.rank) 0 0 left (omega arith) ∙ sym (none_between (λ q. q.seq == g.rank) from to records empty.0)) in
+    λ i. record { members = members i; passed_records = length (passed_records i) }
 
-pub ahead-walked : (rank from : ℕ) (rows : List RecordValue) → AreInOrder rows → IsAhead rank (filter (is_from rank from) rows)
-ahead-walked rank from rows order = record {
-  ordered = in_order-filter record_cmp (is_from rank from) rows order;
-  ranks = recursion-all (λ r. rank ≤ r.seq) _ (λ q m. elim (from-true rank from q (mem-filter (is_from rank from) rows q m).1) [
+pub ahead-walked : (rank from : ℕ) (records : List RecordValue) → AreInOrder records → IsAhead rank (filter (is_from rank from) records)
+ahead-walked rank from records order = record {
+  ordered = in_order-filter record_cmp (is_from rank from) records order;
+  ranks = recursion-all (λ r. rank ≤ r.seq) _ (λ q m. elim (from-true rank from q (mem-filter (is_from rank from) records q m).1) [
     | inl later ↦ omega arith
     | inr here ↦ omega (arith, here.0)
   ]);
@@ -131,20 +131,20 @@ ahead-walked rank from rows order = record {
 
 -- ---- one more step of a walk
 
-pub ahead-rest : (rank : ℕ) (r : RecordValue) (rows : List RecordValue) → IsAhead rank (r ∷ rows) → IsAhead rank rows
-ahead-rest rank r rows h = record { ordered = h.ordered.1; ranks = h.ranks.1 }
+pub ahead-rest : (rank : ℕ) (r : RecordValue) (records : List RecordValue) → IsAhead rank (r ∷ records) → IsAhead rank records
+ahead-rest rank r records h = record { ordered = h.ordered.1; ranks = h.ranks.1 }
 
 -- a record on another sequence, or from the end on, has nothing of the range after it
-pub past-none : (p : RecordValue → Bool) (rank to : ℕ) (r : RecordValue) (rows : List RecordValue) → ((q : RecordValue) → p q ≡ true → q.seq ≡ rank) → IsAhead rank (r ∷ rows)
-    → (r.seq ≡ rank → ⊥) ⊎ (to ≤ r.start) → filter (λ q. p q && starts_between 0 to q) (r ∷ rows) ≡ []
-past-none p rank to r rows on h past = filter-none _ (r ∷ rows) (λ q m. false_from_ne_true _ (λ e.
+pub past-none : (p : RecordValue → Bool) (rank to : ℕ) (r : RecordValue) (records : List RecordValue) → ((q : RecordValue) → p q ≡ true → q.seq ≡ rank) → IsAhead rank (r ∷ records)
+    → (r.seq ≡ rank → ⊥) ⊎ (to ≤ r.start) → filter (λ q. p q && starts_between 0 to q) (r ∷ records) ≡ []
+past-none p rank to r records on h past = filter-none _ (r ∷ records) (λ q m. false_from_ne_true _ (λ e.
     let both = and_parts (p q) (starts_between 0 to q) e in
     let range = between-true 0 to q both.1 in
     let at : q.seq ≡ rank = on q both.0 in
     let first : rank ≤ r.seq = h.ranks.0 in
     let before : Precedes r q ⊎ (r ≡ q) = elim m [
       | inl same ↦ inr same
-      | inr later ↦ inl (precedes-from r q (all-recursion (λ y. is_le (record_cmp r y) ≡ true) rows h.ordered.0 q later))
+      | inr later ↦ inl (precedes-from r q (all-recursion (λ y. is_le (record_cmp r y) ≡ true) records h.ordered.0 q later))
     ] in
     elim past [
       | inl other ↦ elim before [
@@ -157,34 +157,34 @@ past-none p rank to r rows on h past = filter-none _ (r ∷ rows) (λ q m. false
       ]
     ]))
 
-pub past-members : (g : Group) (to : ℕ) (r : RecordValue) (rows : List RecordValue) → IsAhead g.rank (r ∷ rows) → (r.seq ≡ g.rank → ⊥) ⊎ (to ≤ r.start) → members_between g 0 to (r ∷ rows) ≡ []
-past-members g to r rows h past = past-none (is_in_group (is_apart g.side) g.rank (is_minus g.side)) g.rank to r rows (in_group-on g) h past
+pub past-members : (g : Group) (to : ℕ) (r : RecordValue) (records : List RecordValue) → IsAhead g.rank (r ∷ records) → (r.seq ≡ g.rank → ⊥) ⊎ (to ≤ r.start) → members_between g 0 to (r ∷ records) ≡ []
+past-members g to r records h past = past-none (is_in_group (is_apart g.side) g.rank (is_minus g.side)) g.rank to r records (in_group-on g) h past
 
-pub past-records : (rank to : ℕ) (r : RecordValue) (rows : List RecordValue) → IsAhead rank (r ∷ rows) → (r.seq ≡ rank → ⊥) ⊎ (to ≤ r.start) → between_on rank 0 to (r ∷ rows) ≡ []
-past-records rank to r rows h past = past-none (λ q. q.seq == rank) rank to r rows (on-rank rank) h past
+pub past-records : (rank to : ℕ) (r : RecordValue) (records : List RecordValue) → IsAhead rank (r ∷ records) → (r.seq ≡ rank → ⊥) ⊎ (to ≤ r.start) → between_on rank 0 to (r ∷ records) ≡ []
+past-records rank to r records h past = past-none (λ q. q.seq == rank) rank to r records (on-rank rank) h past
 
 -- none in a list is none in its rest
-pub rest-none : (p : RecordValue → Bool) (r : RecordValue) (rows : List RecordValue) → filter p (r ∷ rows) ≡ [] → filter p rows ≡ []
-rest-none p r rows none = elim (cases_Bool (p r)) [
-  | inl e ↦ let never : r ∷ filter p rows ≡ [] = sym (cond-true (p r) (r ∷ filter p rows) (filter p rows) e) ∙ none in cc
-  | inr e ↦ sym (cond-false (p r) (r ∷ filter p rows) (filter p rows) e) ∙ none
+pub rest-none : (p : RecordValue → Bool) (r : RecordValue) (records : List RecordValue) → filter p (r ∷ records) ≡ [] → filter p records ≡ []
+rest-none p r records none = elim (cases_Bool (p r)) [
+  | inl e ↦ let never : r ∷ filter p records ≡ [] = sym (cond-true (p r) (r ∷ filter p records) (filter p records) e) ∙ none in cc
+  | inr e ↦ sym (cond-false (p r) (r ∷ filter p records) (filter p records) e) ∙ none
 ]
 
 -- a record within the range is one of those ahead
-pub here-records : (rank to : ℕ) (r : RecordValue) (rows : List RecordValue) → r.seq ≡ rank → r.start < to → length (between_on rank 0 to (r ∷ rows)) ≡ length (between_on rank 0 to rows) + 1
-here-records rank to r rows at below =
-    ap length (cond-true ((r.seq == rank) && starts_between 0 to r) (r ∷ between_on rank 0 to rows) (between_on rank 0 to rows)
+pub here-records : (rank to : ℕ) (r : RecordValue) (records : List RecordValue) → r.seq ≡ rank → r.start < to → length (between_on rank 0 to (r ∷ records)) ≡ length (between_on rank 0 to records) + 1
+here-records rank to r records at below =
+    ap length (cond-true ((r.seq == rank) && starts_between 0 to r) (r ∷ between_on rank 0 to records) (between_on rank 0 to records)
     (and_from _ _ (eq-eqb _ _ at) (between-from 0 to r (omega arith) below))) ∙ omega arith
 
 -- and a member if it is in the group
-pub here-member : (g : Group) (to : ℕ) (r : RecordValue) (rows : List RecordValue) → r.start < to → is_in_group (is_apart g.side) g.rank (is_minus g.side) r ≡ true
-    → members_between g 0 to (r ∷ rows) ≡ r ∷ members_between g 0 to rows
-here-member g to r rows below in_group =
-    cond-true (is_in_group (is_apart g.side) g.rank (is_minus g.side) r && starts_between 0 to r) (r ∷ members_between g 0 to rows) (members_between g 0 to rows)
+pub here-member : (g : Group) (to : ℕ) (r : RecordValue) (records : List RecordValue) → r.start < to → is_in_group (is_apart g.side) g.rank (is_minus g.side) r ≡ true
+    → members_between g 0 to (r ∷ records) ≡ r ∷ members_between g 0 to records
+here-member g to r records below in_group =
+    cond-true (is_in_group (is_apart g.side) g.rank (is_minus g.side) r && starts_between 0 to r) (r ∷ members_between g 0 to records) (members_between g 0 to records)
     (and_from _ _ in_group (between-from 0 to r (omega arith) below))
 
-pub other-member : (g : Group) (to : ℕ) (r : RecordValue) (rows : List RecordValue) → is_in_group (is_apart g.side) g.rank (is_minus g.side) r ≡ false
-    → members_between g 0 to (r ∷ rows) ≡ members_between g 0 to rows
-other-member g to r rows other =
-    cond-false (is_in_group (is_apart g.side) g.rank (is_minus g.side) r && starts_between 0 to r) (r ∷ members_between g 0 to rows) (members_between g 0 to rows)
+pub other-member : (g : Group) (to : ℕ) (r : RecordValue) (records : List RecordValue) → is_in_group (is_apart g.side) g.rank (is_minus g.side) r ≡ false
+    → members_between g 0 to (r ∷ records) ≡ members_between g 0 to records
+other-member g to r records other =
+    cond-false (is_in_group (is_apart g.side) g.rank (is_minus g.side) r && starts_between 0 to r) (r ∷ members_between g 0 to records) (members_between g 0 to records)
     (and_left _ _ other)

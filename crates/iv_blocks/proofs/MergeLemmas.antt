@@ -29,21 +29,21 @@ length-same f h [] same = refl
 length-same f h (x ∷ xs) same =
     omega (arith, length-append (f x) (flat_map f xs), length-append (h x) (flat_map h xs), same x, length-same f h xs same)
 
-module _ (o : BlockOptions) (g : Sequences) (width : ℕ) (rows : List RecordValue) (entries : Entries) (right : AreBlocksOf o (names_of g) rows entries) (fit : All (Fits g width) rows) where
-  pub rows-are : flat_map (entry_row g) entries ≡ merge_text o g rows
+module _ (o : BlockOptions) (g : Sequences) (width : ℕ) (records : List RecordValue) (entries : Entries) (right : AreBlocksOf o (names_of g) records entries) (fit : All (Fits g width) records) where
+  pub rows-are : flat_map (entry_row g) entries ≡ merge_text o g records
   rows-are =
       let ranks : List ℕ = range_with_len 0 (seq_count g) in
-      let own : ℕ → Bool → Entries = λ s t. map (entry_of o g s t) (side_blocks o g rows s t) in
-      ap (flat_map (entry_row g)) (entries-are o g width rows fit entries right)
+      let own : ℕ → Bool → Entries = λ s t. map (entry_of o g s t) (side_blocks o g records s t) in
+      ap (flat_map (entry_row g)) (entries-are o g width records fit entries right)
       ∙ flat_map-flat_map (entry_row g) (λ s. flat_map (own s) (sides o.stranded)) ranks
-      ∙ flat_map-agree (λ s. flat_map (entry_row g) (flat_map (own s) (sides o.stranded))) (λ s. flat_map (side_rows o g rows s) (sides o.stranded)) ranks
+      ∙ flat_map-agree (λ s. flat_map (entry_row g) (flat_map (own s) (sides o.stranded))) (λ s. flat_map (side_rows o g records s) (sides o.stranded)) ranks
       (λ s. flat_map-flat_map (entry_row g) (own s) (sides o.stranded)
-      ∙ flat_map-agree (λ t. flat_map (entry_row g) (own s t)) (side_rows o g rows s) (sides o.stranded)
-      (λ t. flat_map-map (entry_row g) (entry_of o g s t) (side_blocks o g rows s t)))
+      ∙ flat_map-agree (λ t. flat_map (entry_row g) (own s t)) (side_rows o g records s) (sides o.stranded)
+      (λ t. flat_map-map (entry_row g) (entry_of o g s t) (side_blocks o g records s t)))
 
-  pub count-is : length entries ≡ length (all_blocks o g rows)
+  pub count-is : length entries ≡ length (all_blocks o g records)
   count-is =
-      ap (λ (l : Entries). length l) (entries-are o g width rows fit entries right)
-      ∙ length-same (λ s. flat_map (λ t. map (entry_of o g s t) (side_blocks o g rows s t)) (sides o.stranded)) (λ s. flat_map (side_blocks o g rows s) (sides o.stranded)) (range_with_len 0 (seq_count g))
-      (λ s. length-same (λ t. map (entry_of o g s t) (side_blocks o g rows s t)) (side_blocks o g rows s) (sides o.stranded)
-      (λ t. length-map (side_blocks o g rows s t) (entry_of o g s t)))
+      ap (λ (l : Entries). length l) (entries-are o g width records fit entries right)
+      ∙ length-same (λ s. flat_map (λ t. map (entry_of o g s t) (side_blocks o g records s t)) (sides o.stranded)) (λ s. flat_map (side_blocks o g records s) (sides o.stranded)) (range_with_len 0 (seq_count g))
+      (λ s. length-same (λ t. map (entry_of o g s t) (side_blocks o g records s t)) (side_blocks o g records s) (sides o.stranded)
+      (λ t. length-map (side_blocks o g records s t) (entry_of o g s t)))

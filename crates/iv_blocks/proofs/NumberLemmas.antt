@@ -70,63 +70,63 @@ total-rise h m (suc n) low = elim (cases_eq m (suc n)) [
   | inr ne ↦ omega (arith, total-rise h m n (omega arith), total-more h n)
 ]
 
-module _ (d : ℕ) (g : Sequences) (rows : List RecordValue) (lie : All (IsOnGenome g) rows) where
+module _ (d : ℕ) (g : Sequences) (records : List RecordValue) (lie : All (IsOnGenome g) records) where
   -- the block that starts at a position of a sequence
   abbrev pub at : ℕ → ℕ → Option (ℕ × (ℕ × List RecordValue))
-  at s x = option_map (λ b. (x, b)) (block_at start_of stop_of d (on s rows) x)
+  at s x = option_map (λ b. (x, b)) (block_at start_of stop_of d (on s records) x)
 
   -- where the block of a record starts
   abbrev pub own : RecordValue → ℕ
-  own r = home start_of stop_of d (on r.seq rows) r
+  own r = home start_of stop_of d (on r.seq records) r
 
-  in-own : (r : RecordValue) → Contains rows r → Mem r (on r.seq rows)
-  in-own r there = on-from r.seq rows r (contains-mem rows r there) refl
+  in-own : (r : RecordValue) → Contains records r → Mem r (on r.seq records)
+  in-own r there = on-from r.seq records r (contains-mem records r there) refl
 
-  own-block : (r : RecordValue) → Contains rows r → at r.seq (own r) ≡ Some (own r, (block_stop start_of stop_of d (on r.seq rows) (own r), members start_of stop_of d (on r.seq rows) (own r)))
+  own-block : (r : RecordValue) → Contains records r → at r.seq (own r) ≡ Some (own r, (block_stop start_of stop_of d (on r.seq records) (own r), members start_of stop_of d (on r.seq records) (own r)))
   own-block r there =
-      let starts = home-starts start_of stop_of d (on r.seq rows) r (in-own r there) in
-      ap (option_map (λ (b : ℕ × List RecordValue). (own r, b))) (cond-true (is_block_start start_of stop_of d (on r.seq rows) (own r)) _ _ starts)
+      let starts = home-starts start_of stop_of d (on r.seq records) r (in-own r there) in
+      ap (option_map (λ (b : ℕ × List RecordValue). (own r, b))) (cond-true (is_block_start start_of stop_of d (on r.seq records) (own r)) _ _ starts)
 
   -- the number on its own sequence
-  pub own-number : (r : RecordValue) → blocks_before d rows r.seq (r.start + 1) ≡ length (values (at r.seq) (suc (own r)))
-  own-number r = ap (λ n. blocks_before d rows r.seq n) (add-one r.start)
-      ∙ ap (λ (l : List (ℕ × (ℕ × List RecordValue))). length l) (blocks-home start_of stop_of d (on r.seq rows) r)
+  pub own-number : (r : RecordValue) → blocks_before d records r.seq (r.start + 1) ≡ length (values (at r.seq) (suc (own r)))
+  own-number r = ap (λ n. blocks_before d records r.seq n) (add-one r.start)
+      ∙ ap (λ (l : List (ℕ × (ℕ × List RecordValue))). length l) (blocks-home start_of stop_of d (on r.seq records) r)
 
   -- a block that starts later has a greater number
-  later-block : (q r : RecordValue) → Contains rows r → q.seq ≡ r.seq → own q < own r → block_number d g rows q < block_number d g rows r
+  later-block : (q r : RecordValue) → Contains records r → q.seq ≡ r.seq → own q < own r → block_number d g records q < block_number d g records r
   later-block q r there same low =
       let grow = values-grow (at r.seq) (suc (own q)) (own r) (suc (own r)) _ low (omega arith) (own-block r there) in
-      let first : blocks_before d rows q.seq (q.start + 1) ≡ length (values (at r.seq) (suc (own q))) = own-number q ∙ ap (λ s. length (values (at s) (suc (own q)))) same in
-      let sums = ap (λ (s : ℕ). sum (map (λ rank. blocks_before d rows rank (sequence_length g rank)) (range_with_len 0 s))) same in
+      let first : blocks_before d records q.seq (q.start + 1) ≡ length (values (at r.seq) (suc (own q))) = own-number q ∙ ap (λ s. length (values (at s) (suc (own q)))) same in
+      let sums = ap (λ (s : ℕ). sum (map (λ rank. blocks_before d records rank (sequence_length g rank)) (range_with_len 0 s))) same in
       omega (arith, grow, first, own-number r, sums)
 
   -- and so has one on a later sequence
-  later-sequence : (q r : RecordValue) → Contains rows q → Contains rows r → q.seq < r.seq → block_number d g rows q < block_number d g rows r
+  later-sequence : (q r : RecordValue) → Contains records q → Contains records r → q.seq < r.seq → block_number d g records q < block_number d g records r
   later-sequence q r here there low =
-      let h : ℕ → ℕ = λ rank. blocks_before d rows rank (sequence_length g rank) in
-      let is_placed = all-mem (IsOnGenome g) rows lie q (contains-mem rows q here) in
+      let h : ℕ → ℕ = λ rank. blocks_before d records rank (sequence_length g rank) in
+      let is_placed = all-mem (IsOnGenome g) records lie q (contains-mem records q here) in
       let fits : q.start + 1 ≤ sequence_length g q.seq = omega (arith, is_placed.some, is_placed.within.1) in
       let within = values-rise (at q.seq) (q.start + 1) (sequence_length g q.seq) fits in
       let first = values-grow (at r.seq) 0 (own r) (suc (own r)) _ (omega arith) (omega arith) (own-block r there) in
       omega (arith, within, first, own-number r, total-more h q.seq, total-rise h (suc q.seq) r.seq (omega arith))
 
-  pub same-home : (s x : ℕ) (r : RecordValue) → Contains (members start_of stop_of d (on s rows) x) r → home start_of stop_of d (on s rows) r ≡ x
+  pub same-home : (s x : ℕ) (r : RecordValue) → Contains (members start_of stop_of d (on s records) x) r → home start_of stop_of d (on s records) r ≡ x
   same-home s x r belongs =
-      let facts = (member-means start_of stop_of d (on s rows) x r).0 belongs in
-      last-is (is_block_start start_of stop_of d (on s rows)) r.start x facts.2 facts.1 (λ k above below. false_from_ne_true _ (facts.3 k above below))
+      let facts = (member-means start_of stop_of d (on s records) x r).0 belongs in
+      last-is (is_block_start start_of stop_of d (on s records)) r.start x facts.2 facts.1 (λ k above below. false_from_ne_true _ (facts.3 k above below))
 
-  home-belongs : (r : RecordValue) → Contains rows r → Contains (members start_of stop_of d (on r.seq rows) (own r)) r
+  home-belongs : (r : RecordValue) → Contains records r → Contains (members start_of stop_of d (on r.seq records) (own r)) r
   home-belongs r there =
       let m = in-own r there in
-      (member-means start_of stop_of d (on r.seq rows) (own r) r).1 (
-        mem-contains (on r.seq rows) r m,
-        home-starts start_of stop_of d (on r.seq rows) r m,
-        home-le start_of stop_of d (on r.seq rows) r,
-        λ k above below passes. both_ways _ (home-last start_of stop_of d (on r.seq rows) r k above below) passes,
+      (member-means start_of stop_of d (on r.seq records) (own r) r).1 (
+        mem-contains (on r.seq records) r m,
+        home-starts start_of stop_of d (on r.seq records) r m,
+        home-le start_of stop_of d (on r.seq records) r,
+        λ k above below passes. both_ways _ (home-last start_of stop_of d (on r.seq records) r k above below) passes,
       )
 
-  pub number-means : (q r : RecordValue) → Contains rows q → Contains rows r
-      → (block_number d g rows q ≡ block_number d g rows r) ↔ ((q.seq ≡ r.seq) × ((x : ℕ) × BelongsTo d (on r.seq rows) x q × BelongsTo d (on r.seq rows) x r))
+  pub number-means : (q r : RecordValue) → Contains records q → Contains records r
+      → (block_number d g records q ≡ block_number d g records r) ↔ ((q.seq ≡ r.seq) × ((x : ℕ) × BelongsTo d (on r.seq records) x q × BelongsTo d (on r.seq records) x r))
   number-means q r here there = (
     λ same. elim (cases_lt q.seq r.seq) [
       | inl low ↦ absurd (omega (arith, same, later-sequence q r here there low))
@@ -140,17 +140,17 @@ module _ (d : ℕ) (g : Sequences) (rows : List RecordValue) (lie : All (IsOnGen
                 | inl after ↦ absurd (omega (arith, same, later-block r q here (sym rank) after))
                 | inr at_most ↦
                     let one : own q ≡ own r = omega arith in
-                    let first : Contains (members start_of stop_of d (on r.seq rows) (own r)) q
-                    = subst (λ x. Contains (members start_of stop_of d (on r.seq rows) x) q) one (subst (λ s. Contains (members start_of stop_of d (on s rows) (own q)) q) rank (home-belongs q here)) in
+                    let first : Contains (members start_of stop_of d (on r.seq records) (own r)) q
+                    = subst (λ x. Contains (members start_of stop_of d (on r.seq records) x) q) one (subst (λ s. Contains (members start_of stop_of d (on s records) (own q)) q) rank (home-belongs q here)) in
                     (rank, (own r, first, home-belongs r there))
               ]
             ]
       ]
     ],
     λ both.
-        let first : own q ≡ both.1.0 = ap (λ s. home start_of stop_of d (on s rows) q) both.0 ∙ same-home r.seq both.1.0 q both.1.1 in
+        let first : own q ≡ both.1.0 = ap (λ s. home start_of stop_of d (on s records) q) both.0 ∙ same-home r.seq both.1.0 q both.1.1 in
         let second : own r ≡ both.1.0 = same-home r.seq both.1.0 r both.1.2 in
-        let on_own : blocks_before d rows q.seq (q.start + 1) ≡ blocks_before d rows r.seq (r.start + 1)
+        let on_own : blocks_before d records q.seq (q.start + 1) ≡ blocks_before d records r.seq (r.start + 1)
         = own-number q ∙ ap (λ s. length (values (at s) (suc (own q)))) both.0 ∙ ap (λ x. length (values (at r.seq) (suc x))) (first ∙ sym second) ∙ sym (own-number r) in
-        omega (arith, on_own, ap (λ (s : ℕ). sum (map (λ rank. blocks_before d rows rank (sequence_length g rank)) (range_with_len 0 s))) both.0),
+        omega (arith, on_own, ap (λ (s : ℕ). sum (map (λ rank. blocks_before d records rank (sequence_length g rank)) (range_with_len 0 s))) both.0),
   )

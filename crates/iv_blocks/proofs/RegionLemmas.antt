@@ -179,21 +179,21 @@ module _ (s : ℕ) (t : Bool) (start stop : ℕ) where
     | inr other ↦ ap (λ (b : Bool). b && nat_lt e.0.2 stop) other ∙ sym (ap (λ (b : Bool). b && shares start stop e.0.2 e.1.stop) other)
   ]
 
-module _ (o : BlockOptions) (g : Sequences) (width : ℕ) (rows : List RecordValue) (entries : Entries) (right : AreBlocksOf o (names_of g) rows entries) (fit : All (Fits g width) rows) (s : ℕ) (t : Bool) where
+module _ (o : BlockOptions) (g : Sequences) (width : ℕ) (records : List RecordValue) (entries : Entries) (right : AreBlocksOf o (names_of g) records entries) (fit : All (Fits g width) records) (s : ℕ) (t : Bool) where
   -- what is kept of the block of this side that starts at a position
   abbrev look : ℕ → Option Kept
   look x = value_at key_cmp entries (s, t, x)
 
-  pub lasting : Lasting start_of stop_of o.distance (group o.stranded s t rows)
-  lasting q m = (all-mem (Fits g width) rows fit q (group-in o.stranded s t rows q m).0).is_placed.some
+  pub lasting : Lasting start_of stop_of o.distance (group o.stranded s t records)
+  lasting q m = (all-mem (Fits g width) records fit q (group-in o.stranded s t records q m).0).is_placed.some
 
-  pub block-is : (x : ℕ) (b : Kept) → look x ≡ Some b → IsBlock start_of stop_of o.distance (group o.stranded s t rows) x b.stop
-  block-is x b e = shown-is o.distance (name_of (names_of g) s) (listed o.summaries) (group o.stranded s t rows) x b lasting (sym (right.blocks (s, t, x)) ∙ e)
+  pub block-is : (x : ℕ) (b : Kept) → look x ≡ Some b → IsBlock start_of stop_of o.distance (group o.stranded s t records) x b.stop
+  block-is x b e = shown-is o.distance (name_of (names_of g) s) (listed o.summaries) (group o.stranded s t records) x b lasting (sym (right.blocks (s, t, x)) ∙ e)
 
   pub starts-low : (x : ℕ) (b : Kept) → look x ≡ Some b → x < sequence_length g s
   starts-low x b e = elim (cases_lt x (sequence_length g s)) [
     | inl low ↦ low
-    | inr high ↦ absurd (none-some b (sym (none-past o g width rows fit s t x high) ∙ sym (right.blocks (s, t, x)) ∙ e))
+    | inr high ↦ absurd (none-some b (sym (none-past o g width records fit s t x high) ∙ sym (right.blocks (s, t, x)) ∙ e))
   ]
 
   -- ---- where a walk begins
@@ -214,7 +214,7 @@ module _ (o : BlockOptions) (g : Sequences) (width : ℕ) (rows : List RecordVal
       arith,
       is,
       entry.within,
-      ends_before start_of stop_of o.distance (group o.stranded s t rows) found.0 x b.stop (block-is found.0 _ entry.is).free (block-is x b e) low,
+      ends_before start_of stop_of o.distance (group o.stranded s t records) found.0 x b.stop (block-is found.0 _ entry.is).free (block-is x b e) low,
     )
 
     same-stop : (found : ℕ × ℕ) → IsLastBlock look last found → (x : ℕ) (b : Kept) → x ≡ found.0 → look x ≡ Some b → b.stop ≡ found.1
@@ -251,7 +251,7 @@ module _ (o : BlockOptions) (g : Sequences) (width : ℕ) (rows : List RecordVal
 
   module _ (start stop low : ℕ) (reaches : ReachesFrom look start low) where
     abbrev kept : Key → Option Kept
-    kept = kept_at o (names_of g) rows
+    kept = kept_at o (names_of g) records
 
     -- an entry before the walk doesn't reach into the region
     early-none : filter (is_in s t start stop) (side_entries kept s t low) ≡ []
@@ -272,13 +272,13 @@ module _ (o : BlockOptions) (g : Sequences) (width : ℕ) (rows : List RecordVal
         let inside = mem-filter (λ e. is_le (key_cmp (s, t, sequence_length g s) e.0)) entries e m in
         let high : is_le (nat_cmp (sequence_length g s) e.0.2) ≡ true
         = ap is_le (sym (key_cmp-group s t (sequence_length g s) e.0.2)) ∙ ap (λ (k : Key). is_le (key_cmp (s, t, sequence_length g s) k)) (sym own) ∙ inside.1 in
-        no_entry kept (sequence_length g) entries right.ordered right.blocks (none-past o g width rows fit) s t e inside.0
+        no_entry kept (sequence_length g) entries right.ordered right.blocks (none-past o g width records fit) s t e inside.0
         (ap (λ (k : Key). k.0) own) (ap (λ (k : Key). k.1) own) (le_from_is_le (sequence_length g s) e.0.2 high)))
 
     -- so the entries of the walk that share a position with the region are the side's
-    entries-in : filter (is_in s t start stop) (from (s, t, low) entries) ≡ map (entry_of o g s t) (side_blocks_in o g rows s start stop t)
+    entries-in : filter (is_in s t start stop) (from (s, t, low) entries) ≡ map (entry_of o g s t) (side_blocks_in o g records s start stop t)
     entries-in =
-        let on = walked-on kept (sequence_length g) entries right.ordered right.blocks (none-past o g width rows fit) s t in
+        let on = walked-on kept (sequence_length g) entries right.ordered right.blocks (none-past o g width records fit) s t in
         let n : ℕ = sequence_length g s in
         sym (ap (λ (l : Entries). l ++ filter (is_in s t start stop) (from (s, t, low) entries)) early-none)
         ∙ sym (filter-append (is_in s t start stop) (side_entries kept s t low) (from (s, t, low) entries))
@@ -286,8 +286,8 @@ module _ (o : BlockOptions) (g : Sequences) (width : ℕ) (rows : List RecordVal
         ∙ filter-append (is_in s t start stop) (side_entries kept s t n) (from (s, t, n) entries)
         ∙ ap (λ (l : Entries). filter (is_in s t start stop) (side_entries kept s t n) ++ l) late-none
         ∙ append-nil (filter (is_in s t start stop) (side_entries kept s t n))
-        ∙ ap (filter (is_in s t start stop)) (side-is o g rows s t n)
-        ∙ filter-mapped (is_in s t start stop) (λ b. shares start stop b.0 b.1.0) (entry_of o g s t) (side_blocks o g rows s t)
+        ∙ ap (filter (is_in s t start stop)) (side-is o g records s t n)
+        ∙ filter-mapped (is_in s t start stop) (λ b. shares start stop b.0 b.1.0) (entry_of o g s t) (side_blocks o g records s t)
         (λ b. ap (λ (y : Bool). y && shares start stop b.0 b.1.0) (of-key s t b.0 (entry_of o g s t b).1))
 
     -- each one that starts before the region stops shares a position with it
@@ -299,39 +299,39 @@ module _ (o : BlockOptions) (g : Sequences) (width : ℕ) (rows : List RecordVal
         let at : look e.0.2 ≡ Some e.1 = ap (value_at key_cmp entries) (sym own) ∙ value-of entries e (ascends-all entries right.ordered) inside.0 in
         reaches.after e.0.2 e.1 (le_from_is_le low e.0.2 high) at))
 
-    pub rows-in : flat_map (entry_row g) (filter (is_early s t stop) (from (s, t, low) entries)) ≡ flat_map (block_row (sequence_name g s) (listed o.summaries)) (side_blocks_in o g rows s start stop t)
-    rows-in = ap (flat_map (entry_row g)) (early-in ∙ entries-in) ∙ flat_map-map (entry_row g) (entry_of o g s t) (side_blocks_in o g rows s start stop t)
+    pub rows-in : flat_map (entry_row g) (filter (is_early s t stop) (from (s, t, low) entries)) ≡ flat_map (block_row (sequence_name g s) (listed o.summaries)) (side_blocks_in o g records s start stop t)
+    rows-in = ap (flat_map (entry_row g)) (early-in ∙ entries-in) ∙ flat_map-map (entry_row g) (entry_of o g s t) (side_blocks_in o g records s start stop t)
 
-    pub count-in : length (filter (is_early s t stop) (from (s, t, low) entries)) ≡ length (side_blocks_in o g rows s start stop t)
-    count-in = ap (λ (l : Entries). length l) (early-in ∙ entries-in) ∙ length-map (side_blocks_in o g rows s start stop t) (entry_of o g s t)
+    pub count-in : length (filter (is_early s t stop) (from (s, t, low) entries)) ≡ length (side_blocks_in o g records s start stop t)
+    count-in = ap (λ (l : Entries). length l) (early-in ∙ entries-in) ∙ length-map (side_blocks_in o g records s start stop t) (entry_of o g s t)
 
 -- ---- the sides
 
-module _ (o : BlockOptions) (g : Sequences) (rows : List RecordValue) (s start stop : ℕ) where
+module _ (o : BlockOptions) (g : Sequences) (records : List RecordValue) (s start stop : ℕ) where
   -- the rows of one side
   abbrev pub side_text : Bool → List ℕ
-  side_text t = flat_map (block_row (sequence_name g s) (listed o.summaries)) (side_blocks_in o g rows s start stop t)
+  side_text t = flat_map (block_row (sequence_name g s) (listed o.summaries)) (side_blocks_in o g records s start stop t)
 
-  blocks-together : o.stranded ≡ false → blocks_in o g rows s start stop ≡ side_blocks_in o g rows s start stop false
-  blocks-together e = ap (λ (b : Bool). flat_map (side_blocks_in o g rows s start stop) (sides b)) e ∙ append-nil (side_blocks_in o g rows s start stop false)
+  blocks-together : o.stranded ≡ false → blocks_in o g records s start stop ≡ side_blocks_in o g records s start stop false
+  blocks-together e = ap (λ (b : Bool). flat_map (side_blocks_in o g records s start stop) (sides b)) e ∙ append-nil (side_blocks_in o g records s start stop false)
 
-  blocks-apart : o.stranded ≡ true → blocks_in o g rows s start stop ≡ side_blocks_in o g rows s start stop false ++ side_blocks_in o g rows s start stop true
+  blocks-apart : o.stranded ≡ true → blocks_in o g records s start stop ≡ side_blocks_in o g records s start stop false ++ side_blocks_in o g records s start stop true
   blocks-apart e =
-      ap (λ (b : Bool). flat_map (side_blocks_in o g rows s start stop) (sides b)) e
-      ∙ ap (λ (l : List (ℕ × (ℕ × List RecordValue))). side_blocks_in o g rows s start stop false ++ l) (append-nil (side_blocks_in o g rows s start stop true))
+      ap (λ (b : Bool). flat_map (side_blocks_in o g records s start stop) (sides b)) e
+      ∙ ap (λ (l : List (ℕ × (ℕ × List RecordValue))). side_blocks_in o g records s start stop false ++ l) (append-nil (side_blocks_in o g records s start stop true))
 
-  pub text-together : o.stranded ≡ false → merge_text_in o g rows s start stop ≡ side_text false
+  pub text-together : o.stranded ≡ false → merge_text_in o g records s start stop ≡ side_text false
   text-together e = ap (λ (b : Bool). flat_map side_text (sides b)) e ∙ append-nil (side_text false)
 
-  pub text-apart : o.stranded ≡ true → merge_text_in o g rows s start stop ≡ side_text false ++ side_text true
+  pub text-apart : o.stranded ≡ true → merge_text_in o g records s start stop ≡ side_text false ++ side_text true
   text-apart e =
       ap (λ (b : Bool). flat_map side_text (sides b)) e
       ∙ ap (λ (l : List ℕ). side_text false ++ l) (append-nil (side_text true))
 
-  pub count-together : o.stranded ≡ false → length (blocks_in o g rows s start stop) ≡ length (side_blocks_in o g rows s start stop false)
+  pub count-together : o.stranded ≡ false → length (blocks_in o g records s start stop) ≡ length (side_blocks_in o g records s start stop false)
   count-together e = ap (λ (l : List (ℕ × (ℕ × List RecordValue))). length l) (blocks-together e)
 
-  pub count-apart : o.stranded ≡ true → length (blocks_in o g rows s start stop) ≡ length (side_blocks_in o g rows s start stop false) + length (side_blocks_in o g rows s start stop true)
+  pub count-apart : o.stranded ≡ true → length (blocks_in o g records s start stop) ≡ length (side_blocks_in o g records s start stop false) + length (side_blocks_in o g records s start stop true)
   count-apart e =
       ap (λ (l : List (ℕ × (ℕ × List RecordValue))). length l) (blocks-apart e)
-      ∙ length-append (side_blocks_in o g rows s start stop false) (side_blocks_in o g rows s start stop true)
+      ∙ length-append (side_blocks_in o g records s start stop false) (side_blocks_in o g records s start stop true)

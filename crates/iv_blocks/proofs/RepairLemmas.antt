@@ -55,11 +55,11 @@ module _ (d : ℕ) (name : List ℕ) (summaries : List ColumnSummary) where
     lasting_G = lasting-fewer start_of stop_of d G H r more lasting
 
     -- how many records there are in r's block
-    pub home-count : (low to : ℕ) (rows : List RecordValue) → IsBlock start_of stop_of d H low to → low ≤ r.start → r.start < to
-        → within_block d H rows r ≡ length (filter (λ q. (q.seq == r.seq) && starts_in start_of stop_of d low to q) rows)
-    home-count low to rows block above below =
-        ap (λ (h : ℕ). length (filter (λ q. (q.seq == r.seq) && starts_in start_of stop_of d h (block_stop start_of stop_of d H h) q) rows)) (home-in start_of stop_of d H low to block r more.added above below)
-        ∙ ap (λ (s : ℕ). length (filter (λ q. (q.seq == r.seq) && starts_in start_of stop_of d low s q) rows)) (block-stop start_of stop_of d H low to lasting block)
+    pub home-count : (low to : ℕ) (records : List RecordValue) → IsBlock start_of stop_of d H low to → low ≤ r.start → r.start < to
+        → within_block d H records r ≡ length (filter (λ q. (q.seq == r.seq) && starts_in start_of stop_of d low to q) records)
+    home-count low to records block above below =
+        ap (λ (h : ℕ). length (filter (λ q. (q.seq == r.seq) && starts_in start_of stop_of d h (block_stop start_of stop_of d H h) q) records)) (home-in start_of stop_of d H low to block r more.added above below)
+        ∙ ap (λ (s : ℕ). length (filter (λ q. (q.seq == r.seq) && starts_in start_of stop_of d low s q) records)) (block-stop start_of stop_of d H low to lasting block)
 
     -- ---- r is taken away, and another record from its start on reaches as far
 

@@ -7,9 +7,9 @@ use Rattle.iv_text.specs.RecordValue.{RecordValue}
 use Rattle.iv_blocks.specs.Inside.Groups.{is_on}
 use Rattle.iv_blocks.specs.declared.group.Side.TheVariants.{Both}
 use Rattle.iv_cover.specs.declared.block.Block.{Block}
-use Rattle.iv_cover.specs.TrackBlocks.{Group, with_members}
-use Rattle.iv_cover.specs.Inside.RemainingBlocks.{is_joined, coming}
-use Rattle.iv_cover.proofs.Comings.{coming-joined, coming-split_up}
+use Rattle.iv_cover.specs.TrackBlocks.{BlockWithMembers, with_members}
+use Rattle.iv_cover.specs.Inside.RemainingBlocks.{is_joined, remaining_blocks}
+use Rattle.iv_cover.proofs.RemainingLemmas.{remaining-joined, remaining-split_up}
 use Rattle.iv_text.proofs.ListLemmas.{filter-weaker, filter-all}
 use Rattle.iv_blocks.proofs.ComingLemmas.{drop-next}
 
@@ -24,11 +24,11 @@ pub off-first : {X : Type 0} (p : X → Bool) (r : X) (rs : List X) → p r ≡ 
 off-first p r rs e = cond-false (p r) (r ∷ filter p rs) (filter p rs) e
 
 -- all are on the side that is both
-pub on-both : (rows : List RecordValue) → filter (is_on Both) rows ≡ rows
-on-both rows = filter-all (is_on Both) rows (λ q m. refl)
+pub on-both : (records : List RecordValue) → filter (is_on Both) records ≡ records
+on-both records = filter-all (is_on Both) records (λ q m. refl)
 
 -- if the first passes, it is the first of those that pass
-pub first-on : (p : RecordValue → Bool) (rows : List RecordValue) → ((r : RecordValue) (rs : List RecordValue) → rows ≡ r ∷ rs → p r ≡ true) → slice_get (filter p rows) 0 ≡ slice_get rows 0
+pub first-on : (p : RecordValue → Bool) (records : List RecordValue) → ((r : RecordValue) (rs : List RecordValue) → records ≡ r ∷ rs → p r ≡ true) → slice_get (filter p records) 0 ≡ slice_get records 0
 first-on p [] on = refl
 first-on p (r ∷ rs) on = ap (λ (l : List RecordValue). slice_get l 0) (on-first p r rs (on r rs refl))
 
@@ -48,23 +48,23 @@ passed n xs r rs at = let next = drop-next n xs r rs at in rw add-one (next.0, n
 
 -- a record that does not pass changes nothing
 pub over : (d : ℕ) (p : RecordValue → Bool) (b : Block) (n : ℕ) (xs : List RecordValue) (r : RecordValue) (rs : List RecordValue) → drop n xs ≡ r ∷ rs → p r ≡ false
-    → coming d (Some (with_members b (filter p (take n xs)))) (filter p (r ∷ rs)) ≡ coming d (Some (with_members b (filter p (take (n + 1) xs)))) (filter p rs)
+    → remaining_blocks d (Some (with_members b (filter p (take n xs)))) (filter p (r ∷ rs)) ≡ remaining_blocks d (Some (with_members b (filter p (take (n + 1) xs)))) (filter p rs)
 over d p b n xs r rs at e =
-    ap₂ (λ (m l : List RecordValue). coming d (Some (with_members b m)) l) (sym (off-last p n xs r rs at e)) (off-first p r rs e)
+    ap₂ (λ (m l : List RecordValue). remaining_blocks d (Some (with_members b m)) l) (sym (off-last p n xs r rs at e)) (off-first p r rs e)
 
 -- one that passes joins the block
 pub joins : (d : ℕ) (p : RecordValue → Bool) (b c : Block) (n : ℕ) (xs : List RecordValue) (r : RecordValue) (rs : List RecordValue) → drop n xs ≡ r ∷ rs → p r ≡ true
     → is_joined d (with_members b (filter p (take n xs))) r ≡ true
     → c ≡ record { sequence = b.sequence; start = b.start; stop = max b.stop r.stop }
-    → coming d (Some (with_members b (filter p (take n xs)))) (filter p (r ∷ rs)) ≡ coming d (Some (with_members c (filter p (take (n + 1) xs)))) (filter p rs)
+    → remaining_blocks d (Some (with_members b (filter p (take n xs)))) (filter p (r ∷ rs)) ≡ remaining_blocks d (Some (with_members c (filter p (take (n + 1) xs)))) (filter p rs)
 joins d p b c n xs r rs at e joined same =
-    ap (coming d (Some (with_members b (filter p (take n xs))))) (on-first p r rs e)
-    ∙ coming-joined d (with_members b (filter p (take n xs))) r (filter p rs) joined
-    ∙ sym (ap₂ (λ (m : Block) (l : List RecordValue). coming d (Some (with_members m l)) (filter p rs)) same (on-last p n xs r rs at e))
+    ap (remaining_blocks d (Some (with_members b (filter p (take n xs))))) (on-first p r rs e)
+    ∙ remaining-joined d (with_members b (filter p (take n xs))) r (filter p rs) joined
+    ∙ sym (ap₂ (λ (m : Block) (l : List RecordValue). remaining_blocks d (Some (with_members m l)) (filter p rs)) same (on-last p n xs r rs at e))
 
 -- or begins the next one
-pub parts : (d : ℕ) (p : RecordValue → Bool) (b : Group) (r : RecordValue) (rs : List RecordValue) → p r ≡ true → is_joined d b r ≡ false
-    → coming d (Some b) (filter p (r ∷ rs)) ≡ b ∷ coming d None (filter p (r ∷ rs))
+pub parts : (d : ℕ) (p : RecordValue → Bool) (b : BlockWithMembers) (r : RecordValue) (rs : List RecordValue) → p r ≡ true → is_joined d b r ≡ false
+    → remaining_blocks d (Some b) (filter p (r ∷ rs)) ≡ b ∷ remaining_blocks d None (filter p (r ∷ rs))
 parts d p b r rs e split_up =
-    ap (coming d (Some b)) (on-first p r rs e) ∙ coming-split_up d b r (filter p rs) split_up
-    ∙ ap (λ (l : List RecordValue). b ∷ coming d None l) (sym (on-first p r rs e))
+    ap (remaining_blocks d (Some b)) (on-first p r rs e) ∙ remaining-split_up d b r (filter p rs) split_up
+    ∙ ap (λ (l : List RecordValue). b ∷ remaining_blocks d None l) (sym (on-first p r rs e))

@@ -7,8 +7,8 @@ use Rattle.iv_text.specs.Ordered.{AreInOrder}
 use Rattle.iv_text.specs.Read.{IsOnGenome}
 use Rattle.iv_text.specs.RecordValue.{RecordValue, record_cmp}
 use Rattle.iv_cover.specs.Blocks.{blocks_below}
-use Rattle.iv_cover.specs.Inside.RemainingBlocks.{coming}
-use Rattle.iv_cover.specs.TrackBlocks.{Group, start_of, stop_of, block_on, blocks_on}
+use Rattle.iv_cover.specs.Inside.RemainingBlocks.{remaining_blocks}
+use Rattle.iv_cover.specs.TrackBlocks.{BlockWithMembers, start_of, stop_of, block_on, blocks_on}
 use Rattle.iv_text.specs.CoveredPositions.{on}
 use Rattle.iv_text.proofs.InOrderLemmas.{in_order-filter}
 use Rattle.iv_cover.proofs.WalkLemmas.{gathered-more, gathered-none_from, merge-all, on-none, blocks-none}
@@ -29,59 +29,59 @@ ranks-next f rank count low =
 
 -- ---- strands apart
 
-pub apart : (o : BlockOptions) (name : List ℕ) (rows : List RecordValue) → o.stranded ≡ true
-    → sequence_rows o name rows ≡ group_rows o name (filter (is_on Plus) rows) ++ group_rows o name (filter (is_on Minus) rows)
-apart o name rows is =
-    ap (λ (b : Bool). flat_map (λ minus. group_rows o name (filter (is_on_side b minus) rows)) (sides b)) is
-    ∙ ap (λ (l : List ℕ). group_rows o name (filter (is_on Plus) rows) ++ l) (append-nil (group_rows o name (filter (is_on Minus) rows)))
+pub apart : (o : BlockOptions) (name : List ℕ) (records : List RecordValue) → o.stranded ≡ true
+    → sequence_rows o name records ≡ group_rows o name (filter (is_on Plus) records) ++ group_rows o name (filter (is_on Minus) records)
+apart o name records is =
+    ap (λ (b : Bool). flat_map (λ minus. group_rows o name (filter (is_on_side b minus) records)) (sides b)) is
+    ∙ ap (λ (l : List ℕ). group_rows o name (filter (is_on Plus) records) ++ l) (append-nil (group_rows o name (filter (is_on Minus) records)))
 
 -- ---- the rows of one sequence
 
-module _ (o : BlockOptions) (g : Sequences) (rows : List RecordValue) (order : AreInOrder rows) (lie : All (IsOnGenome g) rows) where
+module _ (o : BlockOptions) (g : Sequences) (records : List RecordValue) (order : AreInOrder records) (lie : All (IsOnGenome g) records) where
   -- the rows of the sequence of this rank
   abbrev pub rank_rows : ℕ → List ℕ
-  rank_rows rank = flat_map (side_rows o g rows rank) (sides o.stranded)
+  rank_rows rank = flat_map (side_rows o g records rank) (sides o.stranded)
 
   -- the group's records
   abbrev of : ℕ → Bool → List RecordValue
-  of rank minus = group o.stranded rank minus rows
+  of rank minus = group o.stranded rank minus records
 
   elsewhere : (rank : ℕ) (minus : Bool) (k : ℕ) → (k ≡ rank → ⊥) → blocks_on o.distance g (of rank minus) k ≡ []
   elsewhere rank minus k other =
-      let none : on k (of rank minus) ≡ [] = on-none k (of rank minus) (λ q m at. other (sym at ∙ (group-in o.stranded rank minus rows q m).1)) in
+      let none : on k (of rank minus) ≡ [] = on-none k (of rank minus) (λ q m at. other (sym at ∙ (group-in o.stranded rank minus records q m).1)) in
       ap (λ (l : List RecordValue). map (block_on k) (blocks_below start_of stop_of o.distance l (sequence_length g k))) none
       ∙ ap (map (block_on k)) (blocks-none o.distance (sequence_length g k))
 
   -- its blocks are those of the one sequence
   one-sequence : (rank : ℕ) (minus : Bool) → rank < seq_count g
-      → coming o.distance None (of rank minus) ≡ map (block_on rank) (blocks_below start_of stop_of o.distance (of rank minus) (sequence_length g rank))
+      → remaining_blocks o.distance None (of rank minus) ≡ map (block_on rank) (blocks_below start_of stop_of o.distance (of rank minus) (sequence_length g rank))
   one-sequence rank minus low =
       let G = of rank minus in
       let f = blocks_on o.distance g G in
-      let same : on rank G ≡ G = filter-all (λ (q : RecordValue). q.seq == rank) G (λ q m. eq-eqb q.seq rank (group-in o.stranded rank minus rows q m).1) in
-      merge-all o.distance g G (in_order-filter record_cmp (is_in_group o.stranded rank minus) rows order)
-      (mem-all (IsOnGenome g) G (λ q m. all-mem (IsOnGenome g) rows lie q (group-in o.stranded rank minus rows q m).0))
+      let same : on rank G ≡ G = filter-all (λ (q : RecordValue). q.seq == rank) G (λ q m. eq-eqb q.seq rank (group-in o.stranded rank minus records q m).1) in
+      merge-all o.distance g G (in_order-filter record_cmp (is_in_group o.stranded rank minus) records order)
+      (mem-all (IsOnGenome g) G (λ q m. all-mem (IsOnGenome g) records lie q (group-in o.stranded rank minus records q m).0))
       ∙ gathered-none_from f (seq_count g) (suc rank) (omega arith) (λ j above below. elsewhere rank minus j (λ at. omega (arith, at)))
       ∙ gathered-more f rank
-      ∙ ap (λ (l : List Group). l ++ f rank) (gathered-none_from f rank 0 (omega arith) (λ j above below. elsewhere rank minus j (λ at. omega (arith, at))))
+      ∙ ap (λ (l : List BlockWithMembers). l ++ f rank) (gathered-none_from f rank 0 (omega arith) (λ j above below. elsewhere rank minus j (λ at. omega (arith, at))))
       ∙ ap (λ (l : List RecordValue). map (block_on rank) (blocks_below start_of stop_of o.distance l (sequence_length g rank))) same
 
   side-is : (rank : ℕ) (minus : Bool) → rank < seq_count g
-      → group_rows o (sequence_name g rank) (filter (is_on_side o.stranded minus) (on rank rows)) ≡ side_rows o g rows rank minus
+      → group_rows o (sequence_name g rank) (filter (is_on_side o.stranded minus) (on rank records)) ≡ side_rows o g records rank minus
   side-is rank minus low =
       let name = sequence_name g rank in
       let asked = listed o.summaries in
-      ap (group_rows o name) (filter-filter (is_on_side o.stranded minus) (λ (q : RecordValue). q.seq == rank) rows)
+      ap (group_rows o name) (filter-filter (is_on_side o.stranded minus) (λ (q : RecordValue). q.seq == rank) records)
       ∙ ap (flat_map (group_row name asked)) (one-sequence rank minus low)
       ∙ flat_map-map (group_row name asked) (block_on rank) (blocks_below start_of stop_of o.distance (of rank minus) (sequence_length g rank))
 
-  rank-is : (rank : ℕ) → rank < seq_count g → sequence_rows o (sequence_name g rank) (on rank rows) ≡ rank_rows rank
+  rank-is : (rank : ℕ) → rank < seq_count g → sequence_rows o (sequence_name g rank) (on rank records) ≡ rank_rows rank
   rank-is rank low =
-      flat_map-agree (λ minus. group_rows o (sequence_name g rank) (filter (is_on_side o.stranded minus) (on rank rows))) (side_rows o g rows rank) (sides o.stranded)
+      flat_map-agree (λ minus. group_rows o (sequence_name g rank) (filter (is_on_side o.stranded minus) (on rank records))) (side_rows o g records rank) (sides o.stranded)
       (λ minus. side-is rank minus low)
 
   -- the rows of the first of the sequences that are left, as they are put, and those of the sequences after it
-  pub rows-next : (p : BlockOptions) (name : List ℕ) (here : List RecordValue) (rank : ℕ) → rank < seq_count g → p ≡ o → name ≡ sequence_name g rank → here ≡ on rank rows
+  pub rows-next : (p : BlockOptions) (name : List ℕ) (here : List RecordValue) (rank : ℕ) → rank < seq_count g → p ≡ o → name ≡ sequence_name g rank → here ≡ on rank records
       → flat_map rank_rows (range_with_len rank (seq_count g - rank)) ≡ sequence_rows p name here ++ flat_map rank_rows (range_with_len (rank + 1) (seq_count g - (rank + 1)))
   rows-next p name here rank low options named is =
       let rest : List ℕ = flat_map rank_rows (range_with_len (rank + 1) (seq_count g - (rank + 1))) in

@@ -9,15 +9,15 @@ use Rattle.iv_text.specs.Named.{names_of}
 use Rattle.iv_text.specs.Read.{Fits, IsOnGenome}
 use Rattle.iv_text.specs.RecordValue.{RecordValue}
 use Rattle.iv_cover.specs.Blocks.{blocks_below}
-use Rattle.iv_cover.specs.TrackBlocks.{Group, start_of, stop_of, block_on, blocks_on, blocks_of, with_members}
+use Rattle.iv_cover.specs.TrackBlocks.{BlockWithMembers, start_of, stop_of, block_on, blocks_on, blocks_of, with_members}
 use Rattle.iv_text.specs.CoveredPositions.{on}
 use Rattle.iv_text.proofs.ListLemmas.{filter-agree}
 use Rattle.iv_track.specs.Entries.{IsLedger, value_at}
 use Rattle.iv_track.proofs.CountedLemmas.{given-items}
-use Rattle.iv_cover.specs.Inside.RemainingBlocks.{coming, is_joined}
+use Rattle.iv_cover.specs.Inside.RemainingBlocks.{remaining_blocks, is_joined}
 use Rattle.iv_cover.specs.declared.block.Block.{Block}
 use Rattle.iv_cover.specs.declared.column.ColumnSummary.{ColumnSummary}
-use Rattle.iv_cover.proofs.Comings.{coming-begun, coming-joined, coming-split_up}
+use Rattle.iv_cover.proofs.RemainingLemmas.{remaining-begun, remaining-joined, remaining-split_up}
 use Rattle.iv_blocks.specs.Inside.Groups.{is_in_group}
 use Rattle.iv_blocks.specs.Groups.{group, sides, listed}
 use Rattle.iv_blocks.specs.KeptBlocks.{Key, Entries, key_cmp, kept_at}
@@ -31,8 +31,8 @@ use Rattle.iv_blocks.proofs.StoredLemmas.{ordered-plain, plain-alike}
 use Rattle.iv_blocks.proofs.KeptLemmas.{flat_map-agree, entry_of, sides-are, none-past, none-later}
 
 -- records that fit a genome are on it
-pub all-lie : (g : Sequences) (width : ℕ) (rows : List RecordValue) → All (Fits g width) rows → All (IsOnGenome g) rows
-all-lie g width rows fit = All-weaker (Fits g width) (IsOnGenome g) (λ r fits. fits.is_placed) rows fit
+pub all-lie : (g : Sequences) (width : ℕ) (records : List RecordValue) → All (Fits g width) records → All (IsOnGenome g) records
+all-lie g width records fit = All-weaker (Fits g width) (IsOnGenome g) (λ r fits. fits.is_placed) records fit
 
 pub map-flat_map : {X Y Z : Type 0} (h : Y → Z) (f : X → List Y) (xs : List X) → map h (flat_map f xs) ≡ flat_map (λ x. map h (f x)) xs
 map-flat_map h f [] = refl
@@ -43,14 +43,14 @@ map-flat_map h f (x ∷ xs) = map-both (f x) (flat_map f xs) ∙ ap (λ l. map h
     map-both (y ∷ a) b = ap (λ l. h y ∷ l) (map-both a b)
 
 -- what is drained is what was left
-pub drained : (bs : List Group) (es : List (Key × ℕ)) → Drains GivesStops bs es → es ≡ map stop_entry bs
+pub drained : (bs : List BlockWithMembers) (es : List (Key × ℕ)) → Drains GivesStops bs es → es ≡ map stop_entry bs
 drained bs es run = given-items bs es (map stop_entry bs) run (YieldsList-from_shown GivesStops (λ e. e) (map stop_entry) (λ s t h. ap length h.0) (λ s x t h. h) bs)
 
-module _ (o : BlockOptions) (g : Sequences) (width : ℕ) (rows : List RecordValue) (fit : All (Fits g width) rows) (together : o.stranded ≡ false) where
+module _ (o : BlockOptions) (g : Sequences) (width : ℕ) (records : List RecordValue) (fit : All (Fits g width) records) (together : o.stranded ≡ false) where
   -- the records of a sequence are its one group
-  group-on : (s : ℕ) → group o.stranded s false rows ≡ on s rows
-  group-on s = ap (λ b. group b s false rows) together
-      ∙ filter-agree (is_in_group false s false) (λ r. r.seq == s) rows (λ r m. and-true (r.seq == s))
+  group-on : (s : ℕ) → group o.stranded s false records ≡ on s records
+  group-on s = ap (λ b. group b s false records) together
+      ∙ filter-agree (is_in_group false s false) (λ r. r.seq == s) records (λ r m. and-true (r.seq == s))
     where
       and-true : (b : Bool) → (b && true) ≡ b
       and-true true = refl
@@ -60,79 +60,79 @@ module _ (o : BlockOptions) (g : Sequences) (width : ℕ) (rows : List RecordVal
   kept-block s [] = refl
   kept-block s (b ∷ bs) = ap (λ (l : Entries). entry_of o g s false b ∷ l) (kept-block s bs)
 
-  kept-on : (s : ℕ) → map (kept_entry g (listed o.summaries)) (blocks_on o.distance g rows s) ≡ rank_entries (kept_at o (names_of g) rows) (sequence_length g) s
+  kept-on : (s : ℕ) → map (kept_entry g (listed o.summaries)) (blocks_on o.distance g records s) ≡ rank_entries (kept_at o (names_of g) records) (sequence_length g) s
   kept-on s =
-      kept-block s (blocks_below start_of stop_of o.distance (on s rows) (sequence_length g s))
+      kept-block s (blocks_below start_of stop_of o.distance (on s records) (sequence_length g s))
       ∙ ap (λ l. map (entry_of o g s false) (blocks_below start_of stop_of o.distance l (sequence_length g s))) (sym (group-on s))
-      ∙ sym (append-nil (map (entry_of o g s false) (side_blocks o g rows s false)))
-      ∙ ap (λ b. flat_map (λ t. map (entry_of o g s t) (side_blocks o g rows s t)) (sides b)) (sym together)
-      ∙ sym (sides-are o g rows s)
+      ∙ sym (append-nil (map (entry_of o g s false) (side_blocks o g records s false)))
+      ∙ ap (λ b. flat_map (λ t. map (entry_of o g s t) (side_blocks o g records s t)) (sides b)) (sym together)
+      ∙ sym (sides-are o g records s)
 
-  kept-all : map (kept_entry g (listed o.summaries)) (blocks_of o.distance g rows) ≡ all_entries (kept_at o (names_of g) rows) (sequence_length g) (seq_count g)
+  kept-all : map (kept_entry g (listed o.summaries)) (blocks_of o.distance g records) ≡ all_entries (kept_at o (names_of g) records) (sequence_length g) (seq_count g)
   kept-all =
-      map-flat_map (kept_entry g (listed o.summaries)) (blocks_on o.distance g rows) (range_with_len 0 (seq_count g))
-      ∙ flat_map-agree (λ s. map (kept_entry g (listed o.summaries)) (blocks_on o.distance g rows s)) (rank_entries (kept_at o (names_of g) rows) (sequence_length g)) (range_with_len 0 (seq_count g)) kept-on
+      map-flat_map (kept_entry g (listed o.summaries)) (blocks_on o.distance g records) (range_with_len 0 (seq_count g))
+      ∙ flat_map-agree (λ s. map (kept_entry g (listed o.summaries)) (blocks_on o.distance g records s)) (rank_entries (kept_at o (names_of g) records) (sequence_length g)) (range_with_len 0 (seq_count g)) kept-on
 
   -- they are in order, and all that is to be kept
-  pub kept-ordered : IsLedger key_cmp (map (kept_entry g (listed o.summaries)) (blocks_of o.distance g rows))
-  kept-ordered = subst (IsLedger key_cmp) (sym kept-all) (all-ordered (kept_at o (names_of g) rows) (sequence_length g) (seq_count g))
+  pub kept-ordered : IsLedger key_cmp (map (kept_entry g (listed o.summaries)) (blocks_of o.distance g records))
+  kept-ordered = subst (IsLedger key_cmp) (sym kept-all) (all-ordered (kept_at o (names_of g) records) (sequence_length g) (seq_count g))
 
-  pub kept-found : (k : Key) → value_at key_cmp (map (kept_entry g (listed o.summaries)) (blocks_of o.distance g rows)) k ≡ kept_at o (names_of g) rows k
+  pub kept-found : (k : Key) → value_at key_cmp (map (kept_entry g (listed o.summaries)) (blocks_of o.distance g records)) k ≡ kept_at o (names_of g) records k
   kept-found k = ap (λ (l : Entries). value_at key_cmp l k) kept-all
-      ∙ all-look (kept_at o (names_of g) rows) (sequence_length g) (seq_count g) (none-past o g width rows fit) (none-later o g width rows fit) k
+      ∙ all-look (kept_at o (names_of g) records) (sequence_length g) (seq_count g) (none-past o g width records fit) (none-later o g width records fit) k
 
   -- so are the stops, if there are no summaries
   module _ (none : listed o.summaries ≡ []) where
-    plain-kept : (bs : List Group) → map plain_entry (map stop_entry bs) ≡ map (kept_entry g (listed o.summaries)) bs
+    plain-kept : (bs : List BlockWithMembers) → map plain_entry (map stop_entry bs) ≡ map (kept_entry g (listed o.summaries)) bs
     plain-kept [] = refl
     plain-kept (b ∷ bs) =
         ap (λ (l : Entries). plain_entry (stop_entry b) ∷ l) (plain-kept bs)
         ∙ ap (λ l. kept_entry g l b ∷ map (kept_entry g (listed o.summaries)) bs) (sym none)
 
-    pub stops-ordered : IsLedger key_cmp (map stop_entry (blocks_of o.distance g rows))
-    stops-ordered = ordered-plain _ (subst (IsLedger key_cmp) (sym (plain-kept (blocks_of o.distance g rows))) kept-ordered)
+    pub stops-ordered : IsLedger key_cmp (map stop_entry (blocks_of o.distance g records))
+    stops-ordered = ordered-plain _ (subst (IsLedger key_cmp) (sym (plain-kept (blocks_of o.distance g records))) kept-ordered)
 
-    pub stops-found : (l : List (Key × ℕ)) → ((k : Key) → value_at key_cmp l k ≡ value_at key_cmp (map stop_entry (blocks_of o.distance g rows)) k)
-        → (k : Key) → value_at key_cmp (map plain_entry l) k ≡ kept_at o (names_of g) rows k
+    pub stops-found : (l : List (Key × ℕ)) → ((k : Key) → value_at key_cmp l k ≡ value_at key_cmp (map stop_entry (blocks_of o.distance g records)) k)
+        → (k : Key) → value_at key_cmp (map plain_entry l) k ≡ kept_at o (names_of g) records k
     stops-found l same k =
-        plain-alike l (map stop_entry (blocks_of o.distance g rows)) k (same k)
-        ∙ ap (λ (es : Entries). value_at key_cmp es k) (plain-kept (blocks_of o.distance g rows))
+        plain-alike l (map stop_entry (blocks_of o.distance g records)) k (same k)
+        ∙ ap (λ (es : Entries). value_at key_cmp es k) (plain-kept (blocks_of o.distance g records))
         ∙ kept-found k
 
 -- ---- entries that are made in one walk
 
 module _ (g : Sequences) (summaries : List ColumnSummary) (d : ℕ) where
   -- the first record opens a block
-  pub entries-begun : (r : RecordValue) (rows : List RecordValue) (block : Block) → block ≡ record { sequence = r.seq; start = r.start; stop = r.stop }
-      → entries_with g summaries d [] block (r ∷ []) rows ≡ map (kept_entry g summaries) (coming d None (r ∷ rows))
-  entries-begun r rows block is = ap (map (kept_entry g summaries)) (sym (coming-begun d r rows block is))
+  pub entries-begun : (r : RecordValue) (records : List RecordValue) (block : Block) → block ≡ record { sequence = r.seq; start = r.start; stop = r.stop }
+      → entries_with g summaries d [] block (r ∷ []) records ≡ map (kept_entry g summaries) (remaining_blocks d None (r ∷ records))
+  entries-begun r records block is = ap (map (kept_entry g summaries)) (sym (remaining-begun d r records block is))
 
-  pub entries-alike : (es fs : Entries) (b c : Block) (ms ns rows : List RecordValue) → es ≡ fs → b ≡ c → ms ≡ ns → entries_with g summaries d es b ms rows ≡ entries_with g summaries d fs c ns rows
-  entries-alike es fs b c ms ns rows p q r = λ i. entries_with g summaries d (p i) (q i) (r i) rows
+  pub entries-alike : (es fs : Entries) (b c : Block) (ms ns records : List RecordValue) → es ≡ fs → b ≡ c → ms ≡ ns → entries_with g summaries d es b ms records ≡ entries_with g summaries d fs c ns records
+  entries-alike es fs b c ms ns records p q r = λ i. entries_with g summaries d (p i) (q i) (r i) records
 
-  module _ (entries : Entries) (block : Block) (members : List RecordValue) (r : RecordValue) (rows : List RecordValue) (next : Block)
+  module _ (entries : Entries) (block : Block) (members : List RecordValue) (r : RecordValue) (records : List RecordValue) (next : Block)
       (next_is : next ≡ record { sequence = r.seq; start = r.start; stop = r.stop }) (test : Bool) (test_is : test ≡ ((next.sequence == block.sequence) && nat_le next.start (block.stop + d))) where
     is_test : is_joined d (with_members block members) r ≡ test
     is_test = sym (test_is ∙ ap (λ (n : Block). (n.sequence == block.sequence) && nat_le n.start (block.stop + d)) next_is)
 
     -- a record that joins the open block
     pub entries-joined : (after : Block) → after ≡ record { sequence = block.sequence; start = block.start; stop = max block.stop next.stop } → test ≡ true
-        → entries_with g summaries d entries after (members ++ r ∷ []) rows ≡ entries_with g summaries d entries block members (r ∷ rows)
+        → entries_with g summaries d entries after (members ++ r ∷ []) records ≡ entries_with g summaries d entries block members (r ∷ records)
     entries-joined after after_is yes_test =
         let whole : after ≡ record { sequence = block.sequence; start = block.start; stop = max block.stop r.stop }
         = after_is ∙ ap (λ (n : Block). record { sequence = block.sequence; start = block.start; stop = max block.stop n.stop }) next_is in
-        ap (λ (b : Block). entries_with g summaries d entries b (members ++ r ∷ []) rows) whole
-        ∙ ap (λ (bs : List Group). entries ++ map (kept_entry g summaries) bs) (sym (coming-joined d (with_members block members) r rows (is_test ∙ yes_test)))
+        ap (λ (b : Block). entries_with g summaries d entries b (members ++ r ∷ []) records) whole
+        ∙ ap (λ (bs : List BlockWithMembers). entries ++ map (kept_entry g summaries) bs) (sym (remaining-joined d (with_members block members) r records (is_test ∙ yes_test)))
 
     -- a record that closes it
     pub entries-split_up : (more : Entries) → more ≡ entries ++ kept_entry g summaries (with_members block members) ∷ [] → test ≡ false
-        → entries_with g summaries d more next (r ∷ []) rows ≡ entries_with g summaries d entries block members (r ∷ rows)
+        → entries_with g summaries d more next (r ∷ []) records ≡ entries_with g summaries d entries block members (r ∷ records)
     entries-split_up more more_is no_test =
-        let b : Group = with_members block members in
-        ap (λ (l : Entries). entries_with g summaries d l next (r ∷ []) rows) more_is
-        ∙ append_assoc entries (kept_entry g summaries b ∷ []) (map (kept_entry g summaries) (coming d (Some (with_members next (r ∷ []))) rows))
-        ∙ ap (λ (bs : List Group). entries ++ kept_entry g summaries b ∷ map (kept_entry g summaries) bs) (sym (coming-begun d r rows next next_is))
-        ∙ ap (λ (bs : List Group). entries ++ map (kept_entry g summaries) bs) (sym (coming-split_up d b r rows (is_test ∙ no_test)))
+        let b : BlockWithMembers = with_members block members in
+        ap (λ (l : Entries). entries_with g summaries d l next (r ∷ []) records) more_is
+        ∙ append_assoc entries (kept_entry g summaries b ∷ []) (map (kept_entry g summaries) (remaining_blocks d (Some (with_members next (r ∷ []))) records))
+        ∙ ap (λ (bs : List BlockWithMembers). entries ++ kept_entry g summaries b ∷ map (kept_entry g summaries) bs) (sym (remaining-begun d r records next next_is))
+        ∙ ap (λ (bs : List BlockWithMembers). entries ++ map (kept_entry g summaries) bs) (sym (remaining-split_up d b r records (is_test ∙ no_test)))
 
 -- entries are given one by one
 pub drained-items : (items es : Entries) → Drains (YieldsFirst (λ (l : Entries). l)) items es → es ≡ items

@@ -10,13 +10,13 @@ use Rattle.iv_cover.specs.TrackBlocks.{start_of, stop_of}
 
 -- how many blocks start below a position of the sequence of this rank
 abbrev pub blocks_before : ℕ → List RecordValue → ℕ → ℕ → ℕ
-blocks_before d rows rank position = length (blocks_below start_of stop_of d (on rank rows) position)
+blocks_before d records rank position = length (blocks_below start_of stop_of d (on rank records) position)
 
 -- how many blocks there are on sequences before the one of this rank, and on it below a position
 abbrev pub blocks_until : ℕ → Sequences → List RecordValue → ℕ → ℕ → ℕ
-blocks_until d g rows rank position =
-    sum (map (λ s. blocks_before d rows s (sequence_length g s)) (range_with_len 0 rank)) + blocks_before d rows rank position
+blocks_until d g records rank position =
+    sum (map (λ s. blocks_before d records s (sequence_length g s)) (range_with_len 0 rank)) + blocks_before d records rank position
 
 -- the row of a record: its columns, the number of its block from 1, which is how many blocks there are up to its own, and a line feed
 abbrev pub cluster_row : ℕ → Sequences → List RecordValue → RecordValue → List ℕ
-cluster_row d g rows r = record_text g r ++ codes "\t" ++ decimal (blocks_until d g rows r.seq (r.start + 1)) ++ codes "\n"
+cluster_row d g records r = record_text g r ++ codes "\t" ++ decimal (blocks_until d g records r.seq (r.start + 1)) ++ codes "\n"

@@ -23,7 +23,7 @@ is_on_side stranded minus r = if stranded then is_strand minus r.strand else not
 
 -- the records on the sequence of this rank and on this side
 abbrev pub group : Bool → ℕ → Bool → List RecordValue → List RecordValue
-group stranded rank minus rows = filter (λ r. (r.seq == rank) && is_on_side stranded minus r) rows
+group stranded rank minus records = filter (λ r. (r.seq == rank) && is_on_side stranded minus r) records
 
 -- the sides whose blocks are printed, in order: with strands apart, `+` and then `-`
 abbrev pub sides : Bool → List Bool
@@ -38,5 +38,5 @@ abbrev pub filled : List ColumnSummary → Summaries
 filled summaries = record { summaries = summaries ++ replicate (16 - length summaries) (record { column = Sequence; op = Count }); count = length summaries }
 
 -- records of both strands are joined at this distance, and there are no summaries
-abbrev pub joined : ℕ → BlockOptions
-joined distance = record { distance = distance; stranded = false; summaries = filled [] }
+abbrev pub plain_options : ℕ → BlockOptions
+plain_options distance = record { distance = distance; stranded = false; summaries = filled [] }

@@ -39,16 +39,16 @@ kept_block name summaries b = record { stop = b.0; results = results_over name s
 
 -- the block of a group that starts at a position, if there is one
 abbrev pub block_of : BlockOptions → List RecordValue → Key → Option (ℕ × List RecordValue)
-block_of o rows k = block_at start_of stop_of o.distance (group o.stranded k.0 k.1 rows) k.2
+block_of o records k = block_at start_of stop_of o.distance (group o.stranded k.0 k.1 records) k.2
 
 -- what is to be kept at a key
 abbrev pub kept_at : BlockOptions → List (List ℕ) → List RecordValue → Key → Option Kept
-kept_at o names rows k = option_map (kept_block (name_of names k.0) (listed o.summaries)) (block_of o rows k)
+kept_at o names records k = option_map (kept_block (name_of names k.0) (listed o.summaries)) (block_of o records k)
 
 -- the entries are the blocks of the records: at each key is the block that starts there, if there is one
-pub record AreBlocksOf (o : BlockOptions) (names : List (List ℕ)) (rows : List RecordValue) (entries : Entries) : Type 0 where
+pub record AreBlocksOf (o : BlockOptions) (names : List (List ℕ)) (records : List RecordValue) (entries : Entries) : Type 0 where
   pub ordered : IsLedger key_cmp entries
-  pub blocks : (k : Key) → value_at key_cmp entries k ≡ kept_at o names rows k
+  pub blocks : (k : Key) → value_at key_cmp entries k ≡ kept_at o names records k
 
 -- what is kept: for which options, and the blocks
 pub record KeptBlocks : Type 0 where
@@ -57,18 +57,18 @@ pub record KeptBlocks : Type 0 where
 
 -- how many records, of any strand, start within the block of these that r belongs to
 abbrev pub within_block : ℕ → List RecordValue → List RecordValue → RecordValue → ℕ
-within_block d own rows r =
+within_block d own records r =
     let x = last_passing (is_block_start start_of stop_of d own) r.start in
     let stop = block_stop start_of stop_of d own x in
-    length (filter (λ q. (q.seq == r.seq) && (nat_le x q.start && nat_lt q.start stop)) rows)
+    length (filter (λ q. (q.seq == r.seq) && (nat_le x q.start && nat_lt q.start stop)) records)
 
 -- how many records there are around r: those on its sequence that start within its block; none if r is in no block
 abbrev pub around : BlockOptions → List RecordValue → RecordValue → ℕ
-around o rows r =
-    if is_on_side o.stranded false r then within_block o.distance (group o.stranded r.seq false rows) rows r
-    else if is_on_side o.stranded true r then within_block o.distance (group o.stranded r.seq true rows) rows r
+around o records r =
+    if is_on_side o.stranded false r then within_block o.distance (group o.stranded r.seq false records) records r
+    else if is_on_side o.stranded true r then within_block o.distance (group o.stranded r.seq true records) records r
     else 0
 
 -- how many steps a repair takes at most
 abbrev pub block_steps : BlockOptions → List RecordValue → RecordValue → ℕ
-block_steps o rows r = 16 + 8 * around o rows r
+block_steps o records r = 16 + 8 * around o records r

@@ -38,7 +38,7 @@ impl<A: Allocator + Copy> Kept<A> for Blocks<A> {
 
     ghost built_for = { λ kept. kept.options };
 
-    ghost is_right = { λ kept names rows. AreBlocksOf kept.options names rows kept.entries };
+    ghost is_right = { λ kept names records. AreBlocksOf kept.options names records kept.entries };
 
     ghost repair_steps = { block_steps };
 
@@ -85,13 +85,13 @@ impl<A: Allocator + Copy> Kept<A> for Blocks<A> {
         &mut self,
         track: &Track<A>,
         genome: &Genome<A>,
-        row: &RecordRef<'_>,
+        feature: &RecordRef<'_>,
         meter: &mut Meter,
     ) -> Result<(), AllocError> {
-        let Some(group) = Group::of(self.options.stranded, row) else {
+        let Some(group) = Group::of(self.options.stranded, feature) else {
             return Ok(());
         };
-        let (start, stop) = bounds_of(row);
+        let (start, stop) = bounds_of(feature);
         let (low, high) = self.join_before(group, start, stop, meter);
         let high = self.join_after(group, start, high, meter);
         self.insert_block(track, genome, group, low, high, meter)
@@ -103,13 +103,13 @@ impl<A: Allocator + Copy> Kept<A> for Blocks<A> {
         &mut self,
         track: &Track<A>,
         genome: &Genome<A>,
-        row: &RecordRef<'_>,
+        feature: &RecordRef<'_>,
         meter: &mut Meter,
     ) -> Result<(), AllocError> {
-        let Some(group) = Group::of(self.options.stranded, row) else {
+        let Some(group) = Group::of(self.options.stranded, feature) else {
             return Ok(());
         };
-        let (start, end) = bounds_of(row);
+        let (start, end) = bounds_of(feature);
         let Some((low, high)) = self.before(group, start, meter) else {
             unreachable!()
         };
@@ -122,9 +122,9 @@ impl<A: Allocator + Copy> Kept<A> for Blocks<A> {
 }
 
 /// Where a record starts and stops.
-pub(crate) fn bounds_of(row: &RecordRef<'_>) -> (u32, u32)
-    ensures { result ≡ (row.now.start, row.now.stop) }
+pub(crate) fn bounds_of(feature: &RecordRef<'_>) -> (u32, u32)
+    ensures { result ≡ (feature.now.start, feature.now.stop) }
 {
-    row.lemma_of_interval();
-    (row.start() as u32, row.stop() as u32)
+    feature.lemma_of_interval();
+    (feature.start() as u32, feature.stop() as u32)
 }

@@ -7,7 +7,7 @@ ghost use Rattle.iv_text.specs.Read.{Fits};
 ghost use Rattle.iv_track.specs.Steps.{TakesUpTo};
 ghost use Rattle.iv_blocks.specs.Inside.BlockCursor.{starts_until, drop_while, TakesForEach};
 ghost use Rattle.iv_blocks.specs.Inside.Texts.{cluster_text};
-ghost use Rattle.iv_blocks.specs.Groups.{joined};
+ghost use Rattle.iv_blocks.specs.Groups.{plain_options};
 ghost use Rattle.iv_blocks.specs.KeptBlocks.{AreBlocksOf};
 ghost use Rattle.iv_blocks.specs.MergeRows.{all_blocks};
 
@@ -30,20 +30,20 @@ impl<A: Allocator + Copy> Blocks<A> {
         meter: &mut Meter,
         sink: &mut S,
     ) -> Result<(), WriteFault>
-        requires joined { self.now.options ≡ joined self.now.options.distance }
-        requires right { AreBlocksOf self.now.options (names_of genome.now) track.now.rows self.now.entries }
-        requires fit { All (Fits genome.now track.now.width) track.now.rows }
-        ensures text { Puts (S.state sink.old) (S.state sink.new) result (cluster_text self.now.options.distance genome.now track.now.rows) }
-        ensures steps { TakesUpTo meter.old meter.new (4 + length track.now.rows + length (all_blocks self.now.options genome.now track.now.rows)) }
+        requires joined { self.now.options ≡ plain_options self.now.options.distance }
+        requires right { AreBlocksOf self.now.options (names_of genome.now) track.now.records self.now.entries }
+        requires fit { All (Fits genome.now track.now.width) track.now.records }
+        ensures text { Puts (S.state sink.old) (S.state sink.new) result (cluster_text self.now.options.distance genome.now track.now.records) }
+        ensures steps { TakesUpTo meter.old meter.new (4 + length track.now.records + length (all_blocks self.now.options genome.now track.now.records)) }
     {
         // There are so few blocks that 64 bits number them.
         let _few = self.ledger.len();
         let mut ahead = BlockCursor::of(self, meter);
         let mut number: u64 = 0;
-        let mut rows = track.walk(0, 0, meter);
-        while let Some(row) = rows.next(meter) {
-            number += count_until(&mut ahead, row.seq(), row.start(), meter);
-            put_numbered(sink, genome, &row.as_ref(), number)?;
+        let mut records = track.walk(0, 0, meter);
+        while let Some(feature) = records.next(meter) {
+            number += count_until(&mut ahead, feature.seq(), feature.start(), meter);
+            put_numbered(sink, genome, &feature.as_ref(), number)?;
         }
         Ok(())
     }

@@ -6,7 +6,7 @@ ghost use Rattle.iv_text.specs.Read.{Fits};
 ghost use Rattle.iv_track.specs.Regions.{near};
 ghost use Rattle.iv_track.specs.Steps.{TakesUpTo};
 ghost use Rattle.iv_blocks.specs.ClusterRows.{blocks_until};
-ghost use Rattle.iv_blocks.specs.Groups.{joined};
+ghost use Rattle.iv_blocks.specs.Groups.{plain_options};
 ghost use Rattle.iv_blocks.specs.KeptBlocks.{AreBlocksOf};
 ghost use Rattle.iv_blocks.specs.Inside.Texts.{cluster_text_in};
 
@@ -32,11 +32,11 @@ impl<A: Allocator + Copy> Blocks<A> {
         sink: &mut S,
     ) -> Result<(), WriteFault>
         requires region { region.start < region.stop }
-        requires joined { self.now.options ≡ joined self.now.options.distance }
-        requires right { AreBlocksOf self.now.options (names_of genome.now) track.now.rows self.now.entries }
-        requires fit { All (Fits genome.now track.now.width) track.now.rows }
-        ensures text { Puts (S.state sink.old) (S.state sink.new) result (cluster_text_in self.now.options.distance genome.now track.now.rows region.seq region.start region.stop) }
-        ensures steps { TakesUpTo meter.old meter.new (4 + length (near region track.now.rows) + blocks_until self.now.options.distance genome.now track.now.rows region.seq region.stop) }
+        requires joined { self.now.options ≡ plain_options self.now.options.distance }
+        requires right { AreBlocksOf self.now.options (names_of genome.now) track.now.records self.now.entries }
+        requires fit { All (Fits genome.now track.now.width) track.now.records }
+        ensures text { Puts (S.state sink.old) (S.state sink.new) result (cluster_text_in self.now.options.distance genome.now track.now.records region.seq region.start region.stop) }
+        ensures steps { TakesUpTo meter.old meter.new (4 + length (near region track.now.records) + blocks_until self.now.options.distance genome.now track.now.records region.seq region.stop) }
     {
         // There are so few blocks that 64 bits number them, and the records are in order.
         let _few = self.ledger.len();
@@ -44,9 +44,9 @@ impl<A: Allocator + Copy> Blocks<A> {
         let mut ahead = BlockCursor::of(self, meter);
         let mut number: u64 = 0;
         let mut hits = track.hits(region, meter);
-        while let Some(row) = hits.next(meter) {
-            number += count_until(&mut ahead, row.seq(), row.start(), meter);
-            put_numbered(sink, genome, &row.as_ref(), number)?;
+        while let Some(feature) = hits.next(meter) {
+            number += count_until(&mut ahead, feature.seq(), feature.start(), meter);
+            put_numbered(sink, genome, &feature.as_ref(), number)?;
         }
         Ok(())
     }

@@ -10,7 +10,7 @@ ghost use Rattle.iv_blocks.specs.Inside.BlockCursor.{gap_between, gaps_between, 
 ghost use Rattle.iv_blocks.specs.KeptBlocks.{AreBlocksOf};
 ghost use Rattle.iv_blocks.specs.Inside.Texts.{complement_text};
 ghost use Rattle.iv_blocks.specs.ComplementRows.{gap_row};
-ghost use Rattle.iv_blocks.specs.Groups.{joined};
+ghost use Rattle.iv_blocks.specs.Groups.{plain_options};
 ghost use Rattle.iv_blocks.specs.MergeRows.{all_blocks};
 
 use crate::block_cursor::{BlockCursor, BlocksAhead};
@@ -34,11 +34,11 @@ impl<A: Allocator + Copy> Blocks<A> {
         meter: &mut Meter,
         sink: &mut S,
     ) -> Result<(), WriteFault>
-        requires joined { self.now.options ≡ joined 0 }
-        requires right { AreBlocksOf self.now.options (names_of genome.now) track.now.rows self.now.entries }
-        requires fit { All (Fits genome.now track.now.width) track.now.rows }
-        ensures text { Puts (S.state sink.old) (S.state sink.new) result (complement_text limited genome.now track.now.rows) }
-        ensures steps { TakesUpTo meter.old meter.new (2 + length (all_blocks self.now.options genome.now track.now.rows)) }
+        requires joined { self.now.options ≡ plain_options 0 }
+        requires right { AreBlocksOf self.now.options (names_of genome.now) track.now.records self.now.entries }
+        requires fit { All (Fits genome.now track.now.width) track.now.records }
+        ensures text { Puts (S.state sink.old) (S.state sink.new) result (complement_text limited genome.now track.now.records) }
+        ensures steps { TakesUpTo meter.old meter.new (2 + length (all_blocks self.now.options genome.now track.now.records)) }
     {
         let mut ahead = BlockCursor::of(self, meter);
         put_gaps(limited, genome, &mut ahead, meter, sink)

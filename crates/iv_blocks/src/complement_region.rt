@@ -7,7 +7,7 @@ ghost use Rattle.iv_text.specs.Named.{names_of};
 ghost use Rattle.iv_text.specs.Read.{Fits};
 ghost use Rattle.iv_track.specs.Steps.{TakesUpTo};
 ghost use Rattle.iv_blocks.specs.ComplementRows.{gap_row};
-ghost use Rattle.iv_blocks.specs.Groups.{joined};
+ghost use Rattle.iv_blocks.specs.Groups.{plain_options};
 ghost use Rattle.iv_blocks.specs.Inside.BlockCursor.{gap_between};
 ghost use Rattle.iv_blocks.specs.Inside.Regions.{BeginsGap, gaps_from, kept_on};
 ghost use Rattle.iv_blocks.specs.KeptBlocks.{AreBlocksOf, Kept};
@@ -40,11 +40,11 @@ impl<A: Allocator + Copy> Blocks<A> {
         sink: &mut S,
     ) -> Result<(), WriteFault>
         requires region { start < stop }
-        requires joined { self.now.options ≡ joined 0 }
-        requires right { AreBlocksOf self.now.options (names_of genome.now) track.now.rows self.now.entries }
-        requires fit { All (Fits genome.now track.now.width) track.now.rows }
-        ensures text { Puts (S.state sink.old) (S.state sink.new) result (complement_text_in limited genome.now track.now.rows seq start stop) }
-        ensures steps { TakesUpTo meter.old meter.new (2 + length (gaps_in limited genome.now track.now.rows seq start stop)) }
+        requires joined { self.now.options ≡ plain_options 0 }
+        requires right { AreBlocksOf self.now.options (names_of genome.now) track.now.records self.now.entries }
+        requires fit { All (Fits genome.now track.now.width) track.now.records }
+        ensures text { Puts (S.state sink.old) (S.state sink.new) result (complement_text_in limited genome.now track.now.records seq start stop) }
+        ensures steps { TakesUpTo meter.old meter.new (2 + length (gaps_in limited genome.now track.now.records seq start stop)) }
     {
         let group = Group {
             rank: seq,
@@ -79,13 +79,13 @@ impl<A: Allocator + Copy> Blocks<A> {
         meter: &mut Meter,
         sink: &mut S,
     ) -> Result<(), WriteFault>
-        requires joined { self.now.options ≡ joined 0 }
-        requires right { AreBlocksOf self.now.options (names_of genome.now) track.now.rows self.now.entries }
-        requires fit { All (Fits genome.now track.now.width) track.now.rows }
+        requires joined { self.now.options ≡ plain_options 0 }
+        requires right { AreBlocksOf self.now.options (names_of genome.now) track.now.records self.now.entries }
+        requires fit { All (Fits genome.now track.now.width) track.now.records }
         requires begins { BeginsGap (kept_on self.now.entries seq) low }
         requires past { (x : ℕ) (b : Kept) → low ≤ x → kept_on self.now.entries seq x ≡ Some b → start < x }
-        ensures text { Puts (S.state sink.old) (S.state sink.new) result (flat_map (gap_row (sequence_name genome.now seq)) (gaps_from limited genome.now track.now.rows seq start stop low)) }
-        ensures steps { TakesUpTo meter.old meter.new (1 + length (gaps_from limited genome.now track.now.rows seq start stop low)) }
+        ensures text { Puts (S.state sink.old) (S.state sink.new) result (flat_map (gap_row (sequence_name genome.now seq)) (gaps_from limited genome.now track.now.records seq start stop low)) }
+        ensures steps { TakesUpTo meter.old meter.new (1 + length (gaps_from limited genome.now track.now.records seq start stop low)) }
     {
         let group = Group {
             rank: seq,

@@ -2,7 +2,7 @@
 ghost use Rattle.std.specs.Prelude.{◌≡◌, ◌++◌, ◌∷◌, [], None, false, map, IfOk, OnOk};
 ghost use Rattle.std.specs.Iterator.{item_count};
 ghost use Rattle.iv_text.specs.Ordered.{AreInOrder};
-ghost use Rattle.iv_cover.specs.Inside.RemainingBlocks.{coming};
+ghost use Rattle.iv_cover.specs.Inside.RemainingBlocks.{remaining_blocks};
 ghost use Rattle.iv_cover.specs.TrackBlocks.{with_members};
 ghost use Rattle.iv_blocks.specs.Groups.{listed};
 ghost use Rattle.iv_blocks.specs.Inside.UnstrandedBlocks.{kept_entry, GivesStops};
@@ -27,12 +27,12 @@ pub(crate) fn entries_of<A: Allocator + Copy>(
     genome: &Genome<A>,
     meter: &mut Meter,
 ) -> Result<Batches<(Key, KeptBlock<A>), A>, AllocError>
-    ensures entries { IfOk result (λ entries. entries ≡ map (kept_entry genome.now (listed options.now.summaries)) (coming options.now.distance None track.now.rows)) }
-    ensures order { OnOk result (AreInOrder track.now.rows) }
+    ensures entries { IfOk result (λ entries. entries ≡ map (kept_entry genome.now (listed options.now.summaries)) (remaining_blocks options.now.distance None track.now.records)) }
+    ensures order { OnOk result (AreInOrder track.now.records) }
 {
     let mut entries = Batches::new(alloc);
-    let mut rows = track.walk(0, 0, meter);
-    let Some(first) = rows.next(meter) else {
+    let mut records = track.walk(0, 0, meter);
+    let Some(first) = records.next(meter) else {
         return Ok(entries);
     };
     first.lemma_of_interval();
@@ -40,7 +40,7 @@ pub(crate) fn entries_of<A: Allocator + Copy>(
     let mut members = Vec::new(alloc);
     let mut memory = Vec::new(alloc);
     members.push(first)?;
-    while let Some(record) = rows.next(meter) {
+    while let Some(record) = records.next(meter) {
         record.lemma_of_interval();
         let next = Block::of(record);
         if block.is_joined_by(next, options.distance) {
@@ -83,7 +83,7 @@ fn push_entry<A: Allocator + Copy>(
     memory: Vec<u8, A>,
     entries: &mut Batches<(Key, KeptBlock<A>), A>,
 ) -> Result<Vec<u8, A>, AllocError>
-    ensures { OnOk result (entries.new ≡ entries.old ++ kept_entry genome.now (listed options.now.summaries) (with_members block (map (λ row. row.now) members.now)) ∷ []) }
+    ensures { OnOk result (entries.new ≡ entries.old ++ kept_entry genome.now (listed options.now.summaries) (with_members block (map (λ feature. feature.now) members.now)) ∷ []) }
 {
     let name = genome.name_of(block.sequence);
     let results = results_in(alloc, options.summaries.as_slice(), name, members, memory)?;
@@ -118,9 +118,9 @@ impl<'a, 'm, A: Allocator + Copy> UnstrandedBlocks<'a, 'm, A> {
 
 impl<'a, 'm, A: Allocator + Copy> Model for UnstrandedBlocks<'a, 'm, A> {
     ghost use Rattle.std.specs.Prelude.{List};
-    ghost use Rattle.iv_cover.specs.TrackBlocks.{Group};
+    ghost use Rattle.iv_cover.specs.TrackBlocks.{BlockWithMembers};
 
-    ghost Value = { List Group };
+    ghost Value = { List BlockWithMembers };
 
     ghost view = { λ b. b.sweep };
 }

@@ -8,7 +8,7 @@ ghost use Rattle.iv_blocks.specs.Groups.{is_on_side, is_strand};
 ghost use Rattle.iv_blocks.specs.Inside.MembersLeft.{TakesForEach, end_step};
 ghost use Rattle.iv_blocks.specs.Inside.Insertion.{key_of};
 
-use iv_index::TextRecord;
+use iv_locators::TextRecord;
 use iv_text::{Record, RecordRef, Strand};
 use iv_track::{Meter, Track, TrackRecords};
 use std::alloc::Allocator;
@@ -53,12 +53,12 @@ impl Side {
     }
 
     /// Whether the record is on this side. If both are one, its line isn't looked at.
-    pub(crate) fn has(self, row: &TextRecord<'_>) -> bool
-        ensures { result ≡ is_on self row.now }
+    pub(crate) fn has(self, feature: &TextRecord<'_>) -> bool
+        ensures { result ≡ is_on self feature.now }
     {
         match self {
             Side::Both => true,
-            Side::Plus | Side::Minus => self.has_strand(row.strand()),
+            Side::Plus | Side::Minus => self.has_strand(feature.strand()),
         }
     }
 
@@ -84,23 +84,23 @@ pub(crate) struct Group {
 
 impl Group {
     /// The group that the record is in; with strands apart, `None` if it is on neither of them.
-    pub(crate) fn of(stranded: bool, row: &RecordRef<'_>) -> Option<Group>
+    pub(crate) fn of(stranded: bool, feature: &RecordRef<'_>) -> Option<Group>
         ensures { MatchOption result
-            ((minus : Bool) → is_on_side stranded minus row.now ≡ false)
-            (λ g. (is_apart g.side ≡ stranded) × (is_in_group stranded g.rank (is_minus_side g.side) row.now ≡ true)) }
+            ((minus : Bool) → is_on_side stranded minus feature.now ≡ false)
+            (λ g. (is_apart g.side ≡ stranded) × (is_in_group stranded g.rank (is_minus_side g.side) feature.now ≡ true)) }
     {
-        let side = Side::of(stranded, row.strand())?;
+        let side = Side::of(stranded, feature.strand())?;
         Some(Group {
-            rank: row.seq(),
+            rank: feature.seq(),
             side,
         })
     }
 
     /// Whether the record is in the group.
-    pub(crate) fn has<A: Allocator>(self, row: &Record<A>) -> bool
-        ensures { result ≡ is_in_group (is_apart self.side) self.rank (is_minus_side self.side) row.now }
+    pub(crate) fn has<A: Allocator>(self, feature: &Record<A>) -> bool
+        ensures { result ≡ is_in_group (is_apart self.side) self.rank (is_minus_side self.side) feature.now }
     {
-        row.seq() == self.rank && self.side.has_strand(row.strand())
+        feature.seq() == self.rank && self.side.has_strand(feature.strand())
     }
 
     /// Where its block with this start is kept.
@@ -116,7 +116,7 @@ impl Group {
 /// Its model is the list of those that are left, with how many records it goes past for them.
 #[derive(Drop)]
 pub(crate) struct Members<'a, A: Allocator + Copy> {
-    rows: TrackRecords<'a, A>,
+    records: TrackRecords<'a, A>,
     group: Group,
     to: u32,
 }
@@ -128,9 +128,9 @@ impl<'a, A: Allocator + Copy> Model for Members<'a, A> {
 
     ghost Value = { MembersLeft };
 
-    ghost view = { λ m. record { members = members_between m.group 0 m.to m.rows; records = length (between_on m.group.rank 0 m.to m.rows) } };
+    ghost view = { λ m. record { members = members_between m.group 0 m.to m.records; passed_records = length (between_on m.group.rank 0 m.to m.records) } };
 
-    ghost invariant = { λ m. IsAhead m.group.rank m.rows };
+    ghost invariant = { λ m. IsAhead m.group.rank m.records };
 }
 
 impl<'a, A: Allocator + Copy> Members<'a, A> {
@@ -142,14 +142,14 @@ impl<'a, A: Allocator + Copy> Members<'a, A> {
         to: u32,
         meter: &mut Meter,
     ) -> Members<'a, A>
-        ensures members { result ≡ record { members = members_between group from to track.now.rows; records = length (between_on group.rank from to track.now.rows) } }
-        ensures ordered { AreInOrder track.now.rows }
+        ensures members { result ≡ record { members = members_between group from to track.now.records; passed_records = length (between_on group.rank from to track.now.records) } }
+        ensures ordered { AreInOrder track.now.records }
         ensures steps { TakesUpTo meter.old meter.new 1 }
     {
         // If the range is empty, a walk may not be able to begin at its start.
         let (from, to) = if from < to { (from, to) } else { (0, 0) };
         Members {
-            rows: track.walk(group.rank, u64::from(from), meter),
+            records: track.walk(group.rank, u64::from(from), meter),
             group,
             to,
         }
@@ -162,12 +162,12 @@ impl<'a, A: Allocator + Copy> Members<'a, A> {
         ensures member { YieldsFirstRef (λ m. m.members) self.old result self.new }
         ensures steps { TakesForEach meter.old meter.new self.old self.new (end_step result) }
     {
-        while let Some(row) = self.rows.next(meter) {
-            if row.seq() != self.group.rank || row.start() >= u64::from(self.to) {
+        while let Some(feature) = self.records.next(meter) {
+            if feature.seq() != self.group.rank || feature.start() >= u64::from(self.to) {
                 return None;
             }
-            if self.group.has(row) {
-                return Some(row);
+            if self.group.has(feature) {
+                return Some(feature);
             }
         }
         None

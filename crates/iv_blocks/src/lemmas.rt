@@ -13,13 +13,13 @@ ghost use Rattle.iv_blocks.specs.Inside.Texts.{block_number};
 ///
 /// Each position of a gap has depth 0, each position of depth 0 is in a gap, and no two gaps touch or overlap.
 pub fn gaps_are_maximal()
-    ensures bare { (rows : List RecordValue) (rank length : ℕ) (gap : Run) → Contains (empty_runs (depth rows rank) 0 length) gap → (gap.start < gap.stop) × (gap.stop ≤ length) × ((p : ℕ) → gap.start ≤ p → p < gap.stop → depth rows rank p ≡ 0) }
-    ensures all { (rows : List RecordValue) (rank length p : ℕ) → p < length → depth rows rank p ≡ 0 → (gap : Run) × Contains (empty_runs (depth rows rank) 0 length) gap × (gap.start ≤ p) × (p < gap.stop) }
-    ensures apart { (rows : List RecordValue) (rank length : ℕ) (a b : Run) → Contains (empty_runs (depth rows rank) 0 length) a → Contains (empty_runs (depth rows rank) 0 length) b → a.start < b.start → a.stop < b.start }
-    ensures once { (rows : List RecordValue) (rank length : ℕ) (a b : Run) → Contains (empty_runs (depth rows rank) 0 length) a → Contains (empty_runs (depth rows rank) 0 length) b → a.start ≡ b.start → a ≡ b }
+    ensures bare { (records : List RecordValue) (rank length : ℕ) (gap : Run) → Contains (empty_runs (depth records rank) 0 length) gap → (gap.start < gap.stop) × (gap.stop ≤ length) × ((p : ℕ) → gap.start ≤ p → p < gap.stop → depth records rank p ≡ 0) }
+    ensures all { (records : List RecordValue) (rank length p : ℕ) → p < length → depth records rank p ≡ 0 → (gap : Run) × Contains (empty_runs (depth records rank) 0 length) gap × (gap.start ≤ p) × (p < gap.stop) }
+    ensures apart { (records : List RecordValue) (rank length : ℕ) (a b : Run) → Contains (empty_runs (depth records rank) 0 length) a → Contains (empty_runs (depth records rank) 0 length) b → a.start < b.start → a.stop < b.start }
+    ensures once { (records : List RecordValue) (rank length : ℕ) (a b : Run) → Contains (empty_runs (depth records rank) 0 length) a → Contains (empty_runs (depth records rank) 0 length) b → a.start ≡ b.start → a ≡ b }
 {}
 
 /// Two records of a cluster have one number exactly if they are in one block.
 pub fn numbers_are_of_blocks()
-    ensures { (d : ℕ) (g : Sequences) (rows : List RecordValue) (q r : RecordValue) → All (IsOnGenome g) rows → Contains rows q → Contains rows r → (block_number d g rows q ≡ block_number d g rows r) ↔ ((q.seq ≡ r.seq) × ((x : ℕ) × BelongsTo d (on r.seq rows) x q × BelongsTo d (on r.seq rows) x r)) }
+    ensures { (d : ℕ) (g : Sequences) (records : List RecordValue) (q r : RecordValue) → All (IsOnGenome g) records → Contains records q → Contains records r → (block_number d g records q ≡ block_number d g records r) ↔ ((q.seq ≡ r.seq) × ((x : ℕ) × BelongsTo d (on r.seq records) x q × BelongsTo d (on r.seq records) x r)) }
 {}

@@ -26,10 +26,10 @@ impl<A: Allocator + Copy> Blocks<A> {
         meter: &mut Meter,
         sink: &mut S,
     ) -> Result<(), WriteFault>
-        requires right { AreBlocksOf self.now.options (names_of genome.now) track.now.rows self.now.entries }
-        requires fit { All (Fits genome.now track.now.width) track.now.rows }
-        ensures text { Puts (S.state sink.old) (S.state sink.new) result (merge_text self.now.options genome.now track.now.rows) }
-        ensures steps { TakesUpTo meter.old meter.new (2 + length (all_blocks self.now.options genome.now track.now.rows)) }
+        requires right { AreBlocksOf self.now.options (names_of genome.now) track.now.records self.now.entries }
+        requires fit { All (Fits genome.now track.now.width) track.now.records }
+        ensures text { Puts (S.state sink.old) (S.state sink.new) result (merge_text self.now.options genome.now track.now.records) }
+        ensures steps { TakesUpTo meter.old meter.new (2 + length (all_blocks self.now.options genome.now track.now.records)) }
     {
         let mut walk = self.ledger.walk(&FIRST_KEY, meter);
         while let Some(block) = walk.next(meter) {

@@ -41,10 +41,10 @@ impl<A: Allocator + Copy> Blocks<A> {
         sink: &mut S,
     ) -> Result<(), WriteFault>
         requires region { start < stop }
-        requires right { AreBlocksOf self.now.options (names_of genome.now) track.now.rows self.now.entries }
-        requires fit { All (Fits genome.now track.now.width) track.now.rows }
-        ensures text { Puts (S.state sink.old) (S.state sink.new) result (merge_text_in self.now.options genome.now track.now.rows seq start stop) }
-        ensures steps { TakesUpTo meter.old meter.new (3 * length (sides self.now.options.stranded) + length (blocks_in self.now.options genome.now track.now.rows seq start stop)) }
+        requires right { AreBlocksOf self.now.options (names_of genome.now) track.now.records self.now.entries }
+        requires fit { All (Fits genome.now track.now.width) track.now.records }
+        ensures text { Puts (S.state sink.old) (S.state sink.new) result (merge_text_in self.now.options genome.now track.now.records seq start stop) }
+        ensures steps { TakesUpTo meter.old meter.new (3 * length (sides self.now.options.stranded) + length (blocks_in self.now.options genome.now track.now.records seq start stop)) }
     {
         if !self.options.stranded {
             let both = Group {
@@ -76,11 +76,11 @@ impl<A: Allocator + Copy> Blocks<A> {
         meter: &mut Meter,
         sink: &mut S,
     ) -> Result<(), WriteFault>
-        requires right { AreBlocksOf self.now.options (names_of genome.now) track.now.rows self.now.entries }
-        requires fit { All (Fits genome.now track.now.width) track.now.rows }
+        requires right { AreBlocksOf self.now.options (names_of genome.now) track.now.records self.now.entries }
+        requires fit { All (Fits genome.now track.now.width) track.now.records }
         ensures text { Puts (S.state sink.old) (S.state sink.new) result (flat_map (block_row (sequence_name genome.now group.rank) (listed self.now.options.summaries))
-            (side_blocks_in self.now.options genome.now track.now.rows group.rank start stop (is_minus group.side))) }
-        ensures steps { TakesUpTo meter.old meter.new (3 + length (side_blocks_in self.now.options genome.now track.now.rows group.rank start stop (is_minus group.side))) }
+            (side_blocks_in self.now.options genome.now track.now.records group.rank start stop (is_minus group.side))) }
+        ensures steps { TakesUpTo meter.old meter.new (3 + length (side_blocks_in self.now.options genome.now track.now.records group.rank start stop (is_minus group.side))) }
     {
         let name = genome.name_of(group.rank);
         let low = self.reaching_from(group, start, track, genome, meter);
@@ -107,8 +107,8 @@ impl<A: Allocator + Copy> Blocks<A> {
         genome: &Genome<A>,
         meter: &mut Meter,
     ) -> u32
-        requires right { AreBlocksOf self.now.options (names_of genome.now) track.now.rows self.now.entries }
-        requires fit { All (Fits genome.now track.now.width) track.now.rows }
+        requires right { AreBlocksOf self.now.options (names_of genome.now) track.now.records self.now.entries }
+        requires fit { All (Fits genome.now track.now.width) track.now.records }
         ensures low { ReachesFrom (kept_in self.now.entries group) position result }
         ensures steps { TakesUpTo meter.old meter.new 1 }
     {

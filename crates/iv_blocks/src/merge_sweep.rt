@@ -14,7 +14,7 @@ use crate::options::BlockOptions;
 use crate::side_blocks::{SideBlock, SideBlocks};
 use iv_bytes::{Sink, WriteFault, put_all};
 use iv_cover::{ColumnSummary, Value, asks_distinct, put_results};
-use iv_index::TextRecords;
+use iv_locators::TextRecords;
 use iv_text::{Genome, RowBuffer};
 use std::alloc::{AllocError, Allocator, Global};
 use std::marker::Model;

@@ -1,6 +1,6 @@
 //! The options of a merge.
 ghost use Rattle.std.specs.Prelude.{◌≡◌, ◌↔◌, [], nat_lt, IsTrue, IsFalse};
-ghost use Rattle.iv_blocks.specs.Groups.{listed, filled, joined as only_joined};
+ghost use Rattle.iv_blocks.specs.Groups.{listed, filled, plain_options as only_joined};
 ghost use Rattle.iv_blocks.specs.Inside.Groups.{pushed};
 ghost use Rattle.iv_blocks.specs.IntervalOptions.{IsByIntervals};
 

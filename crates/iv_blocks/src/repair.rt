@@ -123,8 +123,8 @@ impl<A: Allocator + Copy> Blocks<A> {
         stop: u32,
         meter: &mut Meter,
     ) -> bool
-        ensures covered { result ≡ true → StaysCovered self.now.options group track.now.rows start stop }
-        ensures steps { TakesUpTo meter.old meter.new (2 + length (between_on group.rank start stop track.now.rows)) }
+        ensures covered { result ≡ true → StaysCovered self.now.options group track.now.records start stop }
+        ensures steps { TakesUpTo meter.old meter.new (2 + length (between_on group.rank start stop track.now.records)) }
     {
         if !self.options.summaries.as_slice().is_empty() {
             return false;
@@ -158,8 +158,8 @@ impl<A: Allocator + Copy> Blocks<A> {
         meter: &mut Meter,
     ) -> Result<(), AllocError>
         requires apart { self.old.options.stranded ≡ true }
-        requires fit { All (Fits genome.now track.now.width) track.now.rows }
-        ensures { OnOk result (AreInsertedOn rank (names_of genome.now) track.now.rows self.old self.new) }
+        requires fit { All (Fits genome.now track.now.width) track.now.records }
+        ensures { OnOk result (AreInsertedOn rank (names_of genome.now) track.now.records self.old self.new) }
     {
         let length = genome.length_u32(rank).unwrap_or(0);
         let plus = Group {
@@ -189,10 +189,10 @@ impl<A: Allocator + Copy> Blocks<A> {
         meter: &mut Meter,
     ) -> Result<(), AllocError>
         requires apart { is_apart group.side ≡ self.old.options.stranded }
-        requires fit { All (Fits genome.now track.now.width) track.now.rows }
-        requires stops { All (λ r. r.stop ≤ to) (members_between group from to track.now.rows) }
-        ensures ok { OnOk result (AreInserted group (names_of genome.now) (between from to track.now.rows) self.old self.new) }
-        ensures steps { TakesUpTo meter.old meter.new (2 + 5 * length (between_on group.rank from to track.now.rows)) }
+        requires fit { All (Fits genome.now track.now.width) track.now.records }
+        requires stops { All (λ r. r.stop ≤ to) (members_between group from to track.now.records) }
+        ensures ok { OnOk result (AreInserted group (names_of genome.now) (between from to track.now.records) self.old self.new) }
+        ensures steps { TakesUpTo meter.old meter.new (2 + 5 * length (between_on group.rank from to track.now.records)) }
     {
         // The keys of the ledger ascend, even if nothing is inserted.
         let _ordered = self.ledger.len();
@@ -203,11 +203,11 @@ impl<A: Allocator + Copy> Blocks<A> {
         };
         let (mut start, mut stop) = bounds_of(&first.as_ref());
         // None of them stops past `to`: once the block does there, all others are in it.
-        'row: while stop < to {
-            let Some(row) = members.next(meter) else {
+        'feature: while stop < to {
+            let Some(feature) = members.next(meter) else {
                 break;
             };
-            let (next_start, next_stop) = bounds_of(&row.as_ref());
+            let (next_start, next_stop) = bounds_of(&feature.as_ref());
             if u64::from(next_start) <= u64::from(stop) + distance {
                 stop = stop.max(next_stop);
             } else {
@@ -234,10 +234,10 @@ impl<A: Allocator + Copy> Blocks<A> {
         meter: &mut Meter,
     ) -> Result<(), AllocError>
         requires apart { is_apart group.side ≡ self.old.options.stranded }
-        requires fit { All (Fits genome.now track.now.width) track.now.rows }
-        requires rest { AreOthers self.old.options.distance block gone (members_between group block.0 block.1 track.now.rows) }
-        ensures ok { OnOk result (AreInserted group (names_of genome.now) (between block.0 block.1 track.now.rows) self.old self.new) }
-        ensures steps { TakesUpTo meter.old meter.new (2 + 5 * length (between_on group.rank block.0 block.1 track.now.rows)) }
+        requires fit { All (Fits genome.now track.now.width) track.now.records }
+        requires rest { AreOthers self.old.options.distance block gone (members_between group block.0 block.1 track.now.records) }
+        ensures ok { OnOk result (AreInserted group (names_of genome.now) (between block.0 block.1 track.now.records) self.old self.new) }
+        ensures steps { TakesUpTo meter.old meter.new (2 + 5 * length (between_on group.rank block.0 block.1 track.now.records)) }
     {
         // The keys of the ledger ascend, even if nothing is inserted.
         let _ordered = self.ledger.len();
@@ -251,11 +251,11 @@ impl<A: Allocator + Copy> Blocks<A> {
         if low < from {
             start = low;
         }
-        'row: while reached < gone.1 {
-            let Some(row) = members.next(meter) else {
+        'feature: while reached < gone.1 {
+            let Some(feature) = members.next(meter) else {
                 return self.insert_block(track, genome, group, start, reached, meter);
             };
-            let (next_start, next_stop) = bounds_of(&row.as_ref());
+            let (next_start, next_stop) = bounds_of(&feature.as_ref());
             // If records start before `gone`, the block goes up to there without it too.
             let joined = self.reach(reached).max(u64::from(gone.0));
             if u64::from(next_start) <= joined {
@@ -272,7 +272,7 @@ impl<A: Allocator + Copy> Blocks<A> {
     fn first_near(&self, track: &Track<A>, low: u32, start: u32) -> u32
         ensures from { low ≤ result }
         ensures within { result ≤ max low start }
-        ensures near { low < result → All (λ r. r.start < result → r.stop + self.now.options.distance < start) track.now.rows }
+        ensures near { low < result → All (λ r. r.start < result → r.stop + self.now.options.distance < start) track.now.records }
     {
         let distance = u64::from(self.options.distance);
         let near = u64::from(start).saturating_sub(distance);
@@ -293,11 +293,11 @@ impl<A: Allocator + Copy> Blocks<A> {
         stop: u32,
         meter: &mut Meter,
     ) -> Result<(), AllocError>
-        ensures ok { OnOk result (self.new ≡ with_block self.old genome.now track.now.rows group start stop) }
+        ensures ok { OnOk result (self.new ≡ with_block self.old genome.now track.now.records group start stop) }
         ensures err { OnErr result (self.new ≡ self.old) }
         ensures was_ordered { OnOk result (IsLedger key_cmp self.old.entries) }
         ensures ordered { OnOk result (IsLedger key_cmp self.new.entries) }
-        ensures steps { TakesUpTo meter.old meter.new (3 + length (between_on group.rank start stop track.now.rows)) }
+        ensures steps { TakesUpTo meter.old meter.new (3 + length (between_on group.rank start stop track.now.records)) }
     {
         let block = self.kept_block(track, genome, group, start, stop, meter)?;
         self.ledger.put(group.key(start), block, meter)
@@ -315,17 +315,17 @@ impl<A: Allocator + Copy> Blocks<A> {
         stop: u32,
         meter: &mut Meter,
     ) -> Result<KeptBlock<A>, AllocError>
-        ensures value { IfOk result (λ b. b ≡ record { stop = stop; results = results_over (sequence_name genome.now group.rank) (listed self.now.options.summaries) (members_between group start stop track.now.rows) }) }
-        ensures steps { TakesUpTo meter.old meter.new (2 + length (between_on group.rank start stop track.now.rows)) }
+        ensures value { IfOk result (λ b. b ≡ record { stop = stop; results = results_over (sequence_name genome.now group.rank) (listed self.now.options.summaries) (members_between group start stop track.now.records) }) }
+        ensures steps { TakesUpTo meter.old meter.new (2 + length (between_on group.rank start stop track.now.records)) }
     {
         let summaries = self.options.summaries.as_slice();
         if summaries.is_empty() {
             return Ok(KeptBlock::plain(stop));
         }
         let members = Members::of(track, group, start, stop, meter);
-        let rows = gather(self.alloc, members, meter)?;
+        let records = gather(self.alloc, members, meter)?;
         let name = genome.name_of(group.rank);
-        let results = results(self.alloc, summaries, name, rows.as_slice())?;
+        let results = results(self.alloc, summaries, name, records.as_slice())?;
         Ok(KeptBlock::copy_of(self.alloc, stop, results.as_slice())?)
     }
 }
@@ -351,13 +351,13 @@ fn gather<'a, A: Allocator + Copy>(
     members: Members<'a, A>,
     meter: &mut Meter,
 ) -> Result<Vec<&'a Record<A>, A>, AllocError>
-    ensures rows { IfOk result (λ v. map (λ row. row.now) v.items ≡ members.entry.members) }
-    ensures steps { TakesUpTo meter.old meter.new (1 + members.entry.records) }
+    ensures records { IfOk result (λ v. map (λ feature. feature.now) v.items ≡ members.entry.members) }
+    ensures steps { TakesUpTo meter.old meter.new (1 + members.entry.passed_records) }
 {
     let mut members = members;
-    let mut rows = Vec::new(alloc);
-    while let Some(row) = members.next(meter) {
-        rows.push(row)?;
+    let mut records = Vec::new(alloc);
+    while let Some(feature) = members.next(meter) {
+        records.push(feature)?;
     }
-    Ok(rows)
+    Ok(records)
 }

@@ -6,13 +6,13 @@ ghost use Rattle.iv_text.specs.Ordered.{AreInOrder};
 ghost use Rattle.iv_text.specs.Read.{IsOnGenome};
 ghost use Rattle.iv_text.specs.RecordValue.{RecordValue};
 ghost use Rattle.iv_cover.specs.Columns.{column_value};
-ghost use Rattle.iv_cover.specs.Inside.RemainingBlocks.{coming};
+ghost use Rattle.iv_cover.specs.Inside.RemainingBlocks.{remaining_blocks};
 ghost use Rattle.iv_cover.specs.TrackBlocks.{blocks_of, with_members};
 ghost use Rattle.iv_blocks.specs.Inside.Groups.{is_on};
 
 use crate::group::Side;
 use iv_cover::{Block, Column, ParsedNumber, Value, Values};
-use iv_index::{TextRecord, TextRecords};
+use iv_locators::{TextRecord, TextRecords};
 use std::marker::Model;
 
 /// A block, and the records that are in it, in their order.
@@ -23,9 +23,9 @@ pub(crate) struct SideBlock<'t> {
 }
 
 impl<'t> Model for SideBlock<'t> {
-    ghost use Rattle.iv_cover.specs.TrackBlocks.{Group, with_members};
+    ghost use Rattle.iv_cover.specs.TrackBlocks.{BlockWithMembers, with_members};
 
-    ghost Value = { Group };
+    ghost Value = { BlockWithMembers };
 
     ghost view = { λ b. with_members b.block b.members };
 }
@@ -44,19 +44,19 @@ pub(crate) struct SideBlocks<'t> {
 
 impl<'t> Model for SideBlocks<'t> {
     ghost use Rattle.std.specs.Prelude.{List, None, filter};
-    ghost use Rattle.iv_cover.specs.Inside.RemainingBlocks.{coming};
-    ghost use Rattle.iv_cover.specs.TrackBlocks.{Group};
+    ghost use Rattle.iv_cover.specs.Inside.RemainingBlocks.{remaining_blocks};
+    ghost use Rattle.iv_cover.specs.TrackBlocks.{BlockWithMembers};
     ghost use Rattle.iv_blocks.specs.Inside.Groups.{is_on};
 
-    ghost Value = { List Group };
+    ghost Value = { List BlockWithMembers };
 
-    ghost view = { λ b. coming b.distance None (filter (is_on b.side) b.rest) };
+    ghost view = { λ b. remaining_blocks b.distance None (filter (is_on b.side) b.rest) };
 }
 
 impl<'t> SideBlocks<'t> {
     /// The blocks of those of the records that are on the side.
     pub(crate) fn of(records: &TextRecords<'t>, side: Side, distance: u32) -> Self
-        ensures { result ≡ coming distance None (filter (is_on side) records.now) }
+        ensures { result ≡ remaining_blocks distance None (filter (is_on side) records.now) }
     {
         SideBlocks {
             rest: records.again(),
@@ -125,7 +125,7 @@ fn block_from(
     requires few { length others + 1 < 2 ^ 64 }
     requires on { is_on side first.now ≡ true }
     ensures within { result.1 ≤ length others.entry + 1 }
-    ensures next { coming distance None (filter (is_on side) (first.now ∷ others.entry)) ≡ with_members result.0 (filter (is_on side) (take result.1 (first.now ∷ others.entry))) ∷ coming distance None (filter (is_on side) (drop result.1 (first.now ∷ others.entry))) }
+    ensures next { remaining_blocks distance None (filter (is_on side) (first.now ∷ others.entry)) ≡ with_members result.0 (filter (is_on side) (take result.1 (first.now ∷ others.entry))) ∷ remaining_blocks distance None (filter (is_on side) (drop result.1 (first.now ∷ others.entry))) }
 {
     first.lemma_of_interval();
     let mut block = Block::of(first);

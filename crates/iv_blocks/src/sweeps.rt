@@ -6,8 +6,8 @@ ghost use Rattle.iv_bytes.specs.Sinks.{Puts};
 ghost use Rattle.iv_text.specs.Genome.{Sequences};
 ghost use Rattle.iv_text.specs.Ordered.{AreInOrder};
 ghost use Rattle.iv_text.specs.Read.{IsOnGenome};
-ghost use Rattle.iv_index.specs.Inside.Spans.{record_of_span, span_records};
-ghost use Rattle.iv_cover.specs.Inside.RemainingBlocks.{coming};
+ghost use Rattle.iv_locators.specs.Inside.Spans.{record_of_span, span_records};
+ghost use Rattle.iv_cover.specs.Inside.RemainingBlocks.{remaining_blocks};
 ghost use Rattle.iv_cover.specs.TrackBlocks.{GivesFirst, blocks_of};
 ghost use Rattle.iv_blocks.specs.Inside.BlockSweeps.{interval_of, interval_row, next_start, numbered_row};
 ghost use Rattle.iv_blocks.specs.Inside.Texts.{cluster_text, complement_text, merge_text};
@@ -19,7 +19,7 @@ use crate::complement::put_gaps;
 use crate::side_blocks::{SideBlocks, SideRecords};
 use iv_bytes::{Sink, WriteFault};
 use iv_cover::Block;
-use iv_index::{Span, TextRecords};
+use iv_locators::{Span, TextRecords};
 use iv_text::{Genome, put_interval, put_numbered};
 use std::alloc::Allocator;
 use std::marker::Model;
@@ -125,14 +125,14 @@ pub(crate) struct SpanBlocks<'s> {
 
 impl<'s> Model for SpanBlocks<'s> {
     ghost use Rattle.std.specs.Prelude.{List, None, map};
-    ghost use Rattle.iv_cover.specs.Inside.RemainingBlocks.{coming};
+    ghost use Rattle.iv_cover.specs.Inside.RemainingBlocks.{remaining_blocks};
     ghost use Rattle.iv_cover.specs.declared.block.Block.{Block};
-    ghost use Rattle.iv_index.specs.Inside.Spans.{span_records};
+    ghost use Rattle.iv_locators.specs.Inside.Spans.{span_records};
     ghost use Rattle.iv_blocks.specs.Inside.BlockSweeps.{interval_of};
 
     ghost Value = { List Block };
 
-    ghost view = { λ b. map interval_of (coming b.distance None (span_records b.rest.now)) };
+    ghost view = { λ b. map interval_of (remaining_blocks b.distance None (span_records b.rest.now)) };
 }
 
 impl<'s> SpanBlocks<'s> {
@@ -204,7 +204,7 @@ fn block_of(span: Span) -> Block
 
 /// The block that an interval begins, with those of the others that join it, and the intervals after it.
 fn block_from(first: Span, others: &[Span], distance: u32) -> (Block, &[Span])
-    ensures { GivesFirst (coming distance None (record_of_span first ∷ span_records others.now)) (Some result.0) (coming distance None (span_records result.1.now)) }
+    ensures { GivesFirst (remaining_blocks distance None (record_of_span first ∷ span_records others.now)) (Some result.0) (remaining_blocks distance None (span_records result.1.now)) }
 {
     let mut block = block_of(first);
     let mut rest = others;

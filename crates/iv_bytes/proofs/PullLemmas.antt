@@ -19,20 +19,20 @@ copied_piece bytes into copied at n fits long is =
     rw (front, same, ← drop-drop n at bytes) (sym (take-append-drop n (drop at bytes)))
 
 pub Reads-nothing : (held : List ℕ) (state : SourceState) → Reads held held state state []
-Reads-nothing held state = record { pulled = []; from = Consumes-nil state.coming; all = append-nil held }
+Reads-nothing held state = record { pulled = []; from = Consumes-nil state.remaining; all = append-nil held }
 
 pub Reads-append : (h1 h2 h3 : List ℕ) (s1 s2 s3 : SourceState) (a b : List ℕ)
     → Reads h1 h2 s1 s2 a → Reads h2 h3 s2 s3 b → Reads h1 h3 s1 s3 (a ++ b)
 Reads-append h1 h2 h3 s1 s2 s3 a b first second = record {
   pulled = first.pulled ++ second.pulled;
-  from = Consumes-trans s1.coming s2.coming s3.coming first.pulled second.pulled first.from second.from;
+  from = Consumes-trans s1.remaining s2.remaining s3.remaining first.pulled second.pulled first.from second.from;
   all = sym (append_assoc h1 first.pulled second.pulled) ∙ ap (λ (l : List ℕ). l ++ second.pulled) first.all
       ∙ append_assoc a h2 second.pulled ∙ ap (λ (l : List ℕ). a ++ l) second.all ∙ sym (append_assoc a b h3);
 }
 
 -- the first n bytes that are held are given on
 pub Reads-skip : (held : List ℕ) (state : SourceState) (n : ℕ) → Reads held (drop n held) state state (take n held)
-Reads-skip held state n = record { pulled = []; from = Consumes-nil state.coming; all = append-nil held ∙ sym (take-append-drop n held) }
+Reads-skip held state n = record { pulled = []; from = Consumes-nil state.remaining; all = append-nil held ∙ sym (take-append-drop n held) }
 
 -- nothing was held, and these bytes came
 pub Reads-pull : (old new : SourceState) (bytes : List ℕ) → Gives old new bytes → Reads [] bytes old new []

@@ -74,7 +74,7 @@ impl ByteQueue {
     /// its end. After a fault nothing is held.
     pub fn fill<S: Source>(&mut self, source: &mut S) -> Result<bool, ReadFault>
         ensures some { IfOk result (λ some. IsTrue some ↔ 0 < length self.new) }
-        ensures end { IfOk result (λ some. some ≡ false → IsAtEnd (S.state source.new).coming) }
+        ensures end { IfOk result (λ some. some ≡ false → IsAtEnd (S.state source.new).remaining) }
         ensures reads { Reads self.old self.new (S.state source.old) (S.state source.new) [] }
         ensures ok { IfOk result (λ some. answers (S.state source.new) ≡ answers (if some then S.state source.old else answered 0 (S.state source.old))) }
         ensures err { OnErr result (answers (S.state source.new) ≡ answers (record (S.state source.old) { failed = true })) }

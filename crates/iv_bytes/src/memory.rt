@@ -116,7 +116,7 @@ impl Source for MemSource<'_> {
         requires { 0 < length into.old }
         ensures some { IfOk result (λ n. n ≤ length into.new) }
         ensures ok { IfOk result (λ n. Gives (answered n (from_memory self.old.bytes.now self.old.at self.old.failed self.old.ends)) (from_memory self.new.bytes.now self.new.at self.new.failed self.new.ends) (take n into.new)) }
-        ensures end { IfOk result (λ n. n ≡ 0 → IsAtEnd (from_memory self.new.bytes.now self.new.at self.new.failed self.new.ends).coming) }
+        ensures end { IfOk result (λ n. n ≡ 0 → IsAtEnd (from_memory self.new.bytes.now self.new.at self.new.failed self.new.ends).remaining) }
         ensures kept { OnErr result (Gives (from_memory self.old.bytes.now self.old.at true self.old.ends) (from_memory self.new.bytes.now self.new.at self.new.failed self.new.ends) []) }
         ensures failing { IsTrue self.old.failed → IsErr result }
         ensures spent { IsErr result ↔ (IsTrue self.old.failed ⊎ (self.old.at ≡ self.old.good)) }

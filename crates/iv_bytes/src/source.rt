@@ -20,7 +20,7 @@ pub trait Source {
         requires { 0 < length into.old }
         ensures some { IfOk result (λ n. n ≤ length into.new) }
         ensures ok { IfOk result (λ n. Gives (answered n (state self.old)) (state self.new) (take n into.new)) }
-        ensures end { IfOk result (λ n. n ≡ 0 → IsAtEnd (state self.new).coming) }
+        ensures end { IfOk result (λ n. n ≡ 0 → IsAtEnd (state self.new).remaining) }
         ensures kept { OnErr result (Gives (record (state self.old) { failed = true }) (state self.new) []) }
         ensures failing { IsTrue (state self.old).failed → IsErr result };
 

@@ -81,7 +81,7 @@ impl<R: Read> StdSource<R> {
 }
 
 impl<R: Read> Source for StdSource<R> {
-    ghost state = { λ s. record { coming = R.remaining s.reader; failed = s.failed; ends = s.ends } };
+    ghost state = { λ s. record { remaining = R.remaining s.reader; failed = s.failed; ends = s.ends } };
 
     fn pull(&mut self, into: &mut [u8]) -> Result<usize, ReadFault> {
         if self.failed {

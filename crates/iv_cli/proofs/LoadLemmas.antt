@@ -17,12 +17,12 @@ use Rattle.iv_run.specs.RunFiles.{AreProjected, ReportsProjected, projected_file
 use Rattle.iv_cli.specs.Loading.{loaded}
 
 -- what is held of whole records is the records
-same-all : (rows : List RecordValue) → map (λ (r : RecordValue). r) rows ≡ rows
+same-all : (records : List RecordValue) → map (λ (r : RecordValue). r) records ≡ records
 same-all [] = refl
-same-all (r ∷ rows) = ap (λ (l : List RecordValue). r ∷ l) (same-all rows)
+same-all (r ∷ records) = ap (λ (l : List RecordValue). r ∷ l) (same-all records)
 
 same-bed : (b : Bed) → projected_bed (λ r. r) b ≡ b
-same-bed b = ap (λ (l : List RecordValue). record { width = b.width; rows = l }) (same-all b.rows)
+same-bed b = ap (λ (l : List RecordValue). record { width = b.width; records = l }) (same-all b.records)
 
 same-beside : (o : Option Bed) → option_map (projected_bed (λ r. r)) o ≡ o
 same-beside None = refl
@@ -32,11 +32,11 @@ same-files : (files : Parsed) → projected_files (λ r. r) files ≡ files
 same-files files = λ i. record files { first = same-bed files.first i; second = same-beside files.second i }
 
 -- records that fit a genome
-pub fits-beside : (g : Sequences) (limit : ℕ) (o : Option Bed) → IfSome o (AreProjected (λ r. r) g limit) → IfSome o (λ file. All (Fits g file.width) file.rows)
+pub fits-beside : (g : Sequences) (limit : ℕ) (o : Option Bed) → IfSome o (AreProjected (λ r. r) g limit) → IfSome o (λ file. All (Fits g file.width) file.records)
 fits-beside g limit None kept = tt
-fits-beside g limit (Some file) kept = fit-all g file.width file.rows kept.kept_all
+fits-beside g limit (Some file) kept = fit-all g file.width file.records kept.kept_all
 
-pub few-beside : (g : Sequences) (limit : ℕ) (o : Option Bed) → IfSome o (AreProjected (λ r. r) g limit) → IfSome o (λ file. length file.rows ≤ limit)
+pub few-beside : (g : Sequences) (limit : ℕ) (o : Option Bed) → IfSome o (AreProjected (λ r. r) g limit) → IfSome o (λ file. length file.records ≤ limit)
 few-beside g limit None kept = tt
 few-beside g limit (Some file) kept = kept.few
 

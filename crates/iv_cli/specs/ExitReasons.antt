@@ -12,13 +12,13 @@ use Rattle.iv_session.specs.declared.script.RunCause.{RunCause}
 use Rattle.iv_session.specs.declared.script.RunCause.TheVariants as cause
 use Rattle.iv_cli.specs.declared.exit_reason.ExitReason.{ExitReason}
 use Rattle.iv_cli.specs.declared.exit_reason.ExitReason.TheVariants as exit_reason
-use Rattle.iv_run.specs.Loading.{fault_of_words}
+use Rattle.iv_run.specs.Loading.{fault_of_arguments}
 use Rattle.iv_run.specs.declared.fault.CliFault.{CliFault}
 use Rattle.iv_run.specs.declared.fault.CliFault.TheVariants as fault
 use Rattle.iv_run.specs.declared.fault.FileFault.{FileFault}
 use Rattle.iv_run.specs.declared.fault.FileFault.TheVariants as file
 use Rattle.iv_args.specs.declared.plan.Slot.{Slot}
-use Rattle.iv_args.specs.Words.{RunPlan, file_of}
+use Rattle.iv_args.specs.Arguments.{RunPlan, file_of}
 
 -- how an ending is reported: its exit status, the file that it speaks of, and what is said of it
 pub record Report : Type 0 where
@@ -44,7 +44,7 @@ report_of exit_reason.Memory = record { status = 5; slot = None; text = codes "n
 abbrev pub status_of : ExitReason → ℕ
 status_of ended = (report_of ended).status
 
--- the ending if the system does not give the words, by the kind of its error
+-- the ending if the system does not give the arguments, by the kind of its error
 abbrev pub ending_of_kind : ErrorKind → ExitReason
 ending_of_kind OutOfMemory = exit_reason.Memory
 ending_of_kind kind = exit_reason.Words refused.Words
@@ -56,9 +56,9 @@ ending_of (fault.Damaged slot damage) = exit_reason.Damaged slot damage
 ending_of fault.Output = exit_reason.Output
 ending_of fault.Memory = exit_reason.Memory
 
--- the ending of words that are no plan
-abbrev pub ending_of_words : Fault → ExitReason
-ending_of_words why = ending_of (fault_of_words why)
+-- the ending of arguments that are no plan
+abbrev pub ending_of_arguments : Fault → ExitReason
+ending_of_arguments why = ending_of (fault_of_arguments why)
 
 -- the ending of a run whose file was not read
 abbrev pub ending_of_file : Slot → FileFault → ExitReason

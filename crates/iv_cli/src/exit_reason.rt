@@ -67,9 +67,9 @@ impl From<io::Error> for ExitReason {
 /// The ending if the arguments are no plan, or an allocation failed.
 impl From<Fault> for ExitReason {
     ghost use Rattle.std.specs.Prelude.{◌≡◌};
-    ghost use Rattle.iv_cli.specs.ExitReasons.{ending_of_words};
+    ghost use Rattle.iv_cli.specs.ExitReasons.{ending_of_arguments};
 
-    ghost from_gives = { λ fault exit_reason. exit_reason ≡ ending_of_words fault };
+    ghost from_gives = { λ fault exit_reason. exit_reason ≡ ending_of_arguments fault };
 
     fn from(fault: Fault) -> ExitReason {
         ExitReason::from(CliFault::from(fault))

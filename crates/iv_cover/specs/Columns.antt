@@ -24,4 +24,4 @@ column_value sequence Strand r = strand_text r.strand
 
 -- all results over records on a sequence of this name, each with a TAB in front of it
 abbrev pub results_over : List ℕ → List ColumnSummary → List RecordValue → List ℕ
-results_over sequence summaries rows = flat_map (λ s. codes "\t" ++ summary_of s.op (map (column_value sequence s.column) rows)) summaries
+results_over sequence summaries records = flat_map (λ s. codes "\t" ++ summary_of s.op (map (column_value sequence s.column) records)) summaries

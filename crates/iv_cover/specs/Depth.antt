@@ -4,4 +4,4 @@ use Rattle.iv_text.specs.RecordValue.{RecordValue}
 
 -- how many records cover position p of the sequence of this rank, copies counted
 abbrev pub depth : List RecordValue → ℕ → ℕ → ℕ
-depth rows sequence p = count_by (λ r. (r.seq == sequence) && (nat_le r.start p && nat_lt p r.stop)) rows
+depth records sequence p = count_by (λ r. (r.seq == sequence) && (nat_le r.start p && nat_lt p r.stop)) records

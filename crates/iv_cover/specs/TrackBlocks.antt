@@ -8,7 +8,7 @@ use Rattle.iv_cover.specs.declared.block.Block.{Block}
 use Rattle.iv_cover.specs.Blocks.{blocks_below}
 
 -- a block on the sequence of this rank, from its start to its stop, with the records that are in it, in the order of the track
-pub record Group : Type 0 where
+pub record BlockWithMembers : Type 0 where
   pub sequence : ℕ
   pub start : ℕ
   pub stop : ℕ
@@ -23,23 +23,23 @@ abbrev pub stop_of : RecordValue → ℕ
 stop_of r = r.stop
 
 -- a block that starts at b.0, stops at b.1.0 and has the records b.1.1, on the sequence of this rank
-abbrev pub block_on : ℕ → ℕ × (ℕ × List RecordValue) → Group
+abbrev pub block_on : ℕ → ℕ × (ℕ × List RecordValue) → BlockWithMembers
 block_on sequence b = record { sequence = sequence; start = b.0; stop = b.1.0; members = b.1.1 }
 
 -- the blocks on the sequence of this rank, by start
-abbrev pub blocks_on : ℕ → Sequences → List RecordValue → ℕ → List Group
-blocks_on d g rows sequence =
-    map (block_on sequence) (blocks_below start_of stop_of d (on sequence rows) (sequence_length g sequence))
+abbrev pub blocks_on : ℕ → Sequences → List RecordValue → ℕ → List BlockWithMembers
+blocks_on d g records sequence =
+    map (block_on sequence) (blocks_below start_of stop_of d (on sequence records) (sequence_length g sequence))
 
 -- all blocks: those of each sequence, by rank
-abbrev pub blocks_of : ℕ → Sequences → List RecordValue → List Group
-blocks_of d g rows = flat_map (blocks_on d g rows) (range_with_len 0 (seq_count g))
+abbrev pub blocks_of : ℕ → Sequences → List RecordValue → List BlockWithMembers
+blocks_of d g records = flat_map (blocks_on d g records) (range_with_len 0 (seq_count g))
 
 -- a block as a call gives it, with these members
-abbrev pub with_members : Block → List RecordValue → Group
+abbrev pub with_members : Block → List RecordValue → BlockWithMembers
 with_members b members = record { sequence = b.sequence; start = b.start; stop = b.stop; members = members }
 
 -- a call gave the first of the blocks, without its members, and left the others; or there was none, and it gave none
-abbrev pub GivesFirst : List Group → Option Block → List Group → Type 0
+abbrev pub GivesFirst : List BlockWithMembers → Option Block → List BlockWithMembers → Type 0
 GivesFirst old None new = (old ≡ []) × (new ≡ [])
 GivesFirst old (Some b) new = (members : List RecordValue) × (old ≡ with_members b members ∷ new)

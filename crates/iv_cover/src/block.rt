@@ -21,14 +21,14 @@ pub struct Block {
 
 impl Block {
     /// A block of one record. That its interval has 32 bits is what `lemma_of_interval` of each kind of record shows.
-    pub fn of<R: BedRecord>(row: &R) -> Block
-        requires { IsPlaced (R.as_record row.now) }
-        ensures { result ≡ record { sequence = (R.as_record row.now).seq; start = (R.as_record row.now).start; stop = (R.as_record row.now).stop } }
+    pub fn of<R: BedRecord>(feature: &R) -> Block
+        requires { IsPlaced (R.as_record feature.now) }
+        ensures { result ≡ record { sequence = (R.as_record feature.now).seq; start = (R.as_record feature.now).start; stop = (R.as_record feature.now).stop } }
     {
         Block {
-            sequence: row.seq(),
-            start: row.start() as u32,
-            stop: row.stop() as u32,
+            sequence: feature.seq(),
+            start: feature.start() as u32,
+            stop: feature.stop() as u32,
         }
     }
 
@@ -59,7 +59,7 @@ impl Block {
 /// each with the records that are in it.
 #[derive(Drop)]
 pub struct BlockWalk<'a, A: Allocator + Copy = Global> {
-    rows: TrackRecords<'a, A>,
+    records: TrackRecords<'a, A>,
     // The record that closed the block before.
     ahead: Option<&'a Record<A>>,
     distance: u32,
@@ -67,24 +67,24 @@ pub struct BlockWalk<'a, A: Allocator + Copy = Global> {
 
 impl<'a, A: Allocator + Copy> Model for BlockWalk<'a, A> {
     ghost use Rattle.std.specs.Prelude.{List, None};
-    ghost use Rattle.iv_cover.specs.Inside.RemainingBlocks.{coming, left};
-    ghost use Rattle.iv_cover.specs.TrackBlocks.{Group};
+    ghost use Rattle.iv_cover.specs.Inside.RemainingBlocks.{remaining_blocks, left};
+    ghost use Rattle.iv_cover.specs.TrackBlocks.{BlockWithMembers};
 
-    ghost Value = { List Group };
+    ghost Value = { List BlockWithMembers };
 
-    ghost view = { λ b. coming b.distance None (left b.ahead b.rows) };
+    ghost view = { λ b. remaining_blocks b.distance None (left b.ahead b.records) };
 }
 
 impl<'a, A: Allocator + Copy> BlockWalk<'a, A> {
     /// The blocks of the records that a walk has left, which are in the order of a track.
     ///
     /// They are the blocks of the definition for every genome that the records are on.
-    pub fn of(rows: TrackRecords<'a, A>, distance: u32) -> Self
-        requires { AreInOrder rows }
-        ensures { (g : Sequences) → All (IsOnGenome g) rows.entry → result ≡ blocks_of distance g rows.entry }
+    pub fn of(records: TrackRecords<'a, A>, distance: u32) -> Self
+        requires { AreInOrder records }
+        ensures { (g : Sequences) → All (IsOnGenome g) records.entry → result ≡ blocks_of distance g records.entry }
     {
         BlockWalk {
-            rows,
+            records,
             ahead: None,
             distance,
         }
@@ -96,11 +96,11 @@ impl<'a, A: Allocator + Copy> BlockWalk<'a, A> {
     {
         let first = match self.ahead.take() {
             Some(record) => record,
-            None => self.rows.next(meter)?,
+            None => self.records.next(meter)?,
         };
         first.lemma_of_interval();
         let mut block = Block::of(first);
-        while let Some(record) = self.rows.next(meter) {
+        while let Some(record) = self.records.next(meter) {
             record.lemma_of_interval();
             let next = Block::of(record);
             if !block.is_joined_by(next, self.distance) {

@@ -33,8 +33,8 @@ pub trait Kept<A: Allocator + Copy> {
         genome: &Genome<A>,
         meter: &mut Meter,
     ) -> Result<Self, AllocError>
-        requires fit { All (Fits genome.now track.now.width) track.now.rows }
-        ensures right { IfOk result (λ s. is_right s (names_of genome.now) track.now.rows) }
+        requires fit { All (Fits genome.now track.now.width) track.now.records }
+        ensures right { IfOk result (λ s. is_right s (names_of genome.now) track.now.records) }
         ensures built_for { IfOk result (λ s. built_for s ≡ settings) };
 
     /// Repairs the state after the record was added to the track. After a refusal it must be rebuilt.
@@ -42,28 +42,28 @@ pub trait Kept<A: Allocator + Copy> {
         &mut self,
         track: &Track<A>,
         genome: &Genome<A>,
-        row: &RecordRef<'_>,
+        feature: &RecordRef<'_>,
         meter: &mut Meter,
     ) -> Result<(), AllocError>
-        requires right { IsRightWithout (λ s rows. is_right s (names_of genome.now) rows) self.old track.now.rows row.now }
-        requires fit { All (Fits genome.now track.now.width) track.now.rows }
-        requires fits { Fits genome.now track.now.width row.now }
-        ensures right { OnOk result (is_right self.new (names_of genome.now) track.now.rows) }
+        requires right { IsRightWithout (λ s records. is_right s (names_of genome.now) records) self.old track.now.records feature.now }
+        requires fit { All (Fits genome.now track.now.width) track.now.records }
+        requires fits { Fits genome.now track.now.width feature.now }
+        ensures right { OnOk result (is_right self.new (names_of genome.now) track.now.records) }
         ensures built_for { OnOk result (built_for self.new ≡ built_for self.old) }
-        ensures steps { TakesUpTo meter.old meter.new (repair_steps (built_for self.old) track.now.rows row.now) };
+        ensures steps { TakesUpTo meter.old meter.new (repair_steps (built_for self.old) track.now.records feature.now) };
 
     /// Repairs the state after one copy of the record was taken out of the track. After a refusal it must be rebuilt.
     fn removed(
         &mut self,
         track: &Track<A>,
         genome: &Genome<A>,
-        row: &RecordRef<'_>,
+        feature: &RecordRef<'_>,
         meter: &mut Meter,
     ) -> Result<(), AllocError>
-        requires right { is_right self.old (names_of genome.now) (with_one track.now.rows row.now) }
-        requires fit { All (Fits genome.now track.now.width) track.now.rows }
-        requires fits { Fits genome.now track.now.width row.now }
-        ensures right { OnOk result (is_right self.new (names_of genome.now) track.now.rows) }
+        requires right { is_right self.old (names_of genome.now) (with_one track.now.records feature.now) }
+        requires fit { All (Fits genome.now track.now.width) track.now.records }
+        requires fits { Fits genome.now track.now.width feature.now }
+        ensures right { OnOk result (is_right self.new (names_of genome.now) track.now.records) }
         ensures built_for { OnOk result (built_for self.new ≡ built_for self.old) }
-        ensures steps { TakesUpTo meter.old meter.new (repair_steps (built_for self.old) (with_one track.now.rows row.now) row.now) };
+        ensures steps { TakesUpTo meter.old meter.new (repair_steps (built_for self.old) (with_one track.now.records feature.now) feature.now) };
 }

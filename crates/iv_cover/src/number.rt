@@ -53,15 +53,19 @@ impl ParsedNumber {
     }
 
     /// What the value of a record's column spells, if its sequence has this name. For a position no text is made.
-    pub fn of_column<'a>(column: Column, sequence: &'a [u8], row: &RecordRef<'a>) -> ParsedNumber
-        ensures value { result ≡ spelled (column_value sequence.now column row.now) }
+    pub fn of_column<'a>(
+        column: Column,
+        sequence: &'a [u8],
+        feature: &RecordRef<'a>,
+    ) -> ParsedNumber
+        ensures value { result ≡ spelled (column_value sequence.now column feature.now) }
         ensures short { IsShort result }
     {
-        row.lemma_of_interval();
+        feature.lemma_of_interval();
         match column {
-            Column::Start => ParsedNumber::of_position(row.start()),
-            Column::Stop => ParsedNumber::of_position(row.stop()),
-            _ => ParsedNumber::of(Value::of(column, sequence, row).as_slice()),
+            Column::Start => ParsedNumber::of_position(feature.start()),
+            Column::Stop => ParsedNumber::of_position(feature.stop()),
+            _ => ParsedNumber::of(Value::of(column, sequence, feature).as_slice()),
         }
     }
 

@@ -36,11 +36,11 @@ pub fn results<A: Allocator + Copy>(
     alloc: A,
     summaries: &[ColumnSummary],
     sequence: &[u8],
-    rows: &[&Record<A>],
+    records: &[&Record<A>],
 ) -> Result<Vec<u8, A>, AllocError>
-    ensures { IfOk result (λ text. text.items ≡ results_over sequence.now summaries.now (map (λ row. row.now) rows.now)) }
+    ensures { IfOk result (λ text. text.items ≡ results_over sequence.now summaries.now (map (λ feature. feature.now) records.now)) }
 {
-    results_in(alloc, summaries, sequence, rows, Vec::new(alloc))
+    results_in(alloc, summaries, sequence, records, Vec::new(alloc))
 }
 
 /// All results over records on a sequence of this name, each with a TAB in front of it, in the memory of a text that is no longer
@@ -49,21 +49,21 @@ pub fn results_in<A: Allocator + Copy>(
     alloc: A,
     summaries: &[ColumnSummary],
     sequence: &[u8],
-    rows: &[&Record<A>],
+    records: &[&Record<A>],
     memory: Vec<u8, A>,
 ) -> Result<Vec<u8, A>, AllocError>
-    ensures { IfOk result (λ text. text.items ≡ results_over sequence.now summaries.now (map (λ row. row.now) rows.now)) }
+    ensures { IfOk result (λ text. text.items ≡ results_over sequence.now summaries.now (map (λ feature. feature.now) records.now)) }
 {
     let mut room = Vec::with_capacity(
         alloc,
         if asks_distinct(summaries) {
-            rows.len()
+            records.len()
         } else {
             0
         },
     )?;
     let mut text = GrowingText::over(memory);
-    let _ = put_results(summaries, sequence, &rows, &mut room, &mut text);
+    let _ = put_results(summaries, sequence, &records, &mut room, &mut text);
     text.finish()
 }
 

@@ -32,16 +32,16 @@ impl<'a> Model for Value<'a> {
 
 impl<'a> Value<'a> {
     /// The value of a record's column, if its sequence has this name.
-    pub fn of(column: Column, sequence: &'a [u8], row: &RecordRef<'a>) -> Value<'a>
-        ensures { result ≡ column_value sequence.now column row.now }
+    pub fn of(column: Column, sequence: &'a [u8], feature: &RecordRef<'a>) -> Value<'a>
+        ensures { result ≡ column_value sequence.now column feature.now }
     {
         let kind = match column {
             Column::Sequence => Kind::Text(sequence),
-            Column::Start => Kind::Position(Digits::of(row.start())),
-            Column::Stop => Kind::Position(Digits::of(row.stop())),
-            Column::Name => Kind::Text(row.name()),
-            Column::Score => Kind::Text(row.score()),
-            Column::Strand => Kind::Text(strand_bytes(row.strand())),
+            Column::Start => Kind::Position(Digits::of(feature.start())),
+            Column::Stop => Kind::Position(Digits::of(feature.stop())),
+            Column::Name => Kind::Text(feature.name()),
+            Column::Score => Kind::Text(feature.score()),
+            Column::Strand => Kind::Text(strand_bytes(feature.strand())),
         };
         Value { kind }
     }

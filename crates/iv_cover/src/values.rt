@@ -44,9 +44,9 @@ pub trait Values<'t>: Drop {
 }
 
 impl<'t, A: Allocator> Values<'t> for &'t [&'t Record<A>] {
-    ghost size = { λ rows. length rows.now };
+    ghost size = { λ records. length records.now };
 
-    ghost left = { λ name column rows. map (column_value name column) (map (λ row. row.now) rows.now) };
+    ghost left = { λ name column records. map (column_value name column) (map (λ feature. feature.now) records.now) };
 
     fn again(&self) -> Self {
         *self
@@ -57,16 +57,16 @@ impl<'t, A: Allocator> Values<'t> for &'t [&'t Record<A>] {
     }
 
     fn next_value(&mut self, name: &'t [u8], column: Column) -> Option<Value<'t>> {
-        let rows = *self;
-        let first = rows.first()?;
-        *self = &rows[1..];
+        let records = *self;
+        let first = records.first()?;
+        *self = &records[1..];
         Some(Value::of(column, name, &first.as_ref()))
     }
 
     fn next_number(&mut self, name: &'t [u8], column: Column) -> Option<ParsedNumber> {
-        let rows = *self;
-        let first = rows.first()?;
-        *self = &rows[1..];
+        let records = *self;
+        let first = records.first()?;
+        *self = &records[1..];
         Some(ParsedNumber::of_column(column, name, &first.as_ref()))
     }
 

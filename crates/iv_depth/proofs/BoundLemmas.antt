@@ -51,16 +51,16 @@ total-found k (e ∷ entries) z sorted found = go (λ there. total-found k entri
     go further false is = let rest = further (rw is at found) in rw is (omega (arith, ints, rest))
 
 -- a key elsewhere is reached by the next position if it is by this one
-reaches-elsewhere : (s p : ℕ) (place : ChangeKey) → is_at (pair_cmp (s, p + 1)) place ≡ false → reaches s (p + 1) place ≡ reaches s p place
-reaches-elsewhere s p place is = go (eqb_tells place.0 s)
+reaches-elsewhere : (s p : ℕ) (key : ChangeKey) → is_at (pair_cmp (s, p + 1)) key ≡ false → reaches s (p + 1) key ≡ reaches s p key
+reaches-elsewhere s p key is = go (eqb_tells key.0 s)
   where
-    go : ((eqb place.0 s ≡ true) × (place.0 ≡ s)) ⊎ ((eqb place.0 s ≡ false) × (place.0 ≢ s)) → reaches s (p + 1) place ≡ reaches s p place
+    go : ((eqb key.0 s ≡ true) × (key.0 ≡ s)) ⊎ ((eqb key.0 s ≡ false) × (key.0 ≢ s)) → reaches s (p + 1) key ≡ reaches s p key
     go (inr off) = rw off.0 refl
     go (inl on) =
-        let other : place.1 ≢ p + 1 = λ e. false≢true (sym (rw (on.1, e) at is) ∙ place-tied (s, p + 1)) in
-        rw on.0 (elim (cases_lt p place.1) [
-          | inl far ↦ rw (lt-leb place.1 (p + 1) (omega (arith, far, other)), lt-leb place.1 p far) refl
-          | inr near ↦ rw (le-leb place.1 (p + 1) (omega (arith, near)), le-leb place.1 p near) refl
+        let other : key.1 ≢ p + 1 = λ e. false≢true (sym (rw (on.1, e) at is) ∙ place-tied (s, p + 1)) in
+        rw on.0 (elim (cases_lt p key.1) [
+          | inl far ↦ rw (lt-leb key.1 (p + 1) (omega (arith, far, other)), lt-leb key.1 p far) refl
+          | inr near ↦ rw (le-leb key.1 (p + 1) (omega (arith, near)), le-leb key.1 p near) refl
         ])
 
 -- up to the next position come the changes at it
@@ -103,10 +103,10 @@ total-start s (e ∷ entries) = go (total-start s entries) (is_at (pair_cmp (s, 
             rw (on.0, lt-leb e.0.1 0 (omega (arith, other))) refl
 
 -- a change is the difference of two sums
-pub change-bounded : (entries : Entries) (n : ℕ) (place : ChangeKey) (z : ℤ) → IsStrictlySortedBy pair_cmp (keys_of entries)
+pub change-bounded : (entries : Entries) (n : ℕ) (key : ChangeKey) (z : ℤ) → IsStrictlySortedBy pair_cmp (keys_of entries)
     → ((s p : ℕ) → (negsuc n ≤ℤ total (reaches s p) entries) × (total (reaches s p) entries ≤ℤ pos n))
-    → lookup (is_at (pair_cmp place)) entries ≡ Some z → (negsuc (2 * n + 1) ≤ℤ z) × (z ≤ℤ pos (2 * n + 1))
-change-bounded entries n place z sorted within found = go place.0 place.1 found
+    → lookup (is_at (pair_cmp key)) entries ≡ Some z → (negsuc (2 * n + 1) ≤ℤ z) × (z ≤ℤ pos (2 * n + 1))
+change-bounded entries n key z sorted within found = go key.0 key.1 found
   where
     go : (s p : ℕ) → lookup (is_at (pair_cmp (s, p))) entries ≡ Some z → (negsuc (2 * n + 1) ≤ℤ z) × (z ≤ℤ pos (2 * n + 1))
     go s zero found =
@@ -124,19 +124,19 @@ AreChangesOf-within records entries h s p =
     let is : total (reaches s p) entries ≡ pos (depth records s p) = h.depths s p in
     (omega (arith, ints, is), omega (arith, ints, is))
 
-pub Bumps-within : (n : ℕ) (old new : Entries) (place : ChangeKey) (by : ℤ) → Bumps old new place by → negsuc 0 ≤ℤ by → by ≤ℤ pos 1
+pub Bumps-within : (n : ℕ) (old new : Entries) (key : ChangeKey) (by : ℤ) → Bumps old new key by → negsuc 0 ≤ℤ by → by ≤ℤ pos 1
     → ((s p : ℕ) → (negsuc n ≤ℤ total (reaches s p) old) × (total (reaches s p) old ≤ℤ pos n))
     → (s p : ℕ) → (negsuc (n + 1) ≤ℤ total (reaches s p) new) × (total (reaches s p) new ≤ℤ pos (n + 1))
-Bumps-within n old new place by h low high within s p = go (reaches s p place) (h.sums (reaches s p))
+Bumps-within n old new key by h low high within s p = go (reaches s p key) (h.sums (reaches s p))
   where
     go : (b : Bool) → total (reaches s p) new ≡ total (reaches s p) old +ℤ (if b then by else pos 0)
         → (negsuc (n + 1) ≤ℤ total (reaches s p) new) × (total (reaches s p) new ≤ℤ pos (n + 1))
     go true e = (omega (arith, ints, e, within s p), omega (arith, ints, e, within s p))
     go false e = (omega (arith, ints, e, within s p), omega (arith, ints, e, within s p))
 
-pub change-small : (entries : Entries) (n : ℕ) (place : ChangeKey) → IsStrictlySortedBy pair_cmp (keys_of entries) → n < 2 ^ 38
+pub change-small : (entries : Entries) (n : ℕ) (key : ChangeKey) → IsStrictlySortedBy pair_cmp (keys_of entries) → n < 2 ^ 38
     → ((s p : ℕ) → (negsuc n ≤ℤ total (reaches s p) entries) × (total (reaches s p) entries ≤ℤ pos n))
-    → (z : ℤ) → lookup (is_at (pair_cmp place)) entries ≡ Some z → (negsuc (2 ^ 40) ≤ℤ z) × (z ≤ℤ pos (2 ^ 40))
-change-small entries n place sorted few within z found =
-    let b = change-bounded entries n place z sorted within found in
+    → (z : ℤ) → lookup (is_at (pair_cmp key)) entries ≡ Some z → (negsuc (2 ^ 40) ≤ℤ z) × (z ≤ℤ pos (2 ^ 40))
+change-small entries n key sorted few within z found =
+    let b = change-bounded entries n key z sorted within found in
     (omega (arith, ints, b), omega (arith, ints, b))

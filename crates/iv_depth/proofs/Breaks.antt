@@ -126,23 +126,23 @@ AreBreaks-rising from to value (b ∷ breaks) h low same = go (cases_lt to b.0)
         let before : level (b ∷ breaks) q ≡ pos 0 = level-unrisen b.0 (b ∷ breaks) q (omega arith, h.1, h.2) (omega arith) in
         absurd (h.1 (omega (arith, ints, at, none, before, same q (omega arith))))
 
-above : (rank : ℕ) (place next : ChangeKey) → place.0 ≡ rank → next.0 ≡ rank → pair_cmp place next ≡ Less → place.1 < next.1
-above rank place next p n h =
+above : (rank : ℕ) (key next : ChangeKey) → key.0 ≡ rank → next.0 ≡ rank → pair_cmp key next ≡ Less → key.1 < next.1
+above rank key next p n h =
     let tied : nat_cmp rank rank ≡ Equal = tied_itself nat_cmp_total rank in
-    let by_position : nat_cmp place.1 next.1 ≡ Less = rw (p, n, tied) at h in
-    ranked place.1 next.1 Less (sym by_position)
+    let by_position : nat_cmp key.1 next.1 ≡ Less = rw (p, n, tied) at h in
+    ranked key.1 next.1 Less (sym by_position)
 
-Rising-past : (rank : ℕ) (place : ChangeKey) (entries : Entries) → place.0 ≡ rank
-    → AllByRecursion (λ next. pair_cmp place next ≡ Less) (keys_of entries) → IsLedger pair_cmp entries
-    → All (λ z. z ≢ pos 0) (values_of entries) → Rising (place.1 + 1) (on rank entries)
+Rising-past : (rank : ℕ) (key : ChangeKey) (entries : Entries) → key.0 ≡ rank
+    → AllByRecursion (λ next. pair_cmp key next ≡ Less) (keys_of entries) → IsLedger pair_cmp entries
+    → All (λ z. z ≢ pos 0) (values_of entries) → Rising (key.1 + 1) (on rank entries)
 unfolding IsStrictlySortedBy
-Rising-past rank place [] at later sorted changes = tt
-Rising-past rank place (e ∷ entries) at later sorted changes =
+Rising-past rank key [] at later sorted changes = tt
+Rising-past rank key (e ∷ entries) at later sorted changes =
     let tail = All-tail (λ (z : ℤ). z ≢ pos 0) e.1 (values_of entries) changes in
-    let skip = Rising-past rank place entries at later.1 sorted.1 tail in
+    let skip = Rising-past rank key entries at later.1 sorted.1 tail in
     let cases = eqb_tells e.0.0 rank in
     elim cases [
-      | inl here ↦ rw here.0 (let less = above rank place e.0 at here.1 later.0 in (
+      | inl here ↦ rw here.0 (let less = above rank key e.0 at here.1 later.0 in (
         omega (arith, less),
         All-head (λ (z : ℤ). z ≢ pos 0) e.1 (values_of entries) changes,
         Rising-past rank e.0 entries here.1 sorted.0 sorted.1 tail,

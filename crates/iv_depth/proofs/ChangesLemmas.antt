@@ -136,22 +136,22 @@ All-values-remove_entry test P (e ∷ entries) all = go (All-values-remove_entry
     go rest false is = rw is (All-cons P e.1 (values_of (remove_entry test entries)) (All-head P e.1 (values_of entries) all) rest)
 
 -- a key without a change gets one
-pub Bumps-insert_entry : (entries : Entries) (place : ChangeKey) (by : ℤ) → lookup (is_at (pair_cmp place)) entries ≡ None
-    → by ≢ pos 0 → IsLedger pair_cmp (insert_entry pair_cmp entries place by) → Bumps entries (insert_entry pair_cmp entries place by) place by
-Bumps-insert_entry entries place by absent other ordered = record {
+pub Bumps-insert_entry : (entries : Entries) (key : ChangeKey) (by : ℤ) → lookup (is_at (pair_cmp key)) entries ≡ None
+    → by ≢ pos 0 → IsLedger pair_cmp (insert_entry pair_cmp entries key by) → Bumps entries (insert_entry pair_cmp entries key by) key by
+Bumps-insert_entry entries key by absent other ordered = record {
   ordered = ordered;
-  sums = λ passes. total-insert_entry passes pair_cmp entries place by absent;
-  changes = λ all. All-values-insert_entry pair_cmp place by (λ (z : ℤ). z ≢ pos 0) entries all other;
+  sums = λ passes. total-insert_entry passes pair_cmp entries key by absent;
+  changes = λ all. All-values-insert_entry pair_cmp key by (λ (z : ℤ). z ≢ pos 0) entries all other;
 }
 
 -- a change that becomes 0 is taken out
-pub Bumps-remove_entry : (entries : Entries) (place : ChangeKey) (old by : ℤ) → lookup (is_at (pair_cmp place)) entries ≡ Some old
-    → old +ℤ by ≡ pos 0 → IsLedger pair_cmp (remove_entry (is_at (pair_cmp place)) entries)
-    → Bumps entries (remove_entry (is_at (pair_cmp place)) entries) place by
-Bumps-remove_entry entries place old by found none ordered = record {
+pub Bumps-remove_entry : (entries : Entries) (key : ChangeKey) (old by : ℤ) → lookup (is_at (pair_cmp key)) entries ≡ Some old
+    → old +ℤ by ≡ pos 0 → IsLedger pair_cmp (remove_entry (is_at (pair_cmp key)) entries)
+    → Bumps entries (remove_entry (is_at (pair_cmp key)) entries) key by
+Bumps-remove_entry entries key old by found none ordered = record {
   ordered = ordered;
-  sums = λ passes. sums _ (total passes entries) (passes place) (total-remove_entry passes (is_at (pair_cmp place)) entries place old (pair_same place) found);
-  changes = All-values-remove_entry (is_at (pair_cmp place)) (λ (z : ℤ). z ≢ pos 0) entries;
+  sums = λ passes. sums _ (total passes entries) (passes key) (total-remove_entry passes (is_at (pair_cmp key)) entries key old (pair_same key) found);
+  changes = All-values-remove_entry (is_at (pair_cmp key)) (λ (z : ℤ). z ≢ pos 0) entries;
 }
   where
     sums : (a b : ℤ) (here : Bool) → a +ℤ (if here then old else pos 0) ≡ b → a ≡ b +ℤ (if here then by else pos 0)
@@ -159,13 +159,13 @@ Bumps-remove_entry entries place old by found none ordered = record {
     sums a b false e = omega (arith, ints)
 
 -- another change is set
-pub Bumps-set_value : (entries : Entries) (place : ChangeKey) (old by : ℤ) → lookup (is_at (pair_cmp place)) entries ≡ Some old
-    → old +ℤ by ≢ pos 0 → IsLedger pair_cmp (set_value (is_at (pair_cmp place)) entries (old +ℤ by))
-    → Bumps entries (set_value (is_at (pair_cmp place)) entries (old +ℤ by)) place by
-Bumps-set_value entries place old by found other ordered = record {
+pub Bumps-set_value : (entries : Entries) (key : ChangeKey) (old by : ℤ) → lookup (is_at (pair_cmp key)) entries ≡ Some old
+    → old +ℤ by ≢ pos 0 → IsLedger pair_cmp (set_value (is_at (pair_cmp key)) entries (old +ℤ by))
+    → Bumps entries (set_value (is_at (pair_cmp key)) entries (old +ℤ by)) key by
+Bumps-set_value entries key old by found other ordered = record {
   ordered = ordered;
-  sums = λ passes. sums _ (total passes entries) (passes place) (total-set_value passes (is_at (pair_cmp place)) entries place old (old +ℤ by) (pair_same place) found);
-  changes = λ all. All-values-set_value (is_at (pair_cmp place)) (λ (z : ℤ). z ≢ pos 0) entries (old +ℤ by) all other;
+  sums = λ passes. sums _ (total passes entries) (passes key) (total-set_value passes (is_at (pair_cmp key)) entries key old (old +ℤ by) (pair_same key) found);
+  changes = λ all. All-values-set_value (is_at (pair_cmp key)) (λ (z : ℤ). z ≢ pos 0) entries (old +ℤ by) all other;
 }
   where
     sums : (a b : ℤ) (here : Bool) → a +ℤ (if here then old else pos 0) ≡ b +ℤ (if here then old +ℤ by else pos 0) → a ≡ b +ℤ (if here then by else pos 0)
@@ -218,25 +218,25 @@ lookup-set test (e ∷ entries) old new found = go (λ there. lookup-set test en
     go further true is = rw (is, is) refl
     go further false is = rw (is, is) (further (rw is at found))
 
-module _ (entries between after : Entries) (place : ChangeKey) (before by : ℤ) (ordered : IsLedger pair_cmp entries)
-    (found : value_at pair_cmp entries place ≡ Some before) (put : between ≡ insert_entry pair_cmp entries place by) where
-  between-is : between ≡ set_value (is_at (pair_cmp place)) entries by
-  between-is = put ∙ insert_entry-found pair_cmp pair_total entries place before by ordered found
+module _ (entries between after : Entries) (key : ChangeKey) (before by : ℤ) (ordered : IsLedger pair_cmp entries)
+    (found : value_at pair_cmp entries key ≡ Some before) (put : between ≡ insert_entry pair_cmp entries key by) where
+  between-is : between ≡ set_value (is_at (pair_cmp key)) entries by
+  between-is = put ∙ insert_entry-found pair_cmp pair_total entries key before by ordered found
 
   -- what was written is found
-  pub found-put : value_at pair_cmp between place ≡ Some by
-  found-put = rw between-is (lookup-set (is_at (pair_cmp place)) entries before by found)
+  pub found-put : value_at pair_cmp between key ≡ Some by
+  found-put = rw between-is (lookup-set (is_at (pair_cmp key)) entries before by found)
 
   -- the two changes at the key cancel
-  pub Bumps-taken : before +ℤ by ≡ pos 0 → after ≡ remove_entry (is_at (pair_cmp place)) between → IsLedger pair_cmp after → Bumps entries after place by
+  pub Bumps-taken : before +ℤ by ≡ pos 0 → after ≡ remove_entry (is_at (pair_cmp key)) between → IsLedger pair_cmp after → Bumps entries after key by
   Bumps-taken none taken sorted =
-      let is : after ≡ remove_entry (is_at (pair_cmp place)) entries
-      = taken ∙ ap (remove_entry (is_at (pair_cmp place))) between-is ∙ remove_entry-set_value (is_at (pair_cmp place)) entries by in
-      rw is (Bumps-remove_entry entries place before by found none (rw is at sorted))
+      let is : after ≡ remove_entry (is_at (pair_cmp key)) entries
+      = taken ∙ ap (remove_entry (is_at (pair_cmp key))) between-is ∙ remove_entry-set_value (is_at (pair_cmp key)) entries by in
+      rw is (Bumps-remove_entry entries key before by found none (rw is at sorted))
 
   -- or their sum is set
-  pub Bumps-set : before +ℤ by ≢ pos 0 → after ≡ set_value (is_at (pair_cmp place)) between (before +ℤ by) → IsLedger pair_cmp after → Bumps entries after place by
+  pub Bumps-set : before +ℤ by ≢ pos 0 → after ≡ set_value (is_at (pair_cmp key)) between (before +ℤ by) → IsLedger pair_cmp after → Bumps entries after key by
   Bumps-set other set sorted =
-      let is : after ≡ set_value (is_at (pair_cmp place)) entries (before +ℤ by)
-      = set ∙ ap (λ (l : Entries). set_value (is_at (pair_cmp place)) l (before +ℤ by)) between-is ∙ set_value-twice (is_at (pair_cmp place)) entries by (before +ℤ by) in
-      rw is (Bumps-set_value entries place before by found other (rw is at sorted))
+      let is : after ≡ set_value (is_at (pair_cmp key)) entries (before +ℤ by)
+      = set ∙ ap (λ (l : Entries). set_value (is_at (pair_cmp key)) l (before +ℤ by)) between-is ∙ set_value-twice (is_at (pair_cmp key)) entries by (before +ℤ by) in
+      rw is (Bumps-set_value entries key before by found other (rw is at sorted))

@@ -21,7 +21,7 @@ use Rattle.iv_depth.specs.Inside.Region.{AreChangesOn}
 use Rattle.iv_depth.specs.DepthRows.{covered_runs, all_covered_runs}
 use Rattle.iv_depth.specs.Inside.Texts.{text_by, depth_text, rows_in, depth_text_in}
 use Rattle.iv_depth.specs.RegionRows.{covered_runs_in}
-use Rattle.iv_depth.specs.declared.depth_rows.DepthRows.{DepthRows}
+use Rattle.iv_depth.specs.declared.depth_rows.DepthOutput.{DepthOutput}
 use Rattle.iv_depth.specs.Inside.Walks.{on, AreAhead, depth_by}
 use Rattle.iv_cover.proofs.RunsLemmas.{runs-none}
 use Rattle.iv_cover.proofs.DepthLemmas.{depth-cons}
@@ -39,122 +39,122 @@ AreChangesOf-same xs ys entries same h = record {
   depths = λ rank p. h.depths rank p ∙ ap pos (sym (same rank p));
 }
 
-depth-with : (rows : List RecordValue) (r : RecordValue) (rank p : ℕ) → depth (added rows r) rank p ≡ depth (r ∷ rows) rank p
+depth-with : (records : List RecordValue) (r : RecordValue) (rank p : ℕ) → depth (added records r) rank p ≡ depth (r ∷ records) rank p
 depth-with [] r rank p = refl
-depth-with (q ∷ rows) r rank p = go (is_le (record_cmp r q)) refl (depth-with rows r rank p)
+depth-with (q ∷ records) r rank p = go (is_le (record_cmp r q)) refl (depth-with records r rank p)
   where
-    go : (b : Bool) → is_le (record_cmp r q) ≡ b → depth (added rows r) rank p ≡ depth (r ∷ rows) rank p → depth (added (q ∷ rows) r) rank p ≡ depth (r ∷ q ∷ rows) rank p
+    go : (b : Bool) → is_le (record_cmp r q) ≡ b → depth (added records r) rank p ≡ depth (r ∷ records) rank p → depth (added (q ∷ records) r) rank p ≡ depth (r ∷ q ∷ records) rank p
     go true is rest = rw is refl
     go false is rest =
-        let kept : depth (q ∷ added rows r) rank p ≡ depth (r ∷ q ∷ rows) rank p = omega (
+        let kept : depth (q ∷ added records r) rank p ≡ depth (r ∷ q ∷ records) rank p = omega (
           arith,
           rest,
-          depth-cons q (added rows r) rank p,
-          depth-cons r rows rank p,
-          depth-cons r (q ∷ rows) rank p,
-          depth-cons q rows rank p,
+          depth-cons q (added records r) rank p,
+          depth-cons r records rank p,
+          depth-cons r (q ∷ records) rank p,
+          depth-cons q records rank p,
         ) in
         rw is kept
 
 -- a record in its place, or in front
-pub AreChangesOf-placed : (rows : List RecordValue) (r : RecordValue) (entries : Entries) → AreChangesOf (r ∷ rows) entries → AreChangesOf (added rows r) entries
-AreChangesOf-placed rows r entries h = AreChangesOf-same (r ∷ rows) (added rows r) entries (depth-with rows r) h
+pub AreChangesOf-placed : (records : List RecordValue) (r : RecordValue) (entries : Entries) → AreChangesOf (r ∷ records) entries → AreChangesOf (added records r) entries
+AreChangesOf-placed records r entries h = AreChangesOf-same (r ∷ records) (added records r) entries (depth-with records r) h
 
-pub AreChangesOf-in_front : (rows : List RecordValue) (r : RecordValue) (entries : Entries) → AreChangesOf (added rows r) entries → AreChangesOf (r ∷ rows) entries
-AreChangesOf-in_front rows r entries h = AreChangesOf-same (added rows r) (r ∷ rows) entries (λ rank p. sym (depth-with rows r rank p)) h
+pub AreChangesOf-in_front : (records : List RecordValue) (r : RecordValue) (entries : Entries) → AreChangesOf (added records r) entries → AreChangesOf (r ∷ records) entries
+AreChangesOf-in_front records r entries h = AreChangesOf-same (added records r) (r ∷ records) entries (λ rank p. sym (depth-with records r rank p)) h
 
 -- ---- the depth of records on a genome
 
 -- past the stops there is no depth
-depth-past : (rows : List RecordValue) (rank to p : ℕ) → All (λ r. r.seq ≡ rank → r.stop ≤ to) rows → to ≤ p → depth rows rank p ≡ 0
+depth-past : (records : List RecordValue) (rank to p : ℕ) → All (λ r. r.seq ≡ rank → r.stop ≤ to) records → to ≤ p → depth records rank p ≡ 0
 depth-past [] rank to p fit past = refl
-depth-past (r ∷ rows) rank to p fit past =
-    let rest : depth rows rank p ≡ 0 = depth-past rows rank to p (All-tail (λ (r : RecordValue). r.seq ≡ rank → r.stop ≤ to) r rows fit) past in
-    let first : r.seq ≡ rank → r.stop ≤ to = All-head (λ (r : RecordValue). r.seq ≡ rank → r.stop ≤ to) r rows fit in
+depth-past (r ∷ records) rank to p fit past =
+    let rest : depth records rank p ≡ 0 = depth-past records rank to p (All-tail (λ (r : RecordValue). r.seq ≡ rank → r.stop ≤ to) r records fit) past in
+    let first : r.seq ≡ rank → r.stop ≤ to = All-head (λ (r : RecordValue). r.seq ≡ rank → r.stop ≤ to) r records fit in
     let cases = eqb_tells r.seq rank in
     let none : cond {A = ℕ} (covers rank p r) 1 0 ≡ 0 = elim cases [
       | inl here ↦ let stops : r.stop ≤ to = first here.1 in
           rw (here.0, le-ltb p r.stop (omega arith)) (cond-and_false (leb r.start p))
       | inr off ↦ rw off.0 refl
     ] in
-    omega (arith, depth-cons r rows rank p)
+    omega (arith, depth-cons r records rank p)
   where
     cond-and_false : (b : Bool) → cond {A = ℕ} (b && false) 1 0 ≡ 0
     cond-and_false true = refl
     cond-and_false false = refl
 
-pub depth-ends : (g : Sequences) (rows : List RecordValue) → All (IsOnGenome g) rows → (rank p : ℕ) → sequence_length g rank ≤ p → depth rows rank p ≡ 0
-depth-ends g rows on_genome rank p past = depth-past rows rank (sequence_length g rank) p
-    (λ k d within is. subst (λ (s : ℕ). (get_or rows k d).stop ≤ sequence_length g s) is (on_genome k d within).within.1) past
+pub depth-ends : (g : Sequences) (records : List RecordValue) → All (IsOnGenome g) records → (rank p : ℕ) → sequence_length g rank ≤ p → depth records rank p ≡ 0
+depth-ends g records on_genome rank p past = depth-past records rank (sequence_length g rank) p
+    (λ k d within is. subst (λ (s : ℕ). (get_or records k d).stop ≤ sequence_length g s) is (on_genome k d within).within.1) past
 
 any-rank : (entries : Entries) → AllByRecursion (λ e. 0 ≤ e.0.0) entries
 any-rank [] = tt
 any-rank (e ∷ entries) = (omega arith, any-rank entries)
 
-module _ (g : Sequences) (width : ℕ) (rows : List RecordValue) (entries : Entries) (fit : All (Fits g width) rows) (h : AreChangesOf rows entries) where
-  pub depth-by : (rank p : ℕ) → depth_by entries rank p ≡ depth rows rank p
+module _ (g : Sequences) (width : ℕ) (records : List RecordValue) (entries : Entries) (fit : All (Fits g width) records) (h : AreChangesOf records entries) where
+  pub depth-by : (rank p : ℕ) → depth_by entries rank p ≡ depth records rank p
   depth-by rank p = ap nat_abs (h.depths rank p)
 
-  ends : (rank p : ℕ) → sequence_length g rank ≤ p → depth rows rank p ≡ 0
-  ends = depth-ends g rows (λ k d within. (fit k d within).is_placed)
+  ends : (rank p : ℕ) → sequence_length g rank ≤ p → depth records rank p ≡ 0
+  ends = depth-ends g records (λ k d within. (fit k d within).is_placed)
 
   -- all of them are ahead of a print
-  pub AreAhead-of : length rows < 2 ^ 32 → AreAhead g (depth_by entries) 0 0 0 entries
+  pub AreAhead-of : length records < 2 ^ 32 → AreAhead g (depth_by entries) 0 0 0 entries
   AreAhead-of few = AreAhead-begin g (depth_by entries) 0 entries h.ordered h.changes (any-rank entries)
       (λ rank p low. h.depths rank p ∙ ap pos (sym (depth-by rank p)))
-      (λ rank p. let low : depth rows rank p ≤ length rows = count_by-le-length (covers rank p) rows in omega (arith, depth-by rank p, low))
+      (λ rank p. let low : depth records rank p ≤ length records = count_by-le-length (covers rank p) records in omega (arith, depth-by rank p, low))
       (λ rank p past. depth-by rank p ∙ ends rank p past)
 
   -- the text by changes is that of the definition
-  pub text-of : (shown : DepthRows) → text_by shown g (depth_by entries) ≡ depth_text shown g rows
-  text-of shown = ap (text_by shown g) (λ k rank p. depth-by rank p k)
+  pub text-of : (output : DepthOutput) → text_by output g (depth_by entries) ≡ depth_text output g records
+  text-of output = ap (text_by output g) (λ k rank p. depth-by rank p k)
 
   -- those of one sequence
-  pub AreChangesOn-of : length rows < 2 ^ 32 → (rank : ℕ) → AreChangesOn (depth_by entries rank) rank (sequence_length g rank) entries
+  pub AreChangesOn-of : length records < 2 ^ 32 → (rank : ℕ) → AreChangesOn (depth_by entries rank) rank (sequence_length g rank) entries
   AreChangesOn-of few rank = record {
     ordered = h.ordered;
     changes = h.changes;
     depths = λ p. h.depths rank p ∙ ap pos (sym (depth-by rank p));
-    small = λ p. let low : depth rows rank p ≤ length rows = count_by-le-length (covers rank p) rows in omega (arith, depth-by rank p, low);
+    small = λ p. let low : depth records rank p ≤ length records = count_by-le-length (covers rank p) records in omega (arith, depth-by rank p, low);
     ends = λ p past. depth-by rank p ∙ ends rank p past;
   }
 
-  pub text_in-of : (shown : DepthRows) (rank start stop : ℕ)
-      → rows_in shown (sequence_name g rank) (depth_by entries rank) (sequence_length g rank) start stop ≡ depth_text_in shown g rows rank start stop
-  text_in-of shown rank start stop = ap (λ (f : ℕ → ℕ). rows_in shown (sequence_name g rank) f (sequence_length g rank) start stop) (λ k p. depth-by rank p k)
+  pub text_in-of : (output : DepthOutput) (rank start stop : ℕ)
+      → rows_in output (sequence_name g rank) (depth_by entries rank) (sequence_length g rank) start stop ≡ depth_text_in output g records rank start stop
+  text_in-of output rank start stop = ap (λ (f : ℕ → ℕ). rows_in output (sequence_name g rank) f (sequence_length g rank) start stop) (λ k p. depth-by rank p k)
 
   pub covered_in-of : (rank start stop : ℕ)
-      → length (covered_runs_in (depth_by entries rank) (sequence_length g rank) start stop) ≡ length (covered_runs_in (depth rows rank) (sequence_length g rank) start stop)
+      → length (covered_runs_in (depth_by entries rank) (sequence_length g rank) start stop) ≡ length (covered_runs_in (depth records rank) (sequence_length g rank) start stop)
   covered_in-of rank start stop = ap (λ (f : ℕ → ℕ). length (covered_runs_in f (sequence_length g rank) start stop)) (λ k p. depth-by rank p k)
 
   -- two changes for each row of a depth above 0
-  pub entries-of : length entries ≤ 2 * length (all_covered_runs g rows)
-  entries-of = entries-few entries (λ rank. covered_runs (depth rows rank) 0 (sequence_length g rank)) (seq_count g)
-      (λ rank. breaks-few (depth rows rank) (sequence_length g rank) (on rank entries)
+  pub entries-of : length entries ≤ 2 * length (all_covered_runs g records)
+  entries-of = entries-few entries (λ rank. covered_runs (depth records rank) 0 (sequence_length g rank)) (seq_count g)
+      (λ rank. breaks-few (depth records rank) (sequence_length g rank) (on rank entries)
       (AreBreaks-on rank (sequence_length g rank) entries h.ordered h.changes (λ p past. h.depths rank p ∙ ap pos (ends rank p past)))
-      (Follows-on rank (depth rows rank) entries (h.depths rank)) (ends rank))
+      (Follows-on rank (depth records rank) entries (h.depths rank)) (ends rank))
       (λ rank high.
-      let none : (p : ℕ) → 0 ≤ p → depth rows rank p ≡ 0 = λ p past. depth-past rows rank 0 p
-      (λ k d within is. let low : (get_or rows k d).seq < length g = (fit k d within).is_placed.within.0 in absurd (omega (arith, low, is))) past in
-      let few : length (on rank entries) ≤ 2 * length (covered_runs (depth rows rank) 0 0) = breaks-few (depth rows rank) 0 (on rank entries)
+      let none : (p : ℕ) → 0 ≤ p → depth records rank p ≡ 0 = λ p past. depth-past records rank 0 p
+      (λ k d within is. let low : (get_or records k d).seq < length g = (fit k d within).is_placed.within.0 in absurd (omega (arith, low, is))) past in
+      let few : length (on rank entries) ≤ 2 * length (covered_runs (depth records rank) 0 0) = breaks-few (depth records rank) 0 (on rank entries)
       (AreBreaks-on rank 0 entries h.ordered h.changes (λ p past. h.depths rank p ∙ ap pos (none p past)))
-      (Follows-on rank (depth rows rank) entries (h.depths rank)) none in
-      let empty : length (covered_runs (depth rows rank) 0 0) ≡ 0 = rw (runs-none (depth rows rank) 0 0 (omega arith)) refl in
+      (Follows-on rank (depth records rank) entries (h.depths rank)) none in
+      let empty : length (covered_runs (depth records rank) 0 0) ≡ 0 = rw (runs-none (depth records rank) 0 0 (omega arith)) refl in
       omega (arith, few, empty))
 
 -- ---- before an edit
 
-pub AreChanges-without : (rows others : List RecordValue) (r : RecordValue) (entries : Entries) → rows ≡ added others r → length rows < 2 ^ 32
+pub AreChanges-without : (records others : List RecordValue) (r : RecordValue) (entries : Entries) → records ≡ added others r → length records < 2 ^ 32
     → AreChangesOf others entries → AreChanges entries
-AreChanges-without rows others r entries is few h = record {
-  rows = others;
+AreChanges-without records others r entries is few h = record {
+  records = others;
   right = h;
   few = omega (arith, few, ap (λ (l : List RecordValue). length l) is, length-added record_cmp others r);
 }
 
-pub AreChanges-with : (rows : List RecordValue) (r : RecordValue) (entries : Entries) → length rows + 1 < 2 ^ 32 → AreChangesOf (added rows r) entries → AreChanges entries
-AreChanges-with rows r entries few h = record {
-  rows = added rows r;
+pub AreChanges-with : (records : List RecordValue) (r : RecordValue) (entries : Entries) → length records + 1 < 2 ^ 32 → AreChangesOf (added records r) entries → AreChanges entries
+AreChanges-with records r entries few h = record {
+  records = added records r;
   right = h;
-  few = omega (arith, few, length-added record_cmp rows r);
+  few = omega (arith, few, length-added record_cmp records r);
 }

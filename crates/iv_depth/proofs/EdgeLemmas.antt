@@ -18,9 +18,9 @@ use Rattle.iv_cover.proofs.DepthLemmas.{depth-cons}
 use Rattle.iv_text.proofs.InOrderLemmas.{all-recursion}
 use Rattle.iv_text.proofs.PrecedesLemmas.{Precedes, precedes-from}
 use Rattle.iv_text.proofs.ListLemmas.{Mem}
-use Rattle.iv_index.proofs.SequenceLemmas.{is_from, from-here}
-use Rattle.iv_index.specs.Inside.Spans.{record_of_span, span_records}
-use Rattle.iv_index.specs.declared.span.Span.{Span}
+use Rattle.iv_locators.proofs.SequenceLemmas.{is_from, from-here}
+use Rattle.iv_locators.specs.Inside.Spans.{record_of_span, span_records}
+use Rattle.iv_locators.specs.declared.span.Span.{Span}
 use Rattle.std.specs.Prelude.{ℤ, pos, ◌+ℤ◌, ◌-ℤ◌}
 use Rattle.iv_depth.specs.Inside.DepthChanges.{Gives, IsChange}
 use Rattle.iv_depth.specs.Inside.Edges.{up_to, Rise, BeginsElse, AreStopsOf, Passes, IsLeast, Remaining, RiseFrom, edge_count, net, SkipsEdges, TakesChange, GivesChange, IsAhead, starts_of, stops_of}
@@ -192,53 +192,53 @@ Gives-next rank old None new gives = λ g f from d ahead. (IsAhead-end (f rank) 
 -- ---- the records of one sequence
 
 -- intervals start and stop where their records do
-starts-are : (places : List Span) (rows : List RecordValue) → span_records places ≡ rows → starts_of places ≡ map start_of rows
-starts-are places rows same = sym (map-map start_of record_of_span places) ∙ ap (map start_of) same
+starts-are : (places : List Span) (records : List RecordValue) → span_records places ≡ records → starts_of places ≡ map start_of records
+starts-are places records same = sym (map-map start_of record_of_span places) ∙ ap (map start_of) same
 
-stops-are : (places : List Span) (rows : List RecordValue) → span_records places ≡ rows → stops_of places ≡ map stop_of rows
-stops-are places rows same = sym (map-map stop_of record_of_span places) ∙ ap (map stop_of) same
+stops-are : (places : List Span) (records : List RecordValue) → span_records places ≡ records → stops_of places ≡ map stop_of records
+stops-are places records same = sym (map-map stop_of record_of_span places) ∙ ap (map stop_of) same
 
 module _ (g : Sequences) (rank : ℕ) where
   -- as many records cover p as start up to it, less those that stop up to it
-  edges-depth : (p : ℕ) (rows : List RecordValue) → All (IsOnGenome g) rows
-      → depth rows rank p + up_to p (map stop_of (on rank rows)) ≡ up_to p (map start_of (on rank rows))
+  edges-depth : (p : ℕ) (records : List RecordValue) → All (IsOnGenome g) records
+      → depth records rank p + up_to p (map stop_of (on rank records)) ≡ up_to p (map start_of (on rank records))
   edges-depth p [] h = refl
-  edges-depth p (r ∷ rows) h =
-      let lies = All-head (IsOnGenome g) r rows h in
-      let rest = edges-depth p rows (All-tail (IsOnGenome g) r rows h) in
+  edges-depth p (r ∷ records) h =
+      let lies = All-head (IsOnGenome g) r records h in
+      let rest = edges-depth p records (All-tail (IsOnGenome g) r records h) in
       elim (cases_Bool (r.seq == rank)) [
         | inl here ↦ go here lies.some (cases_lt p r.start) (cases_lt p r.stop) rest
-        | inr off ↦ rw (depth-cons r rows rank p, off) (omega (arith, rest))
+        | inr off ↦ rw (depth-cons r records rank p, off) (omega (arith, rest))
       ]
     where
       go : (r.seq == rank) ≡ true → r.start < r.stop → (p < r.start) ⊎ (r.start ≤ p) → (p < r.stop) ⊎ (r.stop ≤ p)
-          → depth rows rank p + up_to p (map stop_of (on rank rows)) ≡ up_to p (map start_of (on rank rows))
-          → depth (r ∷ rows) rank p + up_to p (map stop_of (on rank (r ∷ rows))) ≡ up_to p (map start_of (on rank (r ∷ rows)))
+          → depth records rank p + up_to p (map stop_of (on rank records)) ≡ up_to p (map start_of (on rank records))
+          → depth (r ∷ records) rank p + up_to p (map stop_of (on rank (r ∷ records))) ≡ up_to p (map start_of (on rank (r ∷ records)))
       go here some (inl before) (inl low) rest =
-          rw (depth-cons r rows rank p, here, lt-leb r.start p before, lt-leb r.stop p low) (omega (arith, rest))
+          rw (depth-cons r records rank p, here, lt-leb r.start p before, lt-leb r.stop p low) (omega (arith, rest))
       go here some (inl before) (inr past) rest = absurd (omega (arith, some))
       go here some (inr begun) (inl low) rest =
-          rw (depth-cons r rows rank p, here, le-leb r.start p begun, lt-leb r.stop p low, lt-ltb p r.stop low) (omega (arith, rest))
+          rw (depth-cons r records rank p, here, le-leb r.start p begun, lt-leb r.stop p low, lt-ltb p r.stop low) (omega (arith, rest))
       go here some (inr begun) (inr past) rest =
-          rw (depth-cons r rows rank p, here, le-leb r.start p begun, le-leb r.stop p past, le-ltb p r.stop past) (omega (arith, rest))
+          rw (depth-cons r records rank p, here, le-leb r.start p begun, le-leb r.stop p past, le-ltb p r.stop past) (omega (arith, rest))
 
   -- starts rise with the records
-  starts-rise : (from : ℕ) (rows : List RecordValue) → AreInOrder rows → ((r : RecordValue) → Mem r rows → r.seq ≡ rank → from ≤ r.start) → Rise from (map start_of (on rank rows))
+  starts-rise : (from : ℕ) (records : List RecordValue) → AreInOrder records → ((r : RecordValue) → Mem r records → r.seq ≡ rank → from ≤ r.start) → Rise from (map start_of (on rank records))
   starts-rise from [] order low = tt
-  starts-rise from (r ∷ rows) order low = elim (cases_Bool (r.seq == rank)) [
+  starts-rise from (r ∷ records) order low = elim (cases_Bool (r.seq == rank)) [
     | inl here ↦
         let at : r.seq ≡ rank = eqb-true r.seq rank here in
-        rw here (low r (inl refl) at, starts-rise r.start rows order.1 (λ q m on_it. after q at on_it (precedes-from r q (all-recursion (λ y. is_le (record_cmp r y) ≡ true) rows order.0 q m))))
-    | inr off ↦ rw off (starts-rise from rows order.1 (λ q m on_it. low q (inr m) on_it))
+        rw here (low r (inl refl) at, starts-rise r.start records order.1 (λ q m on_it. after q at on_it (precedes-from r q (all-recursion (λ y. is_le (record_cmp r y) ≡ true) records order.0 q m))))
+    | inr off ↦ rw off (starts-rise from records order.1 (λ q m on_it. low q (inr m) on_it))
   ]
     where
       after : (q : RecordValue) → r.seq ≡ rank → q.seq ≡ rank → Precedes r q → r.start ≤ q.start
       after q at on_it (inl lower) = absurd (omega (arith, at, on_it))
       after q at on_it (inr same) = same.1
 
-  module _ (rows left here : List RecordValue) (places : List Span) (left_is : left ≡ filter (is_from rank) rows) (here_is : here ≡ on rank left)
+  module _ (records left here : List RecordValue) (places : List Span) (left_is : left ≡ filter (is_from rank) records) (here_is : here ≡ on rank left)
       (same : span_records places ≡ here) where
-    pub places-few : length places ≤ length rows
+    pub places-few : length places ≤ length records
     places-few =
         omega (
           arith,
@@ -248,22 +248,22 @@ module _ (g : Sequences) (rank : ℕ) where
           length-filter (λ (r : RecordValue). r.seq == rank) left,
           count_by-le-length (λ (r : RecordValue). r.seq == rank) left,
           ap (λ (l : List RecordValue). length l) left_is,
-          length-filter (is_from rank) rows,
-          count_by-le-length (is_from rank) rows,
+          length-filter (is_from rank) records,
+          count_by-le-length (is_from rank) records,
         )
 
     -- so the intervals of the records on a sequence, and their stops in order, give the depth
-    pub IsAhead-begin : (stops : List ℕ) → AreInOrder rows → All (IsOnGenome g) rows → length rows < 2 ^ 63 → AreStopsOf places stops
-        → IsAhead (depth rows rank) 0 (sequence_length g rank) 0 (record { starts = starts_of places; stops = map (λ n. n) stops })
+    pub IsAhead-begin : (stops : List ℕ) → AreInOrder records → All (IsOnGenome g) records → length records < 2 ^ 63 → AreStopsOf places stops
+        → IsAhead (depth records rank) 0 (sequence_length g rank) 0 (record { starts = starts_of places; stops = map (λ n. n) stops })
     IsAhead-begin stops order lie few are =
-        let on_it : here ≡ on rank rows = here_is ∙ ap (on rank) left_is ∙ from-here rank rows in
-        let starts : starts_of places ≡ map start_of (on rank rows) = starts-are places here same ∙ ap (map start_of) on_it in
-        let ends : stops_of places ≡ map stop_of (on rank rows) = stops-are places here same ∙ ap (map stop_of) on_it in
+        let on_it : here ≡ on rank records = here_is ∙ ap (on rank) left_is ∙ from-here rank records in
+        let starts : starts_of places ≡ map start_of (on rank records) = starts-are places here same ∙ ap (map start_of) on_it in
+        let ends : stops_of places ≡ map stop_of (on rank records) = stops-are places here same ∙ ap (map stop_of) on_it in
         rw (map-id stops) (record {
-          rise = record { starts = rw starts (starts-rise 0 rows order (λ r m at. omega arith)); stops = are.rise };
+          rise = record { starts = rw starts (starts-rise 0 records order (λ r m at. omega arith)); stops = are.rise };
           low = omega arith;
           depths = λ p low.
-              omega (arith, ints, up_to-sum p (starts_of places), up_to-sum p stops, are.sums p, ap (up_to p) starts, ap (up_to p) ends, edges-depth p rows lie);
-          small = λ p. omega (arith, few, count_by-le-length (covers rank p) rows);
-          ends = depth-ends g rows lie rank;
+              omega (arith, ints, up_to-sum p (starts_of places), up_to-sum p stops, are.sums p, ap (up_to p) starts, ap (up_to p) ends, edges-depth p records lie);
+          small = λ p. omega (arith, few, count_by-le-length (covers rank p) records);
+          ends = depth-ends g records lie rank;
         })

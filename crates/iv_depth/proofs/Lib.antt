@@ -1,7 +1,7 @@
 pub mod ChangesLemmas
 pub mod BoundLemmas
 pub mod Stretches
-pub mod Comings
+pub mod RemainingLemmas
 pub mod Breaks
 pub mod Sequences
 pub mod Genomes

@@ -67,18 +67,18 @@ record-reaches r rank p h = go (eqb r.seq rank) (cases_lt p r.start) (cases_lt p
     go true (inr since) (inr past) = rw (le-leb r.start p since, le-leb r.stop p past, le-ltb p r.stop past) refl
 
 -- the keys are those of the records in front of the ones that are left
-pub record IsGathered (rows left : List RecordValue) (starts stops : List ℕ) : Type 0 where
+pub record IsGathered (records left : List RecordValue) (starts stops : List ℕ) : Type 0 where
   pub done : List RecordValue
-  pub all : rows ≡ done ++ left
+  pub all : records ≡ done ++ left
   pub depths : (rank p : ℕ) → depth done rank p + reached rank p stops ≡ reached rank p starts
 
-pub gathered-begin : (rows left : List RecordValue) (starts stops : List ℕ) → left ≡ rows → starts ≡ [] → stops ≡ [] → IsGathered rows left starts stops
-gathered-begin rows left starts stops all no_starts no_stops = record { done = []; all = sym all; depths = λ rank p. rw (no_starts, no_stops) refl }
+pub gathered-begin : (records left : List RecordValue) (starts stops : List ℕ) → left ≡ records → starts ≡ [] → stops ≡ [] → IsGathered records left starts stops
+gathered-begin records left starts stops all no_starts no_stops = record { done = []; all = sym all; depths = λ rank p. rw (no_starts, no_stops) refl }
 
-pub gathered-next : (rows left after : List RecordValue) (r : RecordValue) (starts stops more_starts more_stops : List ℕ) (start stop : ℕ) → IsPlaced r → left ≡ r ∷ after
+pub gathered-next : (records left after : List RecordValue) (r : RecordValue) (starts stops more_starts more_stops : List ℕ) (start stop : ℕ) → IsPlaced r → left ≡ r ∷ after
     → start ≡ key_of r.seq r.start → stop ≡ key_of r.seq r.stop → more_starts ≡ starts ++ start ∷ [] → more_stops ≡ stops ++ stop ∷ []
-    → IsGathered rows left starts stops → IsGathered rows after more_starts more_stops
-gathered-next rows left after r starts stops more_starts more_stops start stop placed is start_is stop_is starts_are stops_are g = record {
+    → IsGathered records left starts stops → IsGathered records after more_starts more_stops
+gathered-next records left after r starts stops more_starts more_stops start stop placed is start_is stop_is starts_are stops_are g = record {
   done = g.done ++ r ∷ [];
   all = g.all ∙ ap (λ (l : List RecordValue). g.done ++ l) is ∙ sym (append_assoc g.done (r ∷ []) after);
   depths = λ rank p.
@@ -98,14 +98,14 @@ gathered-next rows left after r starts stops more_starts more_stops start stop p
     sum d s t d' s' t' c a b e f g h i = omega arith
 
 -- all of them, sorted
-pub gathered-all : (rows left : List RecordValue) (some_starts some_stops starts stops : List ℕ) → left ≡ [] → IsGathered rows left some_starts some_stops
-    → IsPermutation some_starts starts → IsSorted nat_cmp starts → IsPermutation some_stops stops → IsSorted nat_cmp stops → AreEdgesOf rows starts stops
-gathered-all rows left some_starts some_stops starts stops none g starts_moved starts_sorted stops_moved stops_sorted = record {
+pub gathered-all : (records left : List RecordValue) (some_starts some_stops starts stops : List ℕ) → left ≡ [] → IsGathered records left some_starts some_stops
+    → IsPermutation some_starts starts → IsSorted nat_cmp starts → IsPermutation some_stops stops → IsSorted nat_cmp stops → AreEdgesOf records starts stops
+gathered-all records left some_starts some_stops starts stops none g starts_moved starts_sorted stops_moved stops_sorted = record {
   starts_rise = rise-sorted starts (IsNonDecreasingBy-from_sort (λ x. x) starts starts_sorted);
   stops_rise = rise-sorted stops (IsNonDecreasingBy-from_sort (λ x. x) stops stops_sorted);
   depths = λ rank p.
-      let all : rows ≡ g.done = g.all ∙ ap (λ (l : List RecordValue). g.done ++ l) none ∙ append-nil g.done in
-      let records : depth rows rank p ≡ depth g.done rank p = ap (λ (l : List RecordValue). depth l rank p) all in
+      let all : records ≡ g.done = g.all ∙ ap (λ (l : List RecordValue). g.done ++ l) none ∙ append-nil g.done in
+      let records : depth records rank p ≡ depth g.done rank p = ap (λ (l : List RecordValue). depth l rank p) all in
       let one : ℕ → ℕ = λ key. cond {A = ℕ} (reaches rank p (change_key_of key)) 1 0 in
       let begun : reached rank p starts ≡ reached rank p some_starts = sum_by-IsPermutation one some_starts starts starts_moved in
       let ended : reached rank p stops ≡ reached rank p some_stops = sum_by-IsPermutation one some_stops stops stops_moved in
@@ -195,19 +195,19 @@ one-ledger (e ∷ es) (f ∷ fs) s t same =
         tail k keys (inr apart) =
             sym (lookup_tail (is_at (pair_cmp k)) e es apart) ∙ same k ∙ lookup_tail (is_at (pair_cmp k)) f fs (ap (is_at (pair_cmp k)) (sym keys) ∙ apart)
 
-pub edges-rise : (rows : List RecordValue) (starts stops : List ℕ) → AreEdgesOf rows starts stops
+pub edges-rise : (records : List RecordValue) (starts stops : List ℕ) → AreEdgesOf records starts stops
     → RiseFrom 0 (record { starts = map (λ key. key) starts; stops = map (λ key. key) stops })
-edges-rise rows starts stops h = rw (map-id starts, map-id stops) (record { starts = h.starts_rise; stops = h.stops_rise })
+edges-rise records starts stops h = rw (map-id starts, map-id stops) (record { starts = h.starts_rise; stops = h.stops_rise })
 
 -- the changes that the edges of records give are those of the records
-pub edges-changes : (rows : List RecordValue) (starts stops : List ℕ) (es entries : Entries) → AreEdgesOf rows starts stops
+pub edges-changes : (records : List RecordValue) (starts stops : List ℕ) (es entries : Entries) → AreEdgesOf records starts stops
     → Drains GivesKeyChange (record { starts = map (λ key. key) starts; stops = map (λ key. key) stops }) es → IsLedger pair_cmp entries
-    → ((k : ChangeKey) → value_at pair_cmp entries k ≡ value_at pair_cmp es k) → AreChangesOf rows entries
-edges-changes rows starts stops es entries h run ordered same =
+    → ((k : ChangeKey) → value_at pair_cmp entries k ≡ value_at pair_cmp es k) → AreChangesOf records entries
+edges-changes records starts stops es entries h run ordered same =
     let keys : Remaining = record { starts = map (λ key. key) starts; stops = map (λ key. key) stops } in
-    let rise : RiseFrom 0 keys = edges-rise rows starts stops h in
+    let rise : RiseFrom 0 keys = edges-rise records starts stops h in
     let up : IsLedger pair_cmp es = given-ledger keys 0 es run.1.0 rise run.1.1 in
-    subst (AreChangesOf rows) (sym (one-ledger entries es ordered up same)) (record {
+    subst (AreChangesOf records) (sym (one-ledger entries es ordered up same)) (record {
       ordered = up;
       changes = All-from_recursion (λ z. z ≢ pos 0) (values_of es) (given-others keys 0 es run.1.0 rise run.1.1);
       depths = λ rank p.

@@ -6,7 +6,7 @@ use Rattle.std.proofs.lemmas.List.Sorted.{IsNonDecreasingBy-drop, IsNonDecreasin
 use Rattle.std.proofs.lemmas.List.Sums.{sum_by-cons}
 use Rattle.std.specs.Prelude.{sum_by, nat_le, if◌then◌else◌}
 use Rattle.std.proofs.lemmas.List.{take_all, length-map}
-use Rattle.iv_index.specs.declared.span.Span.{Span}
+use Rattle.iv_locators.specs.declared.span.Span.{Span}
 use Rattle.iv_depth.specs.Inside.Edges.{Rise, AreStopsOf, up_to, stops_of}
 
 pub up_to-sum : (p : ℕ) (ns : List ℕ) → up_to p ns ≡ sum_by (λ n. if nat_le n p then 1 else 0) ns

@@ -11,8 +11,8 @@ use Rattle.iv_depth.specs.RegionRows.{run_shares, covered_runs_in}
 use Rattle.iv_depth.specs.Inside.Texts.{rows_in}
 use Rattle.iv_depth.specs.Inside.Region.{IsRunStart, AreLeft, EndsRun, IsWalking}
 use Rattle.iv_depth.specs.Inside.RunRows.{run_rows, rows_from, covered_from}
-use Rattle.iv_depth.specs.declared.depth_rows.DepthRows.{DepthRows}
-use Rattle.iv_depth.specs.declared.depth_rows.DepthRows.TheVariants.{Covered, All, EachPosition}
+use Rattle.iv_depth.specs.declared.depth_rows.DepthOutput.{DepthOutput}
+use Rattle.iv_depth.specs.declared.depth_rows.DepthOutput.TheVariants.{Covered, All, EachPosition}
 use Rattle.iv_depth.proofs.Stretches.{rows-bare, rows-covered, rows-one, each-split}
 
 -- ---- filters of runs
@@ -104,7 +104,7 @@ module _ (f : ℕ → ℕ) (long start stop : ℕ) where
       ∙ runs-after (both start stop) start stop (both-before start stop) (both-after start stop) f here long past
 
   -- at the run that holds the first position
-  pub rows-begin : (shown : DepthRows) (name : List ℕ) (s : ℕ) → s < long → IsRunStart f start s → rows_in shown name f long start stop ≡ rows_from shown name f long start stop s
+  pub rows-begin : (output : DepthOutput) (name : List ℕ) (s : ℕ) → s < long → IsRunStart f start s → rows_in output name f long start stop ≡ rows_from output name f long start stop s
   rows-begin Covered name s high begins = ap (flat_map (run_row name)) (covered-skip s high begins)
   rows-begin All name s high begins = ap (flat_map (run_row name)) (shared-skip s high begins)
   rows-begin EachPosition name s high begins =
@@ -112,7 +112,7 @@ module _ (f : ℕ → ℕ) (long start stop : ℕ) where
       rw e refl
 
   -- past the region
-  pub rows-past : (shown : DepthRows) (name : List ℕ) (here : ℕ) → stop ≤ here → rows_from shown name f long start stop here ≡ []
+  pub rows-past : (output : DepthOutput) (name : List ℕ) (here : ℕ) → stop ≤ here → rows_from output name f long start stop here ≡ []
   rows-past Covered name here past = ap (flat_map (run_row name)) (covered-after here past)
   rows-past All name here past =
       ap (flat_map (run_row name)) (runs-after (run_shares start stop) start stop (shares-before start stop) (shares-after start stop) f here long past)
@@ -122,8 +122,8 @@ module _ (f : ℕ → ℕ) (long start stop : ℕ) where
 
 -- ---- one run
 
-row-kept : (row : Run → List ℕ) (t : Run → Bool) (x : Run) (xs : List Run) → t x ≡ true → flat_map row (filter t (x ∷ xs)) ≡ row x ++ flat_map row (filter t xs)
-row-kept row t x xs is = rw is refl
+row-kept : (feature : Run → List ℕ) (t : Run → Bool) (x : Run) (xs : List Run) → t x ≡ true → flat_map feature (filter t (x ∷ xs)) ≡ feature x ++ flat_map feature (filter t xs)
+row-kept feature t x xs is = rw is refl
 
 kept-length : (t : Run → Bool) (x : Run) (xs : List Run) → t x ≡ true → length (filter t (x ∷ xs)) ≡ length (filter t xs) + 1
 kept-length t x xs is = rw is (omega arith)
@@ -171,15 +171,15 @@ module _ (f : ℕ → ℕ) (rank long start stop here value to : ℕ) (change : 
       ap (λ (l : List Run). length (filter (run_shares start stop) l)) (covered-here other)
       ∙ kept-length (run_shares start stop) run (covered_runs f to long) shares-run
 
-  positions : (row : ℕ → ℕ → List ℕ)
-      → flat_map (λ q. row q (f q)) (range_with_len (max here start) (stop - max here start))
-      ≡ flat_map (λ q. row q value) (range_with_len (max here start) (min to stop - max here start)) ++ flat_map (λ q. row q (f q)) (range_with_len (max to start) (stop - max to start))
-  positions row =
-      each-split row f value (max here start) (min to stop) stop (omega (arith, e.low, near, crosses, some)) (omega arith) (λ q low high. e.same q (omega (arith, low)) (omega (arith, high)))
-      ∙ ap (λ (l : List ℕ). flat_map (λ q. row q value) (range_with_len (max here start) (min to stop - max here start)) ++ l) (tail (cases_lt stop to))
+  positions : (feature : ℕ → ℕ → List ℕ)
+      → flat_map (λ q. feature q (f q)) (range_with_len (max here start) (stop - max here start))
+      ≡ flat_map (λ q. feature q value) (range_with_len (max here start) (min to stop - max here start)) ++ flat_map (λ q. feature q (f q)) (range_with_len (max to start) (stop - max to start))
+  positions feature =
+      each-split feature f value (max here start) (min to stop) stop (omega (arith, e.low, near, crosses, some)) (omega arith) (λ q low high. e.same q (omega (arith, low)) (omega (arith, high)))
+      ∙ ap (λ (l : List ℕ). flat_map (λ q. feature q value) (range_with_len (max here start) (min to stop - max here start)) ++ l) (tail (cases_lt stop to))
     where
       tail : (stop < to) ⊎ (to ≤ stop)
-          → flat_map (λ q. row q (f q)) (range_with_len (min to stop) (stop - min to stop)) ≡ flat_map (λ q. row q (f q)) (range_with_len (max to start) (stop - max to start))
+          → flat_map (λ q. feature q (f q)) (range_with_len (min to stop) (stop - min to stop)) ≡ flat_map (λ q. feature q (f q)) (range_with_len (max to start) (stop - max to start))
       tail (inl beyond) =
           let a : stop - min to stop ≡ zero = omega (arith, beyond) in
           let b : stop - max to start ≡ zero = omega (arith, beyond) in
@@ -190,7 +190,7 @@ module _ (f : ℕ → ℕ) (rank long start stop here value to : ℕ) (change : 
           rw (a, b) refl
 
   -- its rows are the next
-  pub rows-run : (shown : DepthRows) (name : List ℕ) → rows_from shown name f long start stop here ≡ run_rows shown name value start stop here to ++ rows_from shown name f long start stop to
+  pub rows-run : (output : DepthOutput) (name : List ℕ) → rows_from output name f long start stop here ≡ run_rows output name value start stop here to ++ rows_from output name f long start stop to
   rows-run All name =
       ap (λ (l : List Run). flat_map (run_row name) (filter (run_shares start stop) l)) runs-here
       ∙ row-kept (run_row name) (run_shares start stop) run (runs f to long) shares-run

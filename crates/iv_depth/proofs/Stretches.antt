@@ -10,8 +10,8 @@ use Rattle.std.specs.Prelude.{ℤ}
 use Rattle.iv_depth.specs.Inside.DepthChanges.{IsChange}
 use Rattle.iv_depth.specs.DepthRows.{run_row, position_row, covered_runs}
 use Rattle.iv_depth.specs.Inside.Texts.{rows_between}
-use Rattle.iv_depth.specs.declared.depth_rows.DepthRows.{DepthRows}
-use Rattle.iv_depth.specs.declared.depth_rows.DepthRows.TheVariants.{Covered, All, EachPosition}
+use Rattle.iv_depth.specs.declared.depth_rows.DepthOutput.{DepthOutput}
+use Rattle.iv_depth.specs.declared.depth_rows.DepthOutput.TheVariants.{Covered, All, EachPosition}
 
 -- the runs of one value are one run
 pub runs-one : (value from to : ℕ) → from < to → runs (λ _. value) from to ≡ record { start = from; stop = to; value = value } ∷ []
@@ -39,45 +39,45 @@ range-split p (suc d) n =
     rw (more, ← on) (ap (λ (l : List ℕ). p ∷ l) (range-split (p + 1) d n))
 
 -- texts of positions on which two functions agree
-each-same : (row : ℕ → ℕ → List ℕ) (f g : ℕ → ℕ) (p n : ℕ) → ((q : ℕ) → p ≤ q → q < p + n → f q ≡ g q)
-    → flat_map (λ q. row q (f q)) (range_with_len p n) ≡ flat_map (λ q. row q (g q)) (range_with_len p n)
-each-same row f g p zero same = refl
-each-same row f g p (suc n) same =
+each-same : (feature : ℕ → ℕ → List ℕ) (f g : ℕ → ℕ) (p n : ℕ) → ((q : ℕ) → p ≤ q → q < p + n → f q ≡ g q)
+    → flat_map (λ q. feature q (f q)) (range_with_len p n) ≡ flat_map (λ q. feature q (g q)) (range_with_len p n)
+each-same feature f g p zero same = refl
+each-same feature f g p (suc n) same =
     let here : f p ≡ g p = same p (omega arith) (omega arith) in
-    rw (here, each-same row f g (p + 1) n (λ q low high. same q (omega arith) (omega arith))) refl
+    rw (here, each-same feature f g (p + 1) n (λ q low high. same q (omega arith) (omega arith))) refl
 
-pub each-split : (row : ℕ → ℕ → List ℕ) (f : ℕ → ℕ) (value from mid to : ℕ) → from ≤ mid → mid ≤ to
+pub each-split : (feature : ℕ → ℕ → List ℕ) (f : ℕ → ℕ) (value from mid to : ℕ) → from ≤ mid → mid ≤ to
     → ((q : ℕ) → from ≤ q → q < mid → f q ≡ value)
-    → flat_map (λ q. row q (f q)) (range_with_len from (to - from))
-    ≡ flat_map (λ q. row q value) (range_with_len from (mid - from)) ++ flat_map (λ q. row q (f q)) (range_with_len mid (to - mid))
-each-split row f value from mid to low high same =
+    → flat_map (λ q. feature q (f q)) (range_with_len from (to - from))
+    ≡ flat_map (λ q. feature q value) (range_with_len from (mid - from)) ++ flat_map (λ q. feature q (f q)) (range_with_len mid (to - mid))
+each-split feature f value from mid to low high same =
     let all : to - from ≡ (mid - from) + (to - mid) = omega arith in
     let end : from + (mid - from) ≡ mid = omega arith in
     let split : range_with_len from (to - from) ≡ range_with_len from (mid - from) ++ range_with_len mid (to - mid)
     = ap (range_with_len from) all ∙ range-split from (mid - from) (to - mid) ∙ ap (λ m. range_with_len from (mid - from) ++ range_with_len m (to - mid)) end in
-    ap (flat_map (λ q. row q (f q))) split
-    ∙ flat_map-append (λ q. row q (f q)) (range_with_len from (mid - from)) (range_with_len mid (to - mid))
-    ∙ ap (λ (l : List ℕ). l ++ flat_map (λ q. row q (f q)) (range_with_len mid (to - mid)))
-    (each-same row f (λ _. value) from (mid - from) (λ q l h. same q l (omega (arith, end))))
+    ap (flat_map (λ q. feature q (f q))) split
+    ∙ flat_map-append (λ q. feature q (f q)) (range_with_len from (mid - from)) (range_with_len mid (to - mid))
+    ∙ ap (λ (l : List ℕ). l ++ flat_map (λ q. feature q (f q)) (range_with_len mid (to - mid)))
+    (each-same feature f (λ _. value) from (mid - from) (λ q l h. same q l (omega (arith, end))))
 
 -- one more position in front
-pub each-next : (row : ℕ → ℕ → List ℕ) (value from to : ℕ) → from < to
-    → flat_map (λ q. row q value) (range_with_len from (to - from)) ≡ row from value ++ flat_map (λ q. row q value) (range_with_len (from + 1) (to - (from + 1)))
-each-next row value from to low = let e : to - from ≡ suc (to - (from + 1)) = omega arith in rw e refl
+pub each-next : (feature : ℕ → ℕ → List ℕ) (value from to : ℕ) → from < to
+    → flat_map (λ q. feature q value) (range_with_len from (to - from)) ≡ feature from value ++ flat_map (λ q. feature q value) (range_with_len (from + 1) (to - (from + 1)))
+each-next feature value from to low = let e : to - from ≡ suc (to - (from + 1)) = omega arith in rw e refl
 
-pub each-none : (row : ℕ → ℕ → List ℕ) (value from to : ℕ) → to ≤ from → flat_map (λ q. row q value) (range_with_len from (to - from)) ≡ []
-each-none row value from to high = let e : to - from ≡ zero = omega arith in rw e refl
+pub each-none : (feature : ℕ → ℕ → List ℕ) (value from to : ℕ) → to ≤ from → flat_map (λ q. feature q value) (range_with_len from (to - from)) ≡ []
+each-none feature value from to high = let e : to - from ≡ zero = omega arith in rw e refl
 
 -- no positions, no rows
-pub rows-none : (shown : DepthRows) (name : List ℕ) (f : ℕ → ℕ) (from to : ℕ) → to ≤ from → rows_between shown name f from to ≡ []
+pub rows-none : (output : DepthOutput) (name : List ℕ) (f : ℕ → ℕ) (from to : ℕ) → to ≤ from → rows_between output name f from to ≡ []
 rows-none Covered name f from to high = rw (runs-none f from to high) refl
 rows-none All name f from to high = rw (runs-none f from to high) refl
 rows-none EachPosition name f from to high = let e : to - from ≡ zero = omega arith in rw e refl
 
 -- the step of a walk: f is value from `from` up to `mid`, and at `mid` the positions end or f has another value
-pub rows-split : (shown : DepthRows) (name : List ℕ) (f : ℕ → ℕ) (value from mid to : ℕ) → from ≤ mid → mid ≤ to
+pub rows-split : (output : DepthOutput) (name : List ℕ) (f : ℕ → ℕ) (value from mid to : ℕ) → from ≤ mid → mid ≤ to
     → ((q : ℕ) → from ≤ q → q < mid → f q ≡ value) → (from < mid → mid < to → value ≢ f mid)
-    → rows_between shown name f from to ≡ rows_between shown name (λ _. value) from mid ++ rows_between shown name f mid to
+    → rows_between output name f from to ≡ rows_between output name (λ _. value) from mid ++ rows_between output name f mid to
 rows-split Covered name f value from mid to low high same ends =
     ap (λ (l : List Run). flat_map (run_row name) (filter (λ run. nat_lt 0 run.value) l)) (runs-split f value from mid to low high same ends)
     ∙ ap (flat_map (run_row name)) (filter-append (λ run. nat_lt 0 run.value) (runs (λ _. value) from mid) (runs f mid to))
@@ -88,23 +88,23 @@ rows-split All name f value from mid to low high same ends =
 rows-split EachPosition name f value from mid to low high same ends = each-split (position_row name) f value from mid to low high same
 
 -- so it is at a change
-pub rows-next : (shown : DepthRows) (name : List ℕ) (f : ℕ → ℕ) (start to long d depth : ℕ) (c : ℕ × ℤ) → IsChange f start long d c → to ≡ long → depth ≡ d
-    → rows_between shown name f start to ≡ rows_between shown name (λ _. depth) start c.0 ++ rows_between shown name f c.0 to
-rows-next shown name f start to long d depth c s same_end same =
-    rw (same_end, same) (rows-split shown name f d start c.0 long s.low s.high s.same (λ low _. s.other low))
+pub rows-next : (output : DepthOutput) (name : List ℕ) (f : ℕ → ℕ) (start to long d depth : ℕ) (c : ℕ × ℤ) → IsChange f start long d c → to ≡ long → depth ≡ d
+    → rows_between output name f start to ≡ rows_between output name (λ _. depth) start c.0 ++ rows_between output name f c.0 to
+rows-next output name f start to long d depth c s same_end same =
+    rw (same_end, same) (rows-split output name f d start c.0 long s.low s.high s.same (λ low _. s.other low))
 
 -- the last step: f is value on all that is left
-pub rows-end : (shown : DepthRows) (name : List ℕ) (f : ℕ → ℕ) (value from to : ℕ)
+pub rows-end : (output : DepthOutput) (name : List ℕ) (f : ℕ → ℕ) (value from to : ℕ)
     → ((q : ℕ) → from ≤ q → f q ≡ value)
-    → rows_between shown name f from to ≡ rows_between shown name (λ _. value) from to
-rows-end shown name f value from to same = go (cases_lt to from)
+    → rows_between output name f from to ≡ rows_between output name (λ _. value) from to
+rows-end output name f value from to same = go (cases_lt to from)
   where
-    go : (to < from) ⊎ (from ≤ to) → rows_between shown name f from to ≡ rows_between shown name (λ _. value) from to
-    go (inl none) = rows-none shown name f from to (omega arith) ∙ sym (rows-none shown name (λ _. value) from to (omega arith))
+    go : (to < from) ⊎ (from ≤ to) → rows_between output name f from to ≡ rows_between output name (λ _. value) from to
+    go (inl none) = rows-none output name f from to (omega arith) ∙ sym (rows-none output name (λ _. value) from to (omega arith))
     go (inr some) =
-        rows-split shown name f value from to to some (omega arith) (λ q l h. same q l) (λ _ h. absurd (omega arith))
-        ∙ ap (λ (l : List ℕ). rows_between shown name (λ _. value) from to ++ l) (rows-none shown name f to to (omega arith))
-        ∙ append-nil (rows_between shown name (λ _. value) from to)
+        rows-split output name f value from to to some (omega arith) (λ q l h. same q l) (λ _ h. absurd (omega arith))
+        ∙ ap (λ (l : List ℕ). rows_between output name (λ _. value) from to ++ l) (rows-none output name f to to (omega arith))
+        ∙ append-nil (rows_between output name (λ _. value) from to)
 
 module _ (name : List ℕ) (depth from to : ℕ) (low : from < to) where
   -- positions of depth 0 give no row of a covered run

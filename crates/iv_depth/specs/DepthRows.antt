@@ -7,8 +7,8 @@ use Rattle.iv_track.specs.Parts.{intervals_in}
 use Rattle.iv_track.specs.declared.region.Region.{Region}
 use Rattle.iv_cover.specs.Depth.{depth}
 use Rattle.iv_cover.specs.Runs.{Run, runs}
-use Rattle.iv_depth.specs.declared.depth_rows.DepthRows.{DepthRows}
-use Rattle.iv_depth.specs.declared.depth_rows.DepthRows.TheVariants.{Covered, All, EachPosition}
+use Rattle.iv_depth.specs.declared.depth_rows.DepthOutput.{DepthOutput}
+use Rattle.iv_depth.specs.declared.depth_rows.DepthOutput.TheVariants.{Covered, All, EachPosition}
 
 -- the row of a run: name, start, stop and depth between tabs, and a line feed
 abbrev pub run_row : List ℕ → Run → List ℕ
@@ -29,11 +29,11 @@ positions_in None length = range_with_len 0 length
 positions_in (Some at) length = range_with_len at.start (at.stop - at.start)
 
 -- the rows of a depth f on a sequence of this name and length: those of its maximal runs above 0, of all of them, or of positions
-abbrev pub depth_rows : Option Region → DepthRows → List ℕ → (ℕ → ℕ) → ℕ → List ℕ
+abbrev pub depth_rows : Option Region → DepthOutput → List ℕ → (ℕ → ℕ) → ℕ → List ℕ
 depth_rows part Covered name f length = flat_map (run_row name) (intervals_in (λ run. run.start) (λ run. run.stop) part (covered_runs f 0 length))
 depth_rows part All name f length = flat_map (run_row name) (intervals_in (λ run. run.start) (λ run. run.stop) part (runs f 0 length))
 depth_rows part EachPosition name f length = flat_map (λ p. position_row name p (f p)) (positions_in part length)
 
 -- the maximal runs of a depth above 0 on all sequences
 abbrev pub all_covered_runs : Sequences → List RecordValue → List Run
-all_covered_runs g rows = flat_map (λ rank. covered_runs (depth rows rank) 0 (sequence_length g rank)) (range_with_len 0 (seq_count g))
+all_covered_runs g records = flat_map (λ rank. covered_runs (depth records rank) 0 (sequence_length g rank)) (range_with_len 0 (seq_count g))

@@ -104,6 +104,6 @@ fn read<A: Allocator + Copy>(
     ensures next { TakesFirst (λ e. e) walk.old result walk.new }
     ensures step { TakesUpTo meter.old meter.new 1 }
 {
-    let (place, change) = walk.next(meter)?;
-    Some((*place, *change))
+    let (key, change) = walk.next(meter)?;
+    Some((*key, *change))
 }

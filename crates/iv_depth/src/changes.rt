@@ -18,46 +18,46 @@ pub(crate) type Changes<A> = Ledger<(u32, u32), i64, A>;
 /// After a refusal one of the two may be made.
 pub(crate) fn add_record<A: Allocator + Copy>(
     changes: &mut Changes<A>,
-    row: &RecordRef<'_>,
+    feature: &RecordRef<'_>,
     meter: &mut Meter,
 ) -> Result<(), AllocError>
     requires { AreChanges changes.old }
-    ensures ok { OnOk result ((rows : List RecordValue) → AreChangesOf rows changes.old → AreChangesOf (row.now ∷ rows) changes.new) }
+    ensures ok { OnOk result ((records : List RecordValue) → AreChangesOf records changes.old → AreChangesOf (feature.now ∷ records) changes.new) }
     ensures steps { TakesUpTo meter.old meter.new 4 }
 {
-    shift(changes, row, 1, meter)
+    shift(changes, feature, 1, meter)
 }
 
 /// One record less. At most 4 steps.
 ///
 /// After a refusal one of the two changes may be made.
-pub(crate) fn take_record<A: Allocator + Copy>(
+pub(crate) fn remove_record<A: Allocator + Copy>(
     changes: &mut Changes<A>,
-    row: &RecordRef<'_>,
+    feature: &RecordRef<'_>,
     meter: &mut Meter,
 ) -> Result<(), AllocError>
     requires { AreChanges changes.old }
-    ensures ok { OnOk result ((rows : List RecordValue) → AreChangesOf (row.now ∷ rows) changes.old → AreChangesOf rows changes.new) }
+    ensures ok { OnOk result ((records : List RecordValue) → AreChangesOf (feature.now ∷ records) changes.old → AreChangesOf records changes.new) }
     ensures steps { TakesUpTo meter.old meter.new 4 }
 {
-    shift(changes, row, -1, meter)
+    shift(changes, feature, -1, meter)
 }
 
 /// Adds 1 or -1 to the depth of each position that the record covers. At most 4 steps.
 fn shift<A: Allocator + Copy>(
     changes: &mut Changes<A>,
-    row: &RecordRef<'_>,
+    feature: &RecordRef<'_>,
     by: i64,
     meter: &mut Meter,
 ) -> Result<(), AllocError>
     requires known { AreChanges changes.old }
     requires by { (negsuc 0 ≤ℤ by) × (by ≤ℤ pos 1) × (by ≢ pos 0) }
-    ensures ok { OnOk result (Shifts row.now by changes.old changes.new) }
+    ensures ok { OnOk result (Shifts feature.now by changes.old changes.new) }
     ensures steps { TakesUpTo meter.old meter.new 4 }
 {
-    row.lemma_of_interval();
-    bump(changes, (row.seq(), row.start() as u32), by, meter)?;
-    bump(changes, (row.seq(), row.stop() as u32), -by, meter)
+    feature.lemma_of_interval();
+    bump(changes, (feature.seq(), feature.start() as u32), by, meter)?;
+    bump(changes, (feature.seq(), feature.stop() as u32), -by, meter)
 }
 
 /// Adds 1 or -1 to the change at a key. An entry that becomes 0 is taken out. At most 2 steps.
@@ -65,25 +65,25 @@ fn shift<A: Allocator + Copy>(
 /// Only a key without a change takes memory. After a refusal the changes are as before.
 fn bump<A: Allocator + Copy>(
     changes: &mut Changes<A>,
-    place: (u32, u32),
+    key: (u32, u32),
     by: i64,
     meter: &mut Meter,
 ) -> Result<(), AllocError>
     requires by { (negsuc 0 ≤ℤ by) × (by ≤ℤ pos 1) × (by ≢ pos 0) }
-    requires small { (z : ℤ) → value_at pair_cmp changes.old place ≡ Some z → (negsuc (2 ^ 40) ≤ℤ z) × (z ≤ℤ pos (2 ^ 40)) }
-    ensures ok { OnOk result (Bumps changes.old changes.new place by) }
+    requires small { (z : ℤ) → value_at pair_cmp changes.old key ≡ Some z → (negsuc (2 ^ 40) ≤ℤ z) × (z ≤ℤ pos (2 ^ 40)) }
+    ensures ok { OnOk result (Bumps changes.old changes.new key by) }
     ensures steps { TakesUpTo meter.old meter.new 2 }
 {
     // Most keys are new, and then this one call is enough.
-    let Some(before) = changes.put(place, by, meter)? else {
+    let Some(before) = changes.put(key, by, meter)? else {
         return Ok(());
     };
     let change = before + by;
     let cancels = change == 0;
     if cancels {
-        changes.take(&place, meter);
+        changes.take(&key, meter);
     } else {
-        let _ = changes.set(&place, change, meter);
+        let _ = changes.set(&key, change, meter);
     }
     Ok(())
 }

@@ -10,8 +10,8 @@ ghost use Rattle.iv_depth.specs.Inside.Texts.{depth_text, depth_text_in};
 ghost use Rattle.iv_depth.specs.DepthRows.{all_covered_runs};
 ghost use Rattle.iv_depth.specs.RegionRows.{covered_runs_in};
 
-use crate::changes::{Changes, add_record, take_record};
-use crate::depth_rows::{DepthRows, put_genome};
+use crate::changes::{Changes, add_record, remove_record};
+use crate::depth_rows::{DepthOutput, put_genome};
 use crate::edges::Edges;
 use crate::net_changes::edges_of;
 use crate::region::{length_of, put_region};
@@ -43,7 +43,7 @@ impl<A: Allocator + Copy> Kept<A> for Depth<A> {
 
     ghost built_for = { λ _. tt };
 
-    ghost is_right = { λ entries _ rows. AreChangesOf rows entries };
+    ghost is_right = { λ entries _ records. AreChangesOf records entries };
 
     ghost repair_steps = { λ _ _ _. 8 };
 
@@ -70,23 +70,23 @@ impl<A: Allocator + Copy> Kept<A> for Depth<A> {
         &mut self,
         track: &Track<A>,
         _genome: &Genome<A>,
-        row: &RecordRef<'_>,
+        feature: &RecordRef<'_>,
         meter: &mut Meter,
     ) -> Result<(), AllocError> {
         // A track holds so few records that no change leaves 64 bits.
         let _few = track.len();
-        add_record(&mut self.changes, row, meter)
+        add_record(&mut self.changes, feature, meter)
     }
 
     fn removed(
         &mut self,
         track: &Track<A>,
         _genome: &Genome<A>,
-        row: &RecordRef<'_>,
+        feature: &RecordRef<'_>,
         meter: &mut Meter,
     ) -> Result<(), AllocError> {
         let _few = track.len();
-        take_record(&mut self.changes, row, meter)
+        remove_record(&mut self.changes, feature, meter)
     }
 }
 
@@ -95,27 +95,27 @@ impl<A: Allocator + Copy> Depth<A> {
     /// memory. On a fault the sink has taken a prefix of the rows.
     pub fn print<S: Sink>(
         &self,
-        shown: DepthRows,
+        output: DepthOutput,
         track: &Track<A>,
         genome: &Genome<A>,
         meter: &mut Meter,
         sink: &mut S,
     ) -> Result<(), WriteFault>
-        requires right { AreChangesOf track.now.rows self.now }
-        requires fit { All (Fits genome.now track.now.width) track.now.rows }
-        ensures text { Puts (S.state sink.old) (S.state sink.new) result (depth_text shown genome.now track.now.rows) }
-        ensures steps { TakesUpTo meter.old meter.new (2 + 2 * length (all_covered_runs genome.now track.now.rows)) }
+        requires right { AreChangesOf track.now.records self.now }
+        requires fit { All (Fits genome.now track.now.width) track.now.records }
+        ensures text { Puts (S.state sink.old) (S.state sink.new) result (depth_text output genome.now track.now.records) }
+        ensures steps { TakesUpTo meter.old meter.new (2 + 2 * length (all_covered_runs genome.now track.now.records)) }
     {
         // A track holds so few records that no depth leaves 64 bits.
         let _few = track.len();
-        put_genome(shown, &self.changes, genome, meter, sink)
+        put_genome(output, &self.changes, genome, meter, sink)
     }
 
     /// Prints the rows whose interval shares a position with the region, whole and in their order: at most 3 steps, and 2 more for
     /// each of these rows of a depth above 0. `at` is the depth of the region's first position. It takes no memory.
     pub fn print_depth_in<S: Sink>(
         &self,
-        shown: DepthRows,
+        output: DepthOutput,
         seq: u32,
         start: u64,
         stop: u64,
@@ -125,19 +125,19 @@ impl<A: Allocator + Copy> Depth<A> {
         meter: &mut Meter,
         sink: &mut S,
     ) -> Result<(), WriteFault>
-        requires right { AreChangesOf track.now.rows self.now }
-        requires fit { All (Fits genome.now track.now.width) track.now.rows }
+        requires right { AreChangesOf track.now.records self.now }
+        requires fit { All (Fits genome.now track.now.width) track.now.records }
         requires some { start < stop }
         requires within { stop ≤ sequence_length genome.now seq }
-        requires at { at ≡ depth track.now.rows seq start }
-        ensures text { Puts (S.state sink.old) (S.state sink.new) result (depth_text_in shown genome.now track.now.rows seq start stop) }
-        ensures steps { TakesUpTo meter.old meter.new (3 + 2 * length (covered_runs_in (depth track.now.rows seq) (sequence_length genome.now seq) start stop)) }
+        requires at { at ≡ depth track.now.records seq start }
+        ensures text { Puts (S.state sink.old) (S.state sink.new) result (depth_text_in output genome.now track.now.records seq start stop) }
+        ensures steps { TakesUpTo meter.old meter.new (3 + 2 * length (covered_runs_in (depth track.now.records seq) (sequence_length genome.now seq) start stop)) }
     {
         // A track holds so few records that a depth fits, and so does a position of a sequence.
         let _few = track.len();
         let _length = length_of(genome, seq);
         put_region(
-            shown,
+            output,
             &self.changes,
             genome,
             seq,

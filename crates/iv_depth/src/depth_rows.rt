@@ -18,7 +18,7 @@ use std::alloc::Allocator;
 
 /// Which rows say how many records cover each position, as the options of `bedtools genomecov` do.
 #[derive(Clone, Copy, Debug, PartialEq, Eq)]
-pub enum DepthRows {
+pub enum DepthOutput {
     /// `-bg`: a row for each maximal interval of one depth above 0.
     Covered,
     /// `-bga`: a row for each maximal interval of one depth, also of depth 0.
@@ -31,28 +31,28 @@ pub enum DepthRows {
 ///
 /// There are none if `stop` is not after `start`.
 pub(crate) fn put_stretch<S: Sink>(
-    shown: DepthRows,
+    output: DepthOutput,
     name: &[u8],
     start: u64,
     stop: u64,
     depth: u64,
     sink: &mut S,
 ) -> Result<(), WriteFault>
-    ensures { Puts (S.state sink.old) (S.state sink.new) result (rows_between shown name.now (λ _. depth) start stop) }
+    ensures { Puts (S.state sink.old) (S.state sink.new) result (rows_between output name.now (λ _. depth) start stop) }
 {
     if start >= stop {
         return Ok(());
     }
-    match shown {
-        DepthRows::Covered => {
+    match output {
+        DepthOutput::Covered => {
             if depth == 0 {
                 Ok(())
             } else {
                 put_run(name, start, stop, depth, sink)
             }
         }
-        DepthRows::All => put_run(name, start, stop, depth, sink),
-        DepthRows::EachPosition => put_positions(name, start, stop, depth, sink),
+        DepthOutput::All => put_run(name, start, stop, depth, sink),
+        DepthOutput::EachPosition => put_positions(name, start, stop, depth, sink),
     }
 }
 
@@ -105,7 +105,7 @@ fn put_position<S: Sink>(
 
 /// Puts the rows of the sequence of this rank. At most one step for each change on it, and no memory.
 pub(crate) fn put_sequence<A: Allocator + Copy, C: DepthChanges, S: Sink>(
-    shown: DepthRows,
+    output: DepthOutput,
     genome: &Genome<A>,
     rank: u32,
     changes: &mut C,
@@ -113,7 +113,7 @@ pub(crate) fn put_sequence<A: Allocator + Copy, C: DepthChanges, S: Sink>(
     sink: &mut S,
 ) -> Result<(), WriteFault>
     requires { (f : ℕ → ℕ → ℕ) × C.are_of changes.old genome.now f rank 0 0 }
-    ensures text { (f : ℕ → ℕ → ℕ) → C.are_of changes.old genome.now f rank 0 0 → Puts (S.state sink.old) (S.state sink.new) result (sequence_text shown genome.now f rank) }
+    ensures text { (f : ℕ → ℕ → ℕ) → C.are_of changes.old genome.now f rank 0 0 → Puts (S.state sink.old) (S.state sink.new) result (sequence_text output genome.now f rank) }
     ensures past { (f : ℕ → ℕ → ℕ) → C.are_of changes.old genome.now f rank 0 0 → OnOk result (C.are_past changes.new genome.now f (rank + 1)) }
     ensures steps { TakesForEach (C.reading meter.old) (C.reading meter.new) (C.left changes.old) (C.left changes.new) }
 {
@@ -122,28 +122,28 @@ pub(crate) fn put_sequence<A: Allocator + Copy, C: DepthChanges, S: Sink>(
     let mut start: u64 = 0;
     let mut depth: i64 = 0;
     while let Some((stop, change)) = changes.next_on(rank, meter) {
-        put_stretch(shown, name, start, stop, depth.unsigned_abs(), sink)?;
+        put_stretch(output, name, start, stop, depth.unsigned_abs(), sink)?;
         start = stop;
         depth += change;
     }
-    put_stretch(shown, name, start, length, depth.unsigned_abs(), sink)
+    put_stretch(output, name, start, length, depth.unsigned_abs(), sink)
 }
 
 /// Puts the rows of all sequences, by rank. At most two steps more than there are changes, and no memory.
 pub(crate) fn put_genome<A: Allocator + Copy, S: Sink>(
-    shown: DepthRows,
+    output: DepthOutput,
     changes: &Changes<A>,
     genome: &Genome<A>,
     meter: &mut Meter,
     sink: &mut S,
 ) -> Result<(), WriteFault>
     requires { AreAhead genome.now (depth_by changes.now) 0 0 0 changes.now }
-    ensures text { Puts (S.state sink.old) (S.state sink.new) result (text_by shown genome.now (depth_by changes.now)) }
+    ensures text { Puts (S.state sink.old) (S.state sink.new) result (text_by output genome.now (depth_by changes.now)) }
     ensures steps { TakesUpTo meter.old meter.new (2 + length changes.now) }
 {
-    let mut coming = ChangeCursor::of(changes, meter);
+    let mut changes_left = ChangeCursor::of(changes, meter);
     for rank in 0..genome.count() {
-        put_sequence(shown, genome, rank, &mut coming, meter, sink)?;
+        put_sequence(output, genome, rank, &mut changes_left, meter, sink)?;
     }
     Ok(())
 }

@@ -3,15 +3,15 @@ ghost use Rattle.std.specs.Prelude.{◌≡◌, ◌≤◌, All, IfOk, length};
 ghost use Rattle.iv_bytes.specs.Sinks.{Puts};
 ghost use Rattle.iv_text.specs.Ordered.{AreInOrder};
 ghost use Rattle.iv_text.specs.Read.{IsOnGenome};
-ghost use Rattle.iv_index.specs.Inside.Spans.{span_records};
+ghost use Rattle.iv_locators.specs.Inside.Spans.{span_records};
 ghost use Rattle.iv_depth.specs.Inside.Texts.{depth_text};
 ghost use Rattle.iv_depth.specs.Inside.Edges.{AreStopsOf};
 
 use crate::change_cursor::DepthChanges;
-use crate::depth_rows::{DepthRows, put_sequence};
+use crate::depth_rows::{DepthOutput, put_sequence};
 use crate::edges::Edges;
 use iv_bytes::{Sink, WriteFault};
-use iv_index::{Span, order_nearly, split_sequence};
+use iv_locators::{Span, order_nearly, split_sequence};
 use iv_text::Genome;
 use std::alloc::{AllocError, Allocator, Global};
 use std::marker::Model;
@@ -46,7 +46,7 @@ pub struct DepthSweep<'s, A: Allocator = Global> {
 impl<'s, A: Allocator> Model for DepthSweep<'s, A> {
     ghost use Rattle.std.specs.Prelude.{List, ◌≡◌, length};
     ghost use Rattle.iv_text.specs.RecordValue.{RecordValue};
-    ghost use Rattle.iv_index.specs.Inside.Spans.{span_records};
+    ghost use Rattle.iv_locators.specs.Inside.Spans.{span_records};
 
     ghost Value = { List RecordValue };
 
@@ -71,22 +71,22 @@ impl<'s, A: Allocator + Copy> DepthSweep<'s, A> {
     /// prefix of the text.
     pub fn print<S: Sink>(
         &mut self,
-        shown: DepthRows,
+        output: DepthOutput,
         genome: &Genome<A>,
         sink: &mut S,
     ) -> Result<(), WriteFault>
         requires order { AreInOrder self.old }
         requires on_genome { All (IsOnGenome genome.now) self.old }
-        ensures text { Puts (S.state sink.old) (S.state sink.new) result (depth_text shown genome.now self.old) }
+        ensures text { Puts (S.state sink.old) (S.state sink.new) result (depth_text output genome.now self.old) }
         ensures same { self.new ≡ self.old }
     {
-        put_genome(shown, genome, self.spans, self.stops.as_mut_slice(), sink)
+        put_genome(output, genome, self.spans, self.stops.as_mut_slice(), sink)
     }
 }
 
 /// Puts the rows of all sequences, by rank. The stops are room to work in, one for each record.
 fn put_genome<A: Allocator + Copy, S: Sink>(
-    shown: DepthRows,
+    output: DepthOutput,
     genome: &Genome<A>,
     spans: &[Span],
     stops: &mut [u32],
@@ -95,7 +95,7 @@ fn put_genome<A: Allocator + Copy, S: Sink>(
     requires order { AreInOrder (span_records spans.now) }
     requires on_genome { All (IsOnGenome genome.now) (span_records spans.now) }
     requires room { length spans.now ≤ length stops.old }
-    ensures text { Puts (S.state sink.old) (S.state sink.new) result (depth_text shown genome.now (span_records spans.now)) }
+    ensures text { Puts (S.state sink.old) (S.state sink.new) result (depth_text output genome.now (span_records spans.now)) }
     ensures room { length stops.new ≡ length stops.old }
 {
     let mut left = spans;
@@ -107,7 +107,7 @@ fn put_genome<A: Allocator + Copy, S: Sink>(
             starts,
             stops: room,
         };
-        put_sequence(shown, genome, rank, &mut edges, &mut (), sink)?;
+        put_sequence(output, genome, rank, &mut edges, &mut (), sink)?;
         left = later;
     }
     Ok(())

@@ -2,7 +2,7 @@
 ghost use Rattle.std.specs.Prelude.{◌≡◌, ◌+◌, ◌<◌, ◌≤◌, ℕ, [], MatchOption, OnSome, length, map};
 ghost use Rattle.iv_depth.specs.Inside.Edges.{BeginsElse, GivesChange, IsLeast, Passes, Rise, edge_count};
 
-use iv_index::Span;
+use iv_locators::Span;
 use std::marker::Model;
 
 /// An item that is at a position: an interval is at its start, and a number at itself.

@@ -12,6 +12,6 @@ mod net_changes;
 mod region;
 
 pub use depth::Depth;
-pub use depth_rows::DepthRows;
+pub use depth_rows::DepthOutput;
 pub use depth_sweep::DepthSweep;
 pub use lemmas::{covered_rows_hold_covered_positions, depth_rows_tile_a_sequence};

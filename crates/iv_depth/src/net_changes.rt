@@ -4,7 +4,7 @@ ghost use Rattle.std.specs.Iterator.{at_most};
 ghost use Rattle.iv_depth.specs.Inside.NetChanges.{AreEdgesOf, GivesKeyChange, key_of, change_key_of};
 
 use crate::edges::Edges;
-use iv_index::order_neighbors;
+use iv_locators::order_neighbors;
 use iv_track::{Meter, Track};
 use std::alloc::{AllocError, Allocator};
 
@@ -19,17 +19,17 @@ pub(crate) fn edges_of<A: Allocator + Copy>(
     track: &Track<A>,
     meter: &mut Meter,
 ) -> Result<(Vec<u64, A>, Vec<u64, A>), AllocError>
-    ensures { IfOk result (λ edges. AreEdgesOf track.now.rows edges.0.items edges.1.items) }
+    ensures { IfOk result (λ edges. AreEdgesOf track.now.records edges.0.items edges.1.items) }
 {
     let len = track.len() as usize;
     let mut starts = Vec::with_capacity(alloc, len)?;
     let mut stops = Vec::with_capacity(alloc, len)?;
-    let mut rows = track.walk(0, 0, meter);
-    while let Some(row) = rows.next(meter) {
-        let row = row.as_ref();
-        row.lemma_of_interval();
-        starts.push(packed(row.seq(), row.start() as u32))?;
-        stops.push(packed(row.seq(), row.stop() as u32))?;
+    let mut records = track.walk(0, 0, meter);
+    while let Some(feature) = records.next(meter) {
+        let feature = feature.as_ref();
+        feature.lemma_of_interval();
+        starts.push(packed(feature.seq(), feature.start() as u32))?;
+        stops.push(packed(feature.seq(), feature.stop() as u32))?;
     }
     starts.sort_unstable();
     order_neighbors(&mut stops, |before, here| *before > *here);

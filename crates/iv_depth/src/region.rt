@@ -10,7 +10,7 @@ ghost use Rattle.iv_depth.specs.Inside.RunRows.{run_rows};
 ghost use Rattle.iv_depth.specs.Inside.Walks.{depth_by};
 
 use crate::changes::Changes;
-use crate::depth_rows::{DepthRows, put_positions, put_stretch};
+use crate::depth_rows::{DepthOutput, put_positions, put_stretch};
 use iv_bytes::{Sink, WriteFault};
 use iv_text::Genome;
 use iv_track::{Meter, Walk};
@@ -64,7 +64,7 @@ fn run_stop<A: Allocator + Copy>(
 
 /// Puts the rows of a run from `from` to `to`: its own row, or those of its positions in the region.
 fn put_run_in<S: Sink>(
-    shown: DepthRows,
+    output: DepthOutput,
     name: &[u8],
     depth: u64,
     start: u64,
@@ -73,13 +73,13 @@ fn put_run_in<S: Sink>(
     to: u64,
     sink: &mut S,
 ) -> Result<(), WriteFault>
-    ensures { Puts (S.state sink.old) (S.state sink.new) result (run_rows shown name.now depth start stop from to) }
+    ensures { Puts (S.state sink.old) (S.state sink.new) result (run_rows output name.now depth start stop from to) }
 {
-    match shown {
-        DepthRows::EachPosition => {
+    match output {
+        DepthOutput::EachPosition => {
             put_positions(name, from.max(start), to.min(stop), depth, sink)
         }
-        DepthRows::Covered | DepthRows::All => put_stretch(shown, name, from, to, depth, sink),
+        DepthOutput::Covered | DepthOutput::All => put_stretch(output, name, from, to, depth, sink),
     }
 }
 
@@ -87,7 +87,7 @@ fn put_run_in<S: Sink>(
 ///
 /// At most 3 steps, and 2 more for each row of a depth above 0. It takes no memory.
 pub(crate) fn put_region<A: Allocator + Copy, S: Sink>(
-    shown: DepthRows,
+    output: DepthOutput,
     changes: &Changes<A>,
     genome: &Genome<A>,
     rank: u32,
@@ -101,7 +101,7 @@ pub(crate) fn put_region<A: Allocator + Copy, S: Sink>(
     requires some { start < stop }
     requires within { stop ≤ sequence_length genome.now rank }
     requires at { at ≡ pos (depth_by changes.now rank start) }
-    ensures text { Puts (S.state sink.old) (S.state sink.new) result (rows_in shown (sequence_name genome.now rank) (depth_by changes.now rank) (sequence_length genome.now rank) start stop) }
+    ensures text { Puts (S.state sink.old) (S.state sink.new) result (rows_in output (sequence_name genome.now rank) (depth_by changes.now rank) (sequence_length genome.now rank) start stop) }
     ensures steps { TakesUpTo meter.old meter.new (3 + 2 * length (covered_runs_in (depth_by changes.now rank) (sequence_length genome.now rank) start stop)) }
 {
     let name = genome.name_of(rank);
@@ -112,7 +112,7 @@ pub(crate) fn put_region<A: Allocator + Copy, S: Sink>(
     while from < stop {
         let (to, change) = run_stop(&mut left, rank, length, meter);
         put_run_in(
-            shown,
+            output,
             name,
             depth.unsigned_abs(),
             start as u64,

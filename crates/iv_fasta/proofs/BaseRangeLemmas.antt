@@ -66,10 +66,10 @@ range-range bases from to start stop order within =
     ∙ ap (λ n. take n (drop (from + start) bases)) long
 
 -- the part of a sequence's bases that is asked for
-pub part-is : (fasta : Bases) (places : List (Option BaseRange)) (bases shown : List ℕ) (seq start stop from to : ℕ) (place : BaseRange) → placed places bases ≡ fasta → shown ≡ bases
+pub part-is : (fasta : Bases) (places : List (Option BaseRange)) (bases output : List ℕ) (seq start stop from to : ℕ) (place : BaseRange) → placed places bases ≡ fasta → output ≡ bases
     → All (IsPlacedWithin (length bases)) places → Some place ≡ unwrap_or (slice_get places seq) None → to ≡ min (place.stop - place.start) stop → from ≡ min to start
-    → Some (slice_range shown (place.start + from) (place.start + to)) ≡ option_map (λ b. slice_range b start stop) (bases_of fasta seq)
-part-is fasta places bases shown seq start stop from to place view same all at cut_to cut_from =
+    → Some (slice_range output (place.start + from) (place.start + to)) ≡ option_map (λ b. slice_range b start stop) (bases_of fasta seq)
+part-is fasta places bases output seq start stop from to place view same all at cut_to cut_from =
     let there : bases_of fasta seq ≡ Some (bases_at bases place) = ap (λ (f : Bases). bases_of f seq) (sym view) ∙ placed-at places bases seq place at in
     let is_placed : EndsWithin (length bases) place = is_placed-at places (length bases) seq place (slice_get places seq) all refl at in
     let long : length (bases_at bases place) ≡ place.stop - place.start = length-between bases place.start place.stop is_placed.in_bounds in

@@ -52,18 +52,18 @@ abbrev on : Strand → ℕ → ℕ → ℕ → RecordValue
 on strand seq start stop = record { seq = seq; start = start; stop = stop; name = codes "n"; score = codes "0"; strand = Some strand; width = 6 }
 
 -- the FASTA file lacks the sequence of the last one
-abbrev rows : List RecordValue
-rows = on Minus 0 2 6 ∷ on Dot 0 2 6 ∷ on Minus 0 9 10 ∷ on Plus 1 0 5 ∷ []
+abbrev records : List RecordValue
+records = on Minus 0 2 6 ∷ on Dot 0 2 6 ∷ on Minus 0 9 10 ∷ on Plus 1 0 5 ∷ []
 
-pub plain-rows : fasta_text (record { stranded = false; tab = false }) g fasta rows ≡ codes ">s:2-6\nGTNa\n>s:2-6\nGTNa\n>s:9-10\nR\n"
+pub plain-rows : fasta_text (record { stranded = false; tab = false }) g fasta records ≡ codes ">s:2-6\nGTNa\n>s:2-6\nGTNa\n>s:9-10\nR\n"
 unfolding digits
 plain-rows = refl
 
-pub strand-rows : fasta_text (record { stranded = true; tab = false }) g fasta rows ≡ codes ">s:2-6(-)\ntNAC\n>s:2-6(.)\nGTNa\n>s:9-10(-)\nY\n"
+pub strand-rows : fasta_text (record { stranded = true; tab = false }) g fasta records ≡ codes ">s:2-6(-)\ntNAC\n>s:2-6(.)\nGTNa\n>s:9-10(-)\nY\n"
 unfolding digits
 strand-rows = refl
 
-pub tab-rows : fasta_text (record { stranded = true; tab = true }) g fasta rows ≡ codes "s:2-6(-)\ttNAC\ns:2-6(.)\tGTNa\ns:9-10(-)\tY\n"
+pub tab-rows : fasta_text (record { stranded = true; tab = true }) g fasta records ≡ codes "s:2-6(-)\ttNAC\ns:2-6(.)\tGTNa\ns:9-10(-)\tY\n"
 unfolding digits
 tab-rows = refl
 

@@ -6,7 +6,7 @@ use Rattle.iv_text.specs.Chains.{if_ok}
 use Rattle.iv_text.specs.Genome.{Sequences}
 use Rattle.iv_text.specs.declared.fault.LoadFault.{LoadFault}
 use Rattle.iv_fasta.specs.Fasta.{Bases, fasta_of}
-use Rattle.iv_fasta.specs.FastaReading.{Draft, Progress, Reading, Wanted, said, ended, coming, only_or_fault}
+use Rattle.iv_fasta.specs.FastaReading.{Draft, Progress, Reading, Wanted, said, ended, read_on, only_or_fault}
 use Rattle.iv_fasta.specs.Inside.Drafts.{Reads}
 use Rattle.iv_fasta.proofs.SummaryLemmas.{only-all-or-fault}
 
@@ -16,7 +16,7 @@ module _ (g : Sequences) where
 
   -- bytes were read of which the rest waits
   pub taken-so : (old : Reading) (q : Progress) (bytes tail : List ℕ) (size : ℕ) → old.tail ≡ [] → q.wanted ≡ old.read.wanted → Reads g old.read q bytes size false → tail ≡ drop size bytes
-      → (more : List ℕ) → coming g old (bytes ++ more) ≡ coming g (record { read = q; tail = tail }) more
+      → (more : List ℕ) → read_on g old (bytes ++ more) ≡ read_on g (record { read = q; tail = tail }) more
   taken-so old q bytes tail size none same reads is more =
       ap (λ (t : List ℕ). outcome old.read.wanted (said g old.read (t ++ (bytes ++ more)))) none
       ∙ ap (outcome old.read.wanted) (reads more (λ e. absurd (false≢true e)))
@@ -25,18 +25,18 @@ module _ (g : Sequences) where
 
   -- or the file is refused
   pub refused-so : (old : Reading) (bytes : List ℕ) (f : LoadFault) → old.tail ≡ [] → ((more : List ℕ) → (false ≡ true → more ≡ []) → said g old.read (bytes ++ more) ≡ Err f)
-      → (more : List ℕ) → coming g old (bytes ++ more) ≡ Err f
+      → (more : List ℕ) → read_on g old (bytes ++ more) ≡ Err f
   refused-so old bytes f none refused more =
       ap (λ (t : List ℕ). outcome old.read.wanted (said g old.read (t ++ (bytes ++ more)))) none
       ∙ ap (outcome old.read.wanted) (refused more (λ e. absurd (false≢true e)))
 
   -- bytes wait behind others
-  pub kept-so : (p : Progress) (tail bytes more : List ℕ) → coming g (record { read = p; tail = tail }) (bytes ++ more) ≡ coming g (record { read = p; tail = tail ++ bytes }) more
+  pub kept-so : (p : Progress) (tail bytes more : List ℕ) → read_on g (record { read = p; tail = tail }) (bytes ++ more) ≡ read_on g (record { read = p; tail = tail ++ bytes }) more
   kept-so p tail bytes more = ap (λ (t : List ℕ). outcome p.wanted (said g p t)) (sym (append_assoc tail bytes more))
 
   -- bytes that waited are taken with the first ones of a piece
   pub carried-so : (p : Progress) (tail none line piece more : List ℕ) (size : ℕ) → none ≡ [] → line ≡ tail ++ take size piece
-      → coming g (record { read = p; tail = tail }) (piece ++ more) ≡ coming g (record { read = p; tail = none }) (line ++ (drop size piece ++ more))
+      → read_on g (record { read = p; tail = tail }) (piece ++ more) ≡ read_on g (record { read = p; tail = none }) (line ++ (drop size piece ++ more))
   carried-so p tail none line piece more size empty is =
       ap (λ (t : List ℕ). outcome p.wanted (said g p (tail ++ t))) (ap (λ (t : List ℕ). t ++ more) (sym (take-append-drop size piece)) ∙ append_assoc (take size piece) (drop size piece) more)
       ∙ ap (λ (t : List ℕ). outcome p.wanted (said g p t)) (sym (append_assoc tail (take size piece) (drop size piece ++ more)))
@@ -51,16 +51,16 @@ module _ (g : Sequences) where
       by false = refl
 
   -- the bytes that waited are the last ones
-  pub finished-so : (r : Reading) (q : Progress) (size : ℕ) → q.wanted ≡ r.read.wanted → size ≡ length r.tail → Reads g r.read q r.tail size true → coming g r [] ≡ ended g q.wanted q.draft.sequences
+  pub finished-so : (r : Reading) (q : Progress) (size : ℕ) → q.wanted ≡ r.read.wanted → size ≡ length r.tail → Reads g r.read q r.tail size true → read_on g r [] ≡ ended g q.wanted q.draft.sequences
   finished-so r q size same all reads =
       ap (outcome r.read.wanted) (reads [] (λ e. refl))
       ∙ ap (λ (t : List ℕ). outcome r.read.wanted (said g q t)) (append-nil (drop size r.tail) ∙ drop_all size r.tail (omega (arith, all)))
       ∙ ap (outcome r.read.wanted) (said-end q)
       ∙ ap (λ (w : Wanted). ended g w q.draft.sequences) (sym same)
 
-  pub refused-last : (r : Reading) (f : LoadFault) → ((more : List ℕ) → (true ≡ true → more ≡ []) → said g r.read (r.tail ++ more) ≡ Err f) → coming g r [] ≡ Err f
+  pub refused-last : (r : Reading) (f : LoadFault) → ((more : List ℕ) → (true ≡ true → more ≡ []) → said g r.read (r.tail ++ more) ≡ Err f) → read_on g r [] ≡ Err f
   refused-last r f refused = ap (outcome r.read.wanted) (refused [] (λ e. refl))
 
   -- a whole text is read as one piece
-  pub text-so : (old : Reading) (text : List ℕ) → ((text : List ℕ) → coming g old text ≡ only_or_fault None (fasta_of g text)) → coming g old (text ++ []) ≡ fasta_of g text
-  text-so old text begun = ap (coming g old) (append-nil text) ∙ begun text ∙ only-all-or-fault (fasta_of g text)
+  pub text-so : (old : Reading) (text : List ℕ) → ((text : List ℕ) → read_on g old text ≡ only_or_fault None (fasta_of g text)) → read_on g old (text ++ []) ≡ fasta_of g text
+  text-so old text begun = ap (read_on g old) (append-nil text) ∙ begun text ∙ only-all-or-fault (fasta_of g text)

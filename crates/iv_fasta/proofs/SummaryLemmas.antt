@@ -194,8 +194,8 @@ module _ (g : Sequences) (wanted : Wanted) where
   along-ended (Err f) ranked = refl
 
   -- what comes of a text of which nothing was read
-  pub text-coming : (text : List ℕ) → AreRanked g → if_ok (said g (begun_with wanted) text) (λ d. ended g wanted d.sequences) ≡ only_or_fault wanted (fasta_of g text)
-  text-coming text ranked = ap (λ (r : Result Draft LoadFault). if_ok r (λ d. ended g wanted d.sequences)) (lines-along 1 [] (lines text)) ∙ along-ended (after_fasta_lines 1 [] (lines text)) ranked
+  pub text-remaining : (text : List ℕ) → AreRanked g → if_ok (said g (begun_with wanted) text) (λ d. ended g wanted d.sequences) ≡ only_or_fault wanted (fasta_of g text)
+  text-remaining text ranked = ap (λ (r : Result Draft LoadFault). if_ok r (λ d. ended g wanted d.sequences)) (lines-along 1 [] (lines text)) ∙ along-ended (after_fasta_lines 1 [] (lines text)) ranked
 
 -- ---- the bases of the wanted sequences
 

@@ -125,8 +125,8 @@ pub record Reading : Type 0 where
   pub tail : List ℕ
 
 -- the bases of the wanted sequences once these remaining bytes are read, or the file's first fault
-abbrev pub coming : Sequences → Reading → List ℕ → Result Bases LoadFault
-coming g r more = if_ok (said g r.read (r.tail ++ more)) (λ d. ended g r.read.wanted d.sequences)
+abbrev pub read_on : Sequences → Reading → List ℕ → Result Bases LoadFault
+read_on g r more = if_ok (said g r.read (r.tail ++ more)) (λ d. ended g r.read.wanted d.sequences)
 
 -- more than the number of lines that were read and of bases in them, and at most one more than the number of bytes
 abbrev pub size_of : Reading → ℕ

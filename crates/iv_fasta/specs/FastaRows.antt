@@ -7,7 +7,7 @@ use Rattle.iv_text.specs.declared.record_ref.Strand.{Strand}
 use Rattle.iv_text.specs.declared.record_ref.Strand.TheVariants.{Minus}
 use Rattle.iv_fasta.specs.Complement.{complement}
 use Rattle.iv_fasta.specs.Fasta.{Bases, bases_of}
-use Rattle.iv_fasta.specs.declared.rows.FastaRows.{FastaRows}
+use Rattle.iv_fasta.specs.declared.rows.FastaOutput.{FastaOutput}
 
 -- a strand in round brackets, nothing if a record has none
 abbrev pub bracketed : Option Strand → List ℕ
@@ -15,12 +15,12 @@ bracketed None = []
 bracketed (Some s) = codes "(" ++ strand_byte s ∷ codes ")"
 
 -- the strand of a record if strands are shown
-abbrev pub shown_strand : FastaRows → RecordValue → Option Strand
-shown_strand shown r = if shown.stranded then r.strand else None
+abbrev pub shown_strand : FastaOutput → RecordValue → Option Strand
+shown_strand output r = if output.stranded then r.strand else None
 
 -- the head of a record: its sequence, its interval, and the strand if it is shown
-abbrev pub head : FastaRows → Sequences → RecordValue → List ℕ
-head shown g r = sequence_name g r.seq ++ codes ":" ++ decimal r.start ++ codes "-" ++ decimal r.stop ++ bracketed (shown_strand shown r)
+abbrev pub head : FastaOutput → Sequences → RecordValue → List ℕ
+head output g r = sequence_name g r.seq ++ codes ":" ++ decimal r.start ++ codes "-" ++ decimal r.stop ++ bracketed (shown_strand output r)
 
 -- the bases that are shown of those that a record covers, by the strand that is shown of it: on `-` they are read backwards, and each
 -- is its complement
@@ -29,18 +29,18 @@ shown_bases (Some Minus) bases = map complement (reverse bases)
 shown_bases other bases = bases
 
 -- a head and its bases: on one line, separated by a TAB; or each on a line of its own, and `>` before the head
-abbrev pub framed : FastaRows → List ℕ → List ℕ → List ℕ
-framed shown heading bases =
-    if shown.tab then heading ++ codes "\t" ++ bases ++ codes "\n"
+abbrev pub framed : FastaOutput → List ℕ → List ℕ → List ℕ
+framed output heading bases =
+    if output.tab then heading ++ codes "\t" ++ bases ++ codes "\n"
     else codes ">" ++ heading ++ codes "\n" ++ bases ++ codes "\n"
 
 -- the row of a record: nothing if the file lacks its sequence
-abbrev pub fasta_rows : FastaRows → Sequences → Bases → RecordValue → List ℕ
-fasta_rows shown g fasta r = elim (bases_of fasta r.seq) [
+abbrev pub fasta_rows : FastaOutput → Sequences → Bases → RecordValue → List ℕ
+fasta_rows output g fasta r = elim (bases_of fasta r.seq) [
   | None ↦ []
-  | Some bases ↦ framed shown (head shown g r) (shown_bases (shown_strand shown r) (slice_range bases r.start r.stop))
+  | Some bases ↦ framed output (head output g r) (shown_bases (shown_strand output r) (slice_range bases r.start r.stop))
 ]
 
 -- all rows: those of each record, in the order of the list
-abbrev pub fasta_text : FastaRows → Sequences → Bases → List RecordValue → List ℕ
-fasta_text shown g fasta rows = flat_map (fasta_rows shown g fasta) rows
+abbrev pub fasta_text : FastaOutput → Sequences → Bases → List RecordValue → List ℕ
+fasta_text output g fasta records = flat_map (fasta_rows output g fasta) records

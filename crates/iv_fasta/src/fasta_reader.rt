@@ -4,7 +4,7 @@ ghost use Rattle.std.specs.Option.{option_map};
 ghost use Rattle.iv_text.specs.Genome.{Sequences, AreRanked};
 ghost use Rattle.iv_text.specs.declared.fault.LoadCause.TheVariants as cause;
 ghost use Rattle.iv_fasta.specs.Fasta.{fasta_of};
-ghost use Rattle.iv_fasta.specs.FastaReading.{coming, only_or_fault, size_of};
+ghost use Rattle.iv_fasta.specs.FastaReading.{read_on, only_or_fault, size_of};
 
 use crate::fasta::Fasta;
 use crate::fasta_draft::FastaDraft;
@@ -56,7 +56,7 @@ fn keep<A: Allocator>(tail: &mut Vec<u8, A>, bytes: &[u8]) -> Result<(), LoadFau
 impl<A: Allocator + Copy> FastaReader<A> {
     /// A file of which no byte was read. Wanted are the sequences of those ranks at which a list says so, or without a list all.
     pub fn new(alloc: A, wanted: Option<Vec<bool, A>>) -> Self
-        ensures coming { (g : Sequences) (text : List ℕ) → AreRanked g → coming g result text ≡ only_or_fault (option_map (λ ranks. ranks.items) wanted) (fasta_of g text) }
+        ensures read_on { (g : Sequences) (text : List ℕ) → AreRanked g → read_on g result text ≡ only_or_fault (option_map (λ ranks. ranks.items) wanted) (fasta_of g text) }
         ensures size { size_of result ≡ 1 }
     {
         FastaReader {
@@ -74,8 +74,8 @@ impl<A: Allocator + Copy> FastaReader<A> {
     pub fn take_piece(&mut self, genome: &Genome<A>, piece: &[u8]) -> Result<(), LoadFault>
         requires few { size_of self.old + length piece.now < 2 ^ 64 }
         ensures few { OnOk result (size_of self.new ≤ size_of self.old + length piece.now) }
-        ensures ok { OnOk result ((more : List ℕ) → coming genome.now self.old (piece.now ++ more) ≡ coming genome.now self.new more) }
-        ensures err { IfErr result (λ f. (f ≡ record { line = 0; cause = cause.Memory }) ⊎ ((more : List ℕ) → coming genome.now self.old (piece.now ++ more) ≡ Err f)) }
+        ensures ok { OnOk result ((more : List ℕ) → read_on genome.now self.old (piece.now ++ more) ≡ read_on genome.now self.new more) }
+        ensures err { IfErr result (λ f. (f ≡ record { line = 0; cause = cause.Memory }) ⊎ ((more : List ℕ) → read_on genome.now self.old (piece.now ++ more) ≡ Err f)) }
     {
         let ended = self.end_line(genome, piece)?;
         let rest = &piece[ended..];
@@ -93,8 +93,8 @@ impl<A: Allocator + Copy> FastaReader<A> {
         requires few { size_of self.old + length piece.now < 2 ^ 64 }
         ensures within { IfOk result (λ size. size ≤ length piece.now) }
         ensures few { IfOk result (λ size. size_of self.new ≤ size_of self.old + size) }
-        ensures ok { IfOk result (λ size. (more : List ℕ) → coming genome.now self.old (piece.now ++ more) ≡ coming genome.now self.new (drop size piece.now ++ more)) }
-        ensures err { IfErr result (λ f. (f ≡ record { line = 0; cause = cause.Memory }) ⊎ ((more : List ℕ) → coming genome.now self.old (piece.now ++ more) ≡ Err f)) }
+        ensures ok { IfOk result (λ size. (more : List ℕ) → read_on genome.now self.old (piece.now ++ more) ≡ read_on genome.now self.new (drop size piece.now ++ more)) }
+        ensures err { IfErr result (λ f. (f ≡ record { line = 0; cause = cause.Memory }) ⊎ ((more : List ℕ) → read_on genome.now self.old (piece.now ++ more) ≡ Err f)) }
     {
         if self.tail.is_empty() {
             return Ok(0);
@@ -114,8 +114,8 @@ impl<A: Allocator + Copy> FastaReader<A> {
         requires none { self.old.tail ≡ [] }
         requires few { size_of self.old + length bytes.now < 2 ^ 64 }
         ensures few { OnOk result (size_of self.new ≤ size_of self.old + length bytes.now) }
-        ensures ok { OnOk result ((more : List ℕ) → coming genome.now self.old (bytes.now ++ more) ≡ coming genome.now self.new more) }
-        ensures err { IfErr result (λ f. (f ≡ record { line = 0; cause = cause.Memory }) ⊎ ((more : List ℕ) → coming genome.now self.old (bytes.now ++ more) ≡ Err f)) }
+        ensures ok { OnOk result ((more : List ℕ) → read_on genome.now self.old (bytes.now ++ more) ≡ read_on genome.now self.new more) }
+        ensures err { IfErr result (λ f. (f ≡ record { line = 0; cause = cause.Memory }) ⊎ ((more : List ℕ) → read_on genome.now self.old (bytes.now ++ more) ≡ Err f)) }
     {
         let taken = self.draft.take_text(self.alloc, genome, bytes, false)?;
         keep(&mut self.tail, &bytes[taken..])?;
@@ -129,8 +129,8 @@ impl<A: Allocator + Copy> FastaReader<A> {
     /// The fault of the last line, or that of the first sequence with another length than the genome's, or an allocation failed.
     pub fn finish(self, genome: &Genome<A>) -> Result<Fasta<A>, LoadFault>
         requires few { size_of self < 2 ^ 64 }
-        ensures ok { IfOk result (λ fasta. coming genome.now self [] ≡ Ok fasta) }
-        ensures err { IfErr result (λ f. (f ≡ record { line = 0; cause = cause.Memory }) ⊎ (coming genome.now self [] ≡ Err f)) }
+        ensures ok { IfOk result (λ fasta. read_on genome.now self [] ≡ Ok fasta) }
+        ensures err { IfErr result (λ f. (f ≡ record { line = 0; cause = cause.Memory }) ⊎ (read_on genome.now self [] ≡ Err f)) }
     {
         let FastaReader {
             alloc,

@@ -8,7 +8,7 @@ ghost use Rattle.iv_text.specs.declared.fault.LoadFault.{LoadFault};
 ghost use Rattle.iv_fasta.specs.Fasta.{Bases, Found, fasta_of};
 ghost use Rattle.iv_fasta.specs.FastaReading.{Wanted, is_wanted, only};
 ghost use Rattle.iv_fasta.specs.FastaRows.{fasta_rows};
-ghost use Rattle.iv_fasta.specs.declared.rows.FastaRows.{FastaRows};
+ghost use Rattle.iv_fasta.specs.declared.rows.FastaOutput.{FastaOutput};
 ghost use Rattle.iv_fasta.specs.Inside.Drafts.{after_fasta_lines};
 ghost use Rattle.iv_fasta.specs.Inside.Fasta.{IsNewHeader, IsBaseLine, with_joined};
 ghost use Rattle.iv_fasta.specs.Inside.FastaMeaning.{line_cause, sequences_said, HaveRightLengths, IsFirstWrongLength, by_rank};
@@ -32,5 +32,5 @@ pub fn fasta_or_first_fault()
 
 /// The row of a record on a wanted sequence is the same if only the bases of the wanted sequences are held.
 pub fn wanted_rows_are_the_same()
-    ensures { (wanted : Wanted) (shown : FastaRows) (g : Sequences) (fasta : Bases) (r : RecordValue) → is_wanted wanted r.seq ≡ true → fasta_rows shown g (only wanted fasta) r ≡ fasta_rows shown g fasta r }
+    ensures { (wanted : Wanted) (output : FastaOutput) (g : Sequences) (fasta : Bases) (r : RecordValue) → is_wanted wanted r.seq ≡ true → fasta_rows output g (only wanted fasta) r ≡ fasta_rows output g fasta r }
 {}

@@ -13,4 +13,4 @@ mod rows;
 pub use fasta::Fasta;
 pub use fasta_reader::FastaReader;
 pub use lemmas::{fasta_or_first_fault, joined_lines_are_a_sequence, wanted_rows_are_the_same};
-pub use rows::{FastaRows, complement, put_fasta};
+pub use rows::{FastaOutput, complement, put_fasta};

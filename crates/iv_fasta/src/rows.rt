@@ -12,7 +12,7 @@ use std::alloc::Allocator;
 
 /// How getfasta shows records: the options `-s` and `-tab` of bedtools getfasta.
 #[derive(Clone, Copy, Debug, PartialEq, Eq)]
-pub struct FastaRows {
+pub struct FastaOutput {
     /// `-s`: the head shows the strand, and the bases of a record on `-` are read backwards and complemented.
     pub stranded: bool,
     /// `-tab`: head and bases are on one line, separated by a TAB.
@@ -29,29 +29,29 @@ const CHUNK: usize = 1024;
 /// bases of a record on `-` are read backwards and complemented. Columns after the third are asked for only with strands. It
 /// takes no memory. On a fault the sink has taken a prefix of the row.
 pub fn put_fasta<R: BedRecord, A: Allocator + Copy, S: Sink>(
-    shown: FastaRows,
+    output: FastaOutput,
     genome: &Genome<A>,
-    row: &R,
+    feature: &R,
     fasta: &Fasta<A>,
     sink: &mut S,
 ) -> Result<(), WriteFault>
-    ensures { Puts (S.state sink.old) (S.state sink.new) result (fasta_rows shown genome.now fasta.now (R.as_record row.now)) }
+    ensures { Puts (S.state sink.old) (S.state sink.new) result (fasta_rows output genome.now fasta.now (R.as_record feature.now)) }
 {
-    let Some(bases) = fasta.bases(row.seq(), row.start(), row.stop()) else {
+    let Some(bases) = fasta.bases(feature.seq(), feature.start(), feature.stop()) else {
         return Ok(());
     };
-    let strand = shown_strand(shown, row);
-    put_front(shown, genome, row, strand, sink)?;
+    let strand = shown_strand(output, feature);
+    put_front(output, genome, feature, strand, sink)?;
     put_bases(strand, bases, sink)?;
     put_all(sink, b"\n")
 }
 
 /// The strand of a record if strands are shown.
-fn shown_strand<R: BedRecord>(shown: FastaRows, row: &R) -> Option<Strand>
-    ensures { result ≡ strand_of shown (R.as_record row.now) }
+fn shown_strand<R: BedRecord>(output: FastaOutput, feature: &R) -> Option<Strand>
+    ensures { result ≡ strand_of output (R.as_record feature.now) }
 {
-    if shown.stranded {
-        row.to_ref().strand()
+    if output.stranded {
+        feature.to_ref().strand()
     } else {
         None
     }
@@ -59,45 +59,45 @@ fn shown_strand<R: BedRecord>(shown: FastaRows, row: &R) -> Option<Strand>
 
 /// Puts all of a row that is before its bases.
 fn put_front<R: BedRecord, A: Allocator + Copy, S: Sink>(
-    shown: FastaRows,
+    output: FastaOutput,
     genome: &Genome<A>,
-    row: &R,
+    feature: &R,
     strand: Option<Strand>,
     sink: &mut S,
 ) -> Result<(), WriteFault>
-    requires { strand ≡ strand_of shown (R.as_record row.now) }
-    ensures { Puts (S.state sink.old) (S.state sink.new) result (front shown genome.now (R.as_record row.now)) }
+    requires { strand ≡ strand_of output (R.as_record feature.now) }
+    ensures { Puts (S.state sink.old) (S.state sink.new) result (front output genome.now (R.as_record feature.now)) }
 {
-    let sequence = genome.name_of(row.seq());
+    let sequence = genome.name_of(feature.seq());
     let mut start = itoa::Buffer::new();
     let mut stop = itoa::Buffer::new();
     put_pieces(
         sink,
         &[
-            head_sign(shown),
+            head_sign(output),
             sequence,
             b":",
-            start.format(row.start()).as_bytes(),
+            start.format(feature.start()).as_bytes(),
             b"-",
-            stop.format(row.stop()).as_bytes(),
+            stop.format(feature.stop()).as_bytes(),
             strand_mark(strand),
-            head_end(shown),
+            head_end(output),
         ],
     )
 }
 
 /// What is before a head.
-fn head_sign<'t>(shown: FastaRows) -> &'t [u8]
-    ensures { result.now ≡ (if shown.tab then [] else codes ">") }
+fn head_sign<'t>(output: FastaOutput) -> &'t [u8]
+    ensures { result.now ≡ (if output.tab then [] else codes ">") }
 {
-    if shown.tab { b"" } else { b">" }
+    if output.tab { b"" } else { b">" }
 }
 
 /// What is between a head and its bases.
-fn head_end<'t>(shown: FastaRows) -> &'t [u8]
-    ensures { result.now ≡ (if shown.tab then codes "\t" else codes "\n") }
+fn head_end<'t>(output: FastaOutput) -> &'t [u8]
+    ensures { result.now ≡ (if output.tab then codes "\t" else codes "\n") }
 {
-    if shown.tab { b"\t" } else { b"\n" }
+    if output.tab { b"\t" } else { b"\n" }
 }
 
 /// What a head shows of a strand.

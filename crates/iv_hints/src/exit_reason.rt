@@ -147,7 +147,7 @@ fn put_columns<F: HintFiles>(
     hint: &mut Hint,
 ) -> Result<(), AllocError> {
     let (width, has_record) = width_of(alloc, plan, Slot::First, files)?;
-    put_missing_column(plan.view_words(), code, width, hint)?;
+    put_missing_column(plan.view_arguments(), code, width, hint)?;
     if has_record {
         return Ok(());
     }

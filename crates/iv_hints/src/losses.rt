@@ -131,10 +131,10 @@ fn put_fraction<F: HintFiles>(
     files: &mut F,
     hint: &mut Hint,
 ) -> Result<(), AllocError> {
-    let Some(columns) = value_after(plan.view_words(), b"-c") else {
+    let Some(columns) = value_after(plan.view_arguments(), b"-c") else {
         return Ok(());
     };
-    let operations = value_after(plan.view_words(), b"-o").unwrap_or(b"sum");
+    let operations = value_after(plan.view_arguments(), b"-o").unwrap_or(b"sum");
     let front = front_of(alloc, files, plan.first_file(), BYTES)?;
     for number in 0..16usize {
         let (Some(asked), Some(operation)) = (item(columns, number), item(operations, number))

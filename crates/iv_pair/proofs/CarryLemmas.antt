@@ -113,12 +113,12 @@ alike-itself seq start xs = λ s t stop on. refl
 pub kept-cover : (seq start : ℕ) (xs : List RecordValue) → AllCover seq start (filter (covers seq start) xs)
 kept-cover seq start xs = filter_passes (covers seq start) xs
 
-pub kept-alike : (seq start : ℕ) (xs rows whole : List RecordValue) → AllBegun seq start xs → HitAlike seq start (xs ++ rows) whole → HitAlike seq start (filter (covers seq start) xs ++ rows) whole
-kept-alike seq start xs rows whole begun h = λ s t stop on.
+pub kept-alike : (seq start : ℕ) (xs walk whole : List RecordValue) → AllBegun seq start xs → HitAlike seq start (xs ++ walk) whole → HitAlike seq start (filter (covers seq start) xs ++ walk) whole
+kept-alike seq start xs walk whole begun h = λ s t stop on.
     let p : RecordValue → Bool = overlaps s t stop in
-    filter-append p (filter (covers seq start) xs) rows
-    ∙ ap (λ (l : List RecordValue). l ++ filter p rows) (filter-implied p (covers seq start) xs (λ b m hit. begun-covers seq start s t stop b (all-mem (λ (q : RecordValue). IsOnward q.seq q.start seq start) xs begun b m) on hit))
-    ∙ sym (filter-append p xs rows)
+    filter-append p (filter (covers seq start) xs) walk
+    ∙ ap (λ (l : List RecordValue). l ++ filter p walk) (filter-implied p (covers seq start) xs (λ b m hit. begun-covers seq start s t stop b (all-mem (λ (q : RecordValue). IsOnward q.seq q.start seq start) xs begun b m) on hit))
+    ∙ sym (filter-append p xs walk)
     ∙ h s t stop on
 
 -- ---- one record more
@@ -138,9 +138,9 @@ alike-passed seq start b xs bs old begun not h = λ s t stop on.
 -- ---- from the root
 
 -- if no record is longer than n, the hits from a position on are among the records from its start less n on
-pub alike-anew : (rows : List RecordValue) (seq start from n : ℕ) → AreUpTo seq n rows → from ≤ start + 1 - n → HitAlike seq start (filter (is_from seq from) rows) rows
-alike-anew rows seq start from n up low = λ s t stop on.
-    filter-implied (overlaps s t stop) (is_from seq from) rows (λ q m is.
+pub alike-anew : (walk : List RecordValue) (seq start from n : ℕ) → AreUpTo seq n walk → from ≤ start + 1 - n → HitAlike seq start (filter (is_from seq from) walk) walk
+alike-anew walk seq start from n up low = λ s t stop on.
+    filter-implied (overlaps s t stop) (is_from seq from) walk (λ q m is.
     let parts = overlaps_parts s t stop q is in
     let here : q.seq ≡ s = parts.0 in
     let past : t < q.stop = parts.2 in
@@ -148,45 +148,45 @@ alike-anew rows seq start from n up low = λ s t stop on.
     pair_le seq q.seq from q.start (omega arith) (λ e.
     let same : seq ≡ s = omega (arith, e, here) in
     let next : start ≤ t = on.1 same in
-    let long : q.stop ≤ q.start + n = all-mem (λ (r : RecordValue). r.seq ≡ seq → r.stop ≤ r.start + n) rows up q m (sym e) in
+    let long : q.stop ≤ q.start + n = all-mem (λ (r : RecordValue). r.seq ≡ seq → r.stop ≤ r.start + n) walk up q m (sym e) in
     omega (arith, past, next, long, low)))
 
 -- ---- what is found
 
-pub found : (seq start stop : ℕ) (xs rows whole : List RecordValue) → start < stop → AllCover seq start xs → HitAlike seq start (xs ++ rows) whole → xs ++ hits rows seq start stop ≡ hits whole seq start stop
-found seq start stop xs rows whole some cover h =
+pub found : (seq start stop : ℕ) (xs walk whole : List RecordValue) → start < stop → AllCover seq start xs → HitAlike seq start (xs ++ walk) whole → xs ++ hits walk seq start stop ≡ hits whole seq start stop
+found seq start stop xs walk whole some cover h =
     let p : RecordValue → Bool = overlaps seq start stop in
-    ap (λ (l : List RecordValue). l ++ filter p rows) (sym (filter-all p xs (λ b m. cover-hit seq start stop b some (all-mem (λ (q : RecordValue). covers seq start q ≡ true) xs cover b m))))
-    ∙ sym (filter-append p xs rows)
+    ap (λ (l : List RecordValue). l ++ filter p walk) (sym (filter-all p xs (λ b m. cover-hit seq start stop b some (all-mem (λ (q : RecordValue). covers seq start q ≡ true) xs cover b m))))
+    ∙ sym (filter-append p xs walk)
     ∙ h seq start stop (onward-itself seq start)
 
 -- ---- where a search is
 
 -- before the first record
-pub placed-first : (records carried rows : List RecordValue) → carried ≡ [] → rows ≡ records → AreInOrder records → length records < 2 ^ 32 → IsPlaced records carried rows 0 0
-placed-first records carried rows none all order few = record {
+pub placed-first : (records carried walk : List RecordValue) → carried ≡ [] → walk ≡ records → AreInOrder records → length records < 2 ^ 32 → IsPlaced records carried walk 0 0
+placed-first records carried walk none all order few = record {
   cover = subst (AllCover 0 0) (sym none) (All-nil (λ b. covers 0 0 b ≡ true));
-  alike = subst (λ (l : List RecordValue). HitAlike 0 0 l records) (sym (ap (λ (l : List RecordValue). l ++ rows) none ∙ all)) (alike-itself 0 0 records);
+  alike = subst (λ (l : List RecordValue). HitAlike 0 0 l records) (sym (ap (λ (l : List RecordValue). l ++ walk) none ∙ all)) (alike-itself 0 0 records);
   rows_ordered = subst AreInOrder (sym all) order;
   rows_few = omega (arith, ap length all, few);
 }
 
 -- from the root
-pub placed-anew : (records carried rows : List RecordValue) (seq start from n : ℕ) → carried ≡ [] → rows ≡ filter (is_from seq from) records → AreInOrder records → length records < 2 ^ 32
-    → AreUpTo seq n records → from ≤ start + 1 - n → IsPlaced records carried rows seq start
-placed-anew records carried rows seq start from n none these order few up low = record {
+pub placed-anew : (records carried walk : List RecordValue) (seq start from n : ℕ) → carried ≡ [] → walk ≡ filter (is_from seq from) records → AreInOrder records → length records < 2 ^ 32
+    → AreUpTo seq n records → from ≤ start + 1 - n → IsPlaced records carried walk seq start
+placed-anew records carried walk seq start from n none these order few up low = record {
   cover = subst (AllCover seq start) (sym none) (All-nil (λ b. covers seq start b ≡ true));
-  alike = subst (λ (l : List RecordValue). HitAlike seq start l records) (sym (ap (λ (l : List RecordValue). l ++ rows) none ∙ these)) (alike-anew records seq start from n up low);
+  alike = subst (λ (l : List RecordValue). HitAlike seq start l records) (sym (ap (λ (l : List RecordValue). l ++ walk) none ∙ these)) (alike-anew records seq start from n up low);
   rows_ordered = subst AreInOrder (sym these) (in_order-filter record_cmp (is_from seq from) records order);
   rows_few = omega (arith, ap length these, length-filter_le (is_from seq from) records, few);
 }
 
 -- further on
-pub placed-on : (records carried rows xs ys : List RecordValue) (seq start : ℕ) → AllCover seq start carried → AreInOrder rows → length rows ≤ length ys → length ys < 2 ^ 32
-    → HitAlike seq start (carried ++ rows) (xs ++ ys) → HitAlike seq start (xs ++ ys) records → IsPlaced records carried rows seq start
-placed-on records carried rows xs ys seq start cover order less few h k = record {
+pub placed-on : (records carried walk xs ys : List RecordValue) (seq start : ℕ) → AllCover seq start carried → AreInOrder walk → length walk ≤ length ys → length ys < 2 ^ 32
+    → HitAlike seq start (carried ++ walk) (xs ++ ys) → HitAlike seq start (xs ++ ys) records → IsPlaced records carried walk seq start
+placed-on records carried walk xs ys seq start cover order less few h k = record {
   cover = cover;
-  alike = alike-trans seq start (carried ++ rows) (xs ++ ys) records h k;
+  alike = alike-trans seq start (carried ++ walk) (xs ++ ys) records h k;
   rows_ordered = order;
   rows_few = omega arith;
 }

@@ -6,13 +6,13 @@ use Rattle.std.proofs.lemmas.List.Sums.{length-filter}
 use Rattle.iv_text.specs.CoveredPositions.{covers}
 use Rattle.iv_text.specs.Ordered.{AreInOrder}
 use Rattle.iv_text.specs.RecordValue.{RecordValue}
-use Rattle.iv_index.specs.Cover.{is_covered}
-use Rattle.iv_index.specs.Locators.{bare}
-use Rattle.iv_index.specs.Inside.Locators.{record_at, records_at}
-use Rattle.iv_index.specs.declared.locator.Locator.{Locator}
-use Rattle.iv_index.proofs.BareLemmas.{count-bare}
+use Rattle.iv_locators.specs.Cover.{is_covered}
+use Rattle.iv_locators.specs.Locators.{bare}
+use Rattle.iv_locators.specs.Inside.Locators.{record_at, records_at}
+use Rattle.iv_locators.specs.declared.locator.Locator.{Locator}
+use Rattle.iv_locators.proofs.BareLemmas.{count-bare}
 use Rattle.iv_track.specs.Regions.{overlaps, hits}
-use Rattle.iv_pair.specs.Inside.Besides.{CountAlike}
+use Rattle.iv_pair.specs.Inside.PairPrinters.{CountAlike}
 use Rattle.iv_pair.specs.Inside.Counts.{ends_by, is_up_to}
 use Rattle.iv_pair.specs.Inside.HitFinder.{HitAlike, IsOnward}
 use Rattle.iv_pair.specs.Inside.Intervals.{locator_of}
@@ -20,9 +20,9 @@ use Rattle.iv_pair.specs.Inside.Intervals.{locator_of}
 -- ---- the copy is made
 
 -- one record more is copied
-pub copied-next : (ps : List Locator) (r : RecordValue) (rows rest whole : List RecordValue) → rows ≡ r ∷ rest → records_at 3 [] ps ++ map bare rows ≡ whole
+pub copied-next : (ps : List Locator) (r : RecordValue) (records rest whole : List RecordValue) → records ≡ r ∷ rest → records_at 3 [] ps ++ map bare records ≡ whole
     → records_at 3 [] (ps ++ locator_of r ∷ []) ++ map bare rest ≡ whole
-copied-next ps r rows rest whole first is =
+copied-next ps r records rest whole first is =
     ap (λ (l : List RecordValue). l ++ map bare rest) (map-append (record_at 3 []) ps (locator_of r ∷ []))
     ∙ append_assoc (records_at 3 [] ps) (bare r ∷ []) (map bare rest)
     ∙ ap (λ (l : List RecordValue). records_at 3 [] ps ++ map bare l) (sym first)
@@ -30,15 +30,15 @@ copied-next ps r rows rest whole first is =
 
 -- ---- what it shows
 
-pub cover-bare : (rows : List RecordValue) (seq p : ℕ) → is_covered (map bare rows) seq p ≡ is_covered rows seq p
+pub cover-bare : (records : List RecordValue) (seq p : ℕ) → is_covered (map bare records) seq p ≡ is_covered records seq p
 cover-bare [] seq p = refl
-cover-bare (r ∷ rows) seq p = ap (λ b. covers seq p r || b) (cover-bare rows seq p)
+cover-bare (r ∷ records) seq p = ap (λ b. covers seq p r || b) (cover-bare records seq p)
 
-pub counts-bare : (rows : List RecordValue) → CountAlike (map bare rows) rows
-counts-bare rows = λ seq start stop.
-    length-filter (overlaps seq start stop) (map bare rows)
-    ∙ count-bare (overlaps seq start stop) rows
-    ∙ sym (length-filter (overlaps seq start stop) rows)
+pub counts-bare : (records : List RecordValue) → CountAlike (map bare records) records
+counts-bare records = λ seq start stop.
+    length-filter (overlaps seq start stop) (map bare records)
+    ∙ count-bare (overlaps seq start stop) records
+    ∙ sym (length-filter (overlaps seq start stop) records)
 
 -- ---- a search goes on in it
 
@@ -64,7 +64,7 @@ drop-next n xs x rest e =
     let next : n + 1 ≡ suc n = omega arith in
     (ap (λ (m : ℕ). drop m xs) next ∙ more.0, more.1)
 
-pub in_order-drop : (n : ℕ) (rows : List RecordValue) → AreInOrder rows → AreInOrder (drop n rows)
-in_order-drop zero rows up = up
+pub in_order-drop : (n : ℕ) (records : List RecordValue) → AreInOrder records → AreInOrder (drop n records)
+in_order-drop zero records up = up
 in_order-drop (suc n) [] up = tt
-in_order-drop (suc n) (r ∷ rows) up = in_order-drop n rows up.1
+in_order-drop (suc n) (r ∷ records) up = in_order-drop n records up.1

@@ -14,9 +14,9 @@ use Rattle.std.proofs.lemmas.List.Sorted.{sorted_far, sum_by-IsPermutation}
 use Rattle.std.proofs.lemmas.List.Sums.{sum_by-cons, length-filter}
 use Rattle.iv_text.specs.Ordered.{AreInOrder}
 use Rattle.iv_text.specs.RecordValue.{RecordValue, record_cmp}
-use Rattle.iv_index.specs.Inside.Locators.{HasBase, span_in, span_of}
-use Rattle.iv_index.specs.declared.locator.Locator.{Locator}
-use Rattle.iv_index.specs.declared.span.Span.{Span}
+use Rattle.iv_locators.specs.Inside.Locators.{HasBase, span_in, span_of}
+use Rattle.iv_locators.specs.declared.locator.Locator.{Locator}
+use Rattle.iv_locators.specs.declared.span.Span.{Span}
 use Rattle.iv_track.specs.Regions.{overlaps}
 use Rattle.iv_pair.specs.Hits.{hits_of}
 use Rattle.iv_pair.specs.Inside.Counts.{is_before, is_up_to, begins_before, ends_by, place_before, end_by, end_of, AreEndsOf, AreStartsOf, EndsAscend}
@@ -37,17 +37,17 @@ pub count-hits : (a : RecordValue) (second : List RecordValue) → a.start < a.s
     → length (hits_of second a) + count_by (ends_by a.seq a.start) second ≡ count_by (begins_before a.seq a.stop) second
 count-hits a second some long = ap (λ (n : ℕ). n + count_by (ends_by a.seq a.start) second) (length-filter (overlaps a.seq a.start a.stop) second) ∙ go second long
   where
-    go : (rows : List RecordValue) → All (λ (b : RecordValue). b.start < b.stop) rows
-        → count_by (overlaps a.seq a.start a.stop) rows + count_by (ends_by a.seq a.start) rows ≡ count_by (begins_before a.seq a.stop) rows
+    go : (records : List RecordValue) → All (λ (b : RecordValue). b.start < b.stop) records
+        → count_by (overlaps a.seq a.start a.stop) records + count_by (ends_by a.seq a.start) records ≡ count_by (begins_before a.seq a.stop) records
     go [] h = refl
-    go (b ∷ rows) h =
+    go (b ∷ records) h =
         omega (
           arith,
-          sum_by-cons (λ (r : RecordValue). cond {A = ℕ} (overlaps a.seq a.start a.stop r) 1 0) b rows,
-          sum_by-cons (λ (r : RecordValue). cond {A = ℕ} (ends_by a.seq a.start r) 1 0) b rows,
-          sum_by-cons (λ (r : RecordValue). cond {A = ℕ} (begins_before a.seq a.stop r) 1 0) b rows,
-          one-of a b some (All-head (λ (r : RecordValue). r.start < r.stop) b rows h),
-          go rows (All-tail (λ (r : RecordValue). r.start < r.stop) b rows h),
+          sum_by-cons (λ (r : RecordValue). cond {A = ℕ} (overlaps a.seq a.start a.stop r) 1 0) b records,
+          sum_by-cons (λ (r : RecordValue). cond {A = ℕ} (ends_by a.seq a.start r) 1 0) b records,
+          sum_by-cons (λ (r : RecordValue). cond {A = ℕ} (begins_before a.seq a.stop r) 1 0) b records,
+          one-of a b some (All-head (λ (r : RecordValue). r.start < r.stop) b records h),
+          go records (All-tail (λ (r : RecordValue). r.start < r.stop) b records h),
         )
 
 -- ---- positions in order
@@ -71,17 +71,17 @@ up_to-earlier : (seq at s t x y : ℕ) → IsOnward x y s t → is_up_to seq at 
 up_to-earlier seq at s t x y h e = grind (arith, nat_tests)
 
 -- no fewer begin before a later position, and no fewer end up to it
-pub begun-more : (seq at s t : ℕ) (rows : List RecordValue) → seq ≤ s → (seq ≡ s → at ≤ t) → count_by (begins_before seq at) rows ≤ count_by (begins_before s t) rows
-begun-more seq at s t rows low same = count-implied (begins_before seq at) (begins_before s t) rows (λ b e. before-later seq at s t b.seq b.start (low, same) e)
+pub begun-more : (seq at s t : ℕ) (records : List RecordValue) → seq ≤ s → (seq ≡ s → at ≤ t) → count_by (begins_before seq at) records ≤ count_by (begins_before s t) records
+begun-more seq at s t records low same = count-implied (begins_before seq at) (begins_before s t) records (λ b e. before-later seq at s t b.seq b.start (low, same) e)
 
-pub ended-more : (seq at s t : ℕ) (rows : List RecordValue) → seq ≤ s → (seq ≡ s → at ≤ t) → count_by (ends_by seq at) rows ≤ count_by (ends_by s t) rows
-ended-more seq at s t rows low same = count-implied (ends_by seq at) (ends_by s t) rows (λ b e. up_to-later seq at s t b.seq b.stop (low, same) e)
+pub ended-more : (seq at s t : ℕ) (records : List RecordValue) → seq ≤ s → (seq ≡ s → at ≤ t) → count_by (ends_by seq at) records ≤ count_by (ends_by s t) records
+ended-more seq at s t records low same = count-implied (ends_by seq at) (ends_by s t) records (λ b e. up_to-later seq at s t b.seq b.stop (low, same) e)
 
 -- ---- locators as records
 
 -- the locators have the intervals of the records
 abbrev LieAs : List Locator → List RecordValue → Type 0
-LieAs places rows = map span_in places ≡ map span_of rows
+LieAs locators records = map span_in locators ≡ map span_of records
 
 head-same : (a b : Span) (xs ys : List Span) → a ∷ xs ≡ b ∷ ys → a ≡ b
 head-same a b xs ys e = cc
@@ -96,52 +96,52 @@ some-same : (a : Span) (xs : List Span) → a ∷ xs ≡ [] → ⊥
 some-same a xs e = cc
 
 -- what holds of each locator holds of each record, if it depends only on the interval
-all-rows : (P : Span → Type 0) (places : List Locator) (rows : List RecordValue) → LieAs places rows → All (λ place. P (span_in place)) places → All (λ r. P (span_of r)) rows
+all-rows : (P : Span → Type 0) (locators : List Locator) (records : List RecordValue) → LieAs locators records → All (λ locator. P (span_in locator)) locators → All (λ r. P (span_of r)) records
 all-rows P [] [] e h = All-nil (λ r. P (span_of r))
-all-rows P [] (r ∷ rows) e h = absurd (none-same _ _ e)
-all-rows P (place ∷ places) [] e h = absurd (some-same _ _ e)
-all-rows P (place ∷ places) (r ∷ rows) e h =
-    All-cons (λ q. P (span_of q)) r rows
-    (subst P (head-same _ _ _ _ e) (All-head (λ q. P (span_in q)) place places h))
-    (all-rows P places rows (tail-same _ _ _ _ e) (All-tail (λ q. P (span_in q)) place places h))
+all-rows P [] (r ∷ records) e h = absurd (none-same _ _ e)
+all-rows P (locator ∷ locators) [] e h = absurd (some-same _ _ e)
+all-rows P (locator ∷ locators) (r ∷ records) e h =
+    All-cons (λ q. P (span_of q)) r records
+    (subst P (head-same _ _ _ _ e) (All-head (λ q. P (span_in q)) locator locators h))
+    (all-rows P locators records (tail-same _ _ _ _ e) (All-tail (λ q. P (span_in q)) locator locators h))
 
 -- and the other way round
-all-places : (P : Span → Type 0) (places : List Locator) (rows : List RecordValue) → LieAs places rows → All (λ r. P (span_of r)) rows → All (λ place. P (span_in place)) places
-all-places P [] rows e h = All-nil (λ place. P (span_in place))
-all-places P (place ∷ places) [] e h = absurd (some-same _ _ e)
-all-places P (place ∷ places) (r ∷ rows) e h =
-    All-cons (λ q. P (span_in q)) place places
-    (subst P (sym (head-same _ _ _ _ e)) (All-head (λ q. P (span_of q)) r rows h))
-    (all-places P places rows (tail-same _ _ _ _ e) (All-tail (λ q. P (span_of q)) r rows h))
+all-places : (P : Span → Type 0) (locators : List Locator) (records : List RecordValue) → LieAs locators records → All (λ r. P (span_of r)) records → All (λ locator. P (span_in locator)) locators
+all-places P [] records e h = All-nil (λ locator. P (span_in locator))
+all-places P (locator ∷ locators) [] e h = absurd (some-same _ _ e)
+all-places P (locator ∷ locators) (r ∷ records) e h =
+    All-cons (λ q. P (span_in q)) locator locators
+    (subst P (sym (head-same _ _ _ _ e)) (All-head (λ q. P (span_of q)) r records h))
+    (all-places P locators records (tail-same _ _ _ _ e) (All-tail (λ q. P (span_of q)) r records h))
 
 -- a test of the interval counts as many locators as records
-count-places : (p : Span → Bool) (places : List Locator) (rows : List RecordValue) → LieAs places rows → count_by (λ place. p (span_in place)) places ≡ count_by (λ r. p (span_of r)) rows
-count-places p places rows e = sym (count-map span_in p places) ∙ ap (λ (l : List Span). count_by p l) e ∙ count-map span_of p rows
+count-places : (p : Span → Bool) (locators : List Locator) (records : List RecordValue) → LieAs locators records → count_by (λ locator. p (span_in locator)) locators ≡ count_by (λ r. p (span_of r)) records
+count-places p locators records e = sym (count-map span_in p locators) ∙ ap (λ (l : List Span). count_by p l) e ∙ count-map span_of p records
 
 -- ---- where they begin
 
-starts-ascend : (seq at : ℕ) (places : List Locator) (rows : List RecordValue) → LieAs places rows → AreInOrder rows → IsPartitionedBy (place_before seq at) places
-starts-ascend seq at [] rows e order = λ i j d le lt h. absurd (omega arith)
-starts-ascend seq at (place ∷ places) [] e order = absurd (some-same _ _ e)
-starts-ascend seq at (place ∷ places) (r ∷ rows) e order =
-    let same : span_in place ≡ span_of r = head-same _ _ _ _ e in
-    let on : place.span.seq ≡ r.seq = ap (λ (s : Span). s.seq) same in
-    let from : place.span.start ≡ r.start = ap (λ (s : Span). s.start) same in
-    let later : All (λ (q : RecordValue). (r.seq ≤ q.seq) × (r.seq ≡ q.seq → r.start ≤ q.start)) rows =
-    All-weaker (λ (q : RecordValue). is_le (record_cmp r q) ≡ true) (λ (q : RecordValue). (r.seq ≤ q.seq) × (r.seq ≡ q.seq → r.start ≤ q.start)) (λ q k. precedes r q k) rows
-    (All-from_recursion (λ (q : RecordValue). is_le (record_cmp r q) ≡ true) rows order.0) in
-    let onward : All (λ (q : Locator). (r.seq ≤ q.span.seq) × (r.seq ≡ q.span.seq → r.start ≤ q.span.start)) places
-    = all-places (λ (s : Span). (r.seq ≤ s.seq) × (r.seq ≡ s.seq → r.start ≤ s.start)) places rows (tail-same _ _ _ _ e) later in
-    split_up-cons (place_before seq at) place places
-    (All-weaker (λ (q : Locator). (r.seq ≤ q.span.seq) × (r.seq ≡ q.span.seq → r.start ≤ q.span.start)) (λ (q : Locator). place_before seq at q ≡ true → place_before seq at place ≡ true)
-    (λ q k h. rw (on, from) (before-earlier seq at q.span.seq q.span.start r.seq r.start k h)) places onward)
-    (starts-ascend seq at places rows (tail-same _ _ _ _ e) order.1)
+starts-ascend : (seq at : ℕ) (locators : List Locator) (records : List RecordValue) → LieAs locators records → AreInOrder records → IsPartitionedBy (place_before seq at) locators
+starts-ascend seq at [] records e order = λ i j d le lt h. absurd (omega arith)
+starts-ascend seq at (locator ∷ locators) [] e order = absurd (some-same _ _ e)
+starts-ascend seq at (locator ∷ locators) (r ∷ records) e order =
+    let same : span_in locator ≡ span_of r = head-same _ _ _ _ e in
+    let on : locator.span.seq ≡ r.seq = ap (λ (s : Span). s.seq) same in
+    let from : locator.span.start ≡ r.start = ap (λ (s : Span). s.start) same in
+    let later : All (λ (q : RecordValue). (r.seq ≤ q.seq) × (r.seq ≡ q.seq → r.start ≤ q.start)) records =
+    All-weaker (λ (q : RecordValue). is_le (record_cmp r q) ≡ true) (λ (q : RecordValue). (r.seq ≤ q.seq) × (r.seq ≡ q.seq → r.start ≤ q.start)) (λ q k. precedes r q k) records
+    (All-from_recursion (λ (q : RecordValue). is_le (record_cmp r q) ≡ true) records order.0) in
+    let onward : All (λ (q : Locator). (r.seq ≤ q.span.seq) × (r.seq ≡ q.span.seq → r.start ≤ q.span.start)) locators
+    = all-places (λ (s : Span). (r.seq ≤ s.seq) × (r.seq ≡ s.seq → r.start ≤ s.start)) locators records (tail-same _ _ _ _ e) later in
+    split_up-cons (place_before seq at) locator locators
+    (All-weaker (λ (q : Locator). (r.seq ≤ q.span.seq) × (r.seq ≡ q.span.seq → r.start ≤ q.span.start)) (λ (q : Locator). place_before seq at q ≡ true → place_before seq at locator ≡ true)
+    (λ q k h. rw (on, from) (before-earlier seq at q.span.seq q.span.start r.seq r.start k h)) locators onward)
+    (starts-ascend seq at locators records (tail-same _ _ _ _ e) order.1)
 
-pub AreStartsOf-rows : (places : List Locator) (rows : List RecordValue) → map span_in places ≡ map span_of rows → All HasBase places → AreInOrder rows → AreStartsOf places rows
-AreStartsOf-rows places rows e some order = record {
-  ascend = λ seq at. starts-ascend seq at places rows e order;
-  counts = λ seq at. count-places (λ s. is_before seq at s.seq s.start) places rows e;
-  some = all-rows (λ (s : Span). s.start < s.stop) places rows e some;
+pub AreStartsOf-rows : (locators : List Locator) (records : List RecordValue) → map span_in locators ≡ map span_of records → All HasBase locators → AreInOrder records → AreStartsOf locators records
+AreStartsOf-rows locators records e some order = record {
+  ascend = λ seq at. starts-ascend seq at locators records e order;
+  counts = λ seq at. count-places (λ s. is_before seq at s.seq s.start) locators records e;
+  some = all-rows (λ (s : Span). s.start < s.stop) locators records e some;
 }
 
 -- ---- where they end
@@ -171,43 +171,43 @@ EndsAscend-sorted ends up = λ seq at i j d le lt e.
     up_to-earlier seq at b.seq b.stop a.seq a.stop
     (end-onward a b (sorted_far (λ x y. is_lt (end_cmp x y)) (ranks_by ends_total (λ (x : End). x)) ends up i j d le lt)) e
 
-pub AreEndsOf-moved : (ends : List End) (places : List Locator) (rows : List RecordValue) → map span_in places ≡ map span_of rows
-    → IsPermutation (map end_of places) ends → EndsAscend ends → AreEndsOf ends rows
-AreEndsOf-moved ends places rows e moved up = record {
+pub AreEndsOf-moved : (ends : List End) (locators : List Locator) (records : List RecordValue) → map span_in locators ≡ map span_of records
+    → IsPermutation (map end_of locators) ends → EndsAscend ends → AreEndsOf ends records
+AreEndsOf-moved ends locators records e moved up = record {
   ascend = up;
   counts = λ seq at.
-      sum_by-IsPermutation (λ (x : End). cond {A = ℕ} (end_by seq at x) 1 0) (map end_of places) ends moved
-      ∙ count-map end_of (end_by seq at) places
-      ∙ count-places (λ s. is_up_to seq at s.seq s.stop) places rows e;
+      sum_by-IsPermutation (λ (x : End). cond {A = ℕ} (end_by seq at x) 1 0) (map end_of locators) ends moved
+      ∙ count-map end_of (end_by seq at) locators
+      ∙ count-places (λ s. is_up_to seq at s.seq s.stop) locators records e;
 }
 
 -- ---- the next record of the first list
 
-later-precede : (a : RecordValue) (rows : List RecordValue) → AreInOrder (a ∷ rows) → All (Precedes a) rows
-later-precede a rows order =
-    All-weaker (λ (q : RecordValue). is_le (record_cmp a q) ≡ true) (Precedes a) (λ q k. precedes a q k) rows (All-from_recursion (λ (q : RecordValue). is_le (record_cmp a q) ≡ true) rows order.0)
+later-precede : (a : RecordValue) (records : List RecordValue) → AreInOrder (a ∷ records) → All (Precedes a) records
+later-precede a records order =
+    All-weaker (λ (q : RecordValue). is_le (record_cmp a q) ≡ true) (Precedes a) (λ q k. precedes a q k) records (All-from_recursion (λ (q : RecordValue). is_le (record_cmp a q) ≡ true) records order.0)
 
 -- no fewer begin before it
-pub begun-later : (a : RecordValue) (rows second : List RecordValue) (places : List Locator) (seq start n : ℕ) → AreInOrder (a ∷ rows) → AreStartsOf places second → seq ≡ a.seq → start ≡ a.start
-    → n ≡ count_by (place_before seq start) places → All (λ y. n ≤ count_by (begins_before y.seq y.start) second) rows
-begun-later a rows second places seq start n order lie on from is =
+pub begun-later : (a : RecordValue) (records second : List RecordValue) (locators : List Locator) (seq start n : ℕ) → AreInOrder (a ∷ records) → AreStartsOf locators second → seq ≡ a.seq → start ≡ a.start
+    → n ≡ count_by (place_before seq start) locators → All (λ y. n ≤ count_by (begins_before y.seq y.start) second) records
+begun-later a records second locators seq start n order lie on from is =
     let e : n ≡ count_by (begins_before a.seq a.start) second = is ∙ lie.counts seq start ∙ (λ i. count_by (begins_before (on i) (from i)) second) in
     All-weaker (Precedes a) (λ y. n ≤ count_by (begins_before y.seq y.start) second)
-    (λ y k. omega (arith, e, begun-more a.seq a.start y.seq y.start second k.0 k.1)) rows (later-precede a rows order)
+    (λ y k. omega (arith, e, begun-more a.seq a.start y.seq y.start second k.0 k.1)) records (later-precede a records order)
 
 -- and no fewer end up to where it begins
-pub ended-later : (a : RecordValue) (rows second : List RecordValue) (ends : List End) (seq start n : ℕ) → AreInOrder (a ∷ rows) → AreEndsOf ends second → seq ≡ a.seq → start ≡ a.start
-    → n ≡ count_by (end_by seq start) ends → All (λ y. n ≤ count_by (ends_by y.seq y.start) second) rows
-ended-later a rows second ends seq start n order are on from is =
+pub ended-later : (a : RecordValue) (records second : List RecordValue) (ends : List End) (seq start n : ℕ) → AreInOrder (a ∷ records) → AreEndsOf ends second → seq ≡ a.seq → start ≡ a.start
+    → n ≡ count_by (end_by seq start) ends → All (λ y. n ≤ count_by (ends_by y.seq y.start) second) records
+ended-later a records second ends seq start n order are on from is =
     let e : n ≡ count_by (ends_by a.seq a.start) second = is ∙ are.counts seq start ∙ (λ i. count_by (ends_by (on i) (from i)) second) in
     All-weaker (Precedes a) (λ y. n ≤ count_by (ends_by y.seq y.start) second)
-    (λ y k. omega (arith, e, ended-more a.seq a.start y.seq y.start second k.0 k.1)) rows (later-precede a rows order)
+    (λ y k. omega (arith, e, ended-more a.seq a.start y.seq y.start second k.0 k.1)) records (later-precede a records order)
 
 -- ---- a cursor over starts
 
 -- no fewer locators begin before a later position
-pub places-more : (seq at later : ℕ) (places : List Locator) → at ≤ later → count_by (place_before seq at) places ≤ count_by (place_before seq later) places
-places-more seq at later places le = count-implied (place_before seq at) (place_before seq later) places (λ place e. before-later seq at seq later place.span.seq place.span.start (omega arith, λ _. le) e)
+pub places-more : (seq at later : ℕ) (locators : List Locator) → at ≤ later → count_by (place_before seq at) locators ≤ count_by (place_before seq later) locators
+places-more seq at later locators le = count-implied (place_before seq at) (place_before seq later) locators (λ locator e. before-later seq at seq later locator.span.seq locator.span.start (omega arith, λ _. le) e)
 
 -- one that may go past all of them counts them
 pub passes-all : (n count most : ℕ) → n ≤ count → (n < most → n ≡ count) → count ≤ most → n ≡ count
@@ -218,10 +218,10 @@ passes-all n count most few all low = elim (cases_lt n most) [
 
 -- ---- what follows from two cursors about a record
 
-pub hits-between : (a : RecordValue) (second : List RecordValue) (ends : List End) (places : List Locator) (seq start stop ended reached : ℕ) → AreEndsOf ends second → AreStartsOf places second
-    → a.start < a.stop → seq ≡ a.seq → start ≡ a.start → stop ≡ a.stop → ended ≡ count_by (end_by seq start) ends → reached ≡ count_by (place_before seq stop) places
+pub hits-between : (a : RecordValue) (second : List RecordValue) (ends : List End) (locators : List Locator) (seq start stop ended reached : ℕ) → AreEndsOf ends second → AreStartsOf locators second
+    → a.start < a.stop → seq ≡ a.seq → start ≡ a.start → stop ≡ a.stop → ended ≡ count_by (end_by seq start) ends → reached ≡ count_by (place_before seq stop) locators
     → length (hits_of second a) + ended ≡ reached
-hits-between a second ends places seq start stop ended reached are lie some on from to low high =
+hits-between a second ends locators seq start stop ended reached are lie some on from to low high =
     let e : ended ≡ count_by (ends_by a.seq a.start) second = low ∙ are.counts seq start ∙ (λ i. count_by (ends_by (on i) (from i)) second) in
     let r : reached ≡ count_by (begins_before a.seq a.stop) second = high ∙ lie.counts seq stop ∙ (λ i. count_by (begins_before (on i) (to i)) second) in
     omega (arith, e, r, count-hits a second some lie.some)

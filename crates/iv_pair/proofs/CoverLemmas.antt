@@ -10,14 +10,14 @@ use Rattle.iv_cover.specs.Depth.{depth}
 use Rattle.iv_cover.specs.Runs.{Run}
 use Rattle.iv_cover.proofs.DepthLemmas.{depth-cons}
 use Rattle.iv_text.proofs.ListLemmas.{all-mem, any-found, any-at}
-use Rattle.iv_index.specs.Cover.{is_covered}
+use Rattle.iv_locators.specs.Cover.{is_covered}
 use Rattle.iv_track.specs.Regions.{overlaps}
 use Rattle.iv_pair.specs.Hits.{hits_of}
 use Rattle.iv_pair.specs.IntersectRows.{intersect_rows, record_line}
 use Rattle.iv_pair.specs.PairRows.{pair_rows}
-use Rattle.iv_pair.specs.declared.intersect.IntersectRows.TheVariants.{Shared, SharedAndHit, Whole, WholeAndHit, IfHit, IfNoHit, Count}
-use Rattle.iv_pair.specs.declared.pair_rows.PairRows.{PairRows}
-use Rattle.iv_pair.specs.declared.pair_rows.PairRows.TheVariants.{Intersect, Subtract}
+use Rattle.iv_pair.specs.declared.intersect.IntersectOutput.TheVariants.{Shared, SharedAndHit, Whole, WholeAndHit, IfHit, IfNoHit, Count}
+use Rattle.iv_pair.specs.declared.pair_rows.PairOutput.{PairOutput}
+use Rattle.iv_pair.specs.declared.pair_rows.PairOutput.TheVariants.{Intersect, Subtract}
 use Rattle.iv_pair.proofs.HitsLemmas.{overlap-means}
 use Rattle.iv_pair.specs.CoverAlone.{HaveBases, CoverAlike, DependsOnCoverAlone, needs_cover_alone}
 use Rattle.iv_pair.proofs.EmptyAlike.{empty-alike}
@@ -31,20 +31,20 @@ same_tests false false f h = refl
 
 -- whether a record has a hit
 abbrev has_hit : List RecordValue → RecordValue → Bool
-has_hit rows a = list_any (overlaps a.seq a.start a.stop) rows
+has_hit records a = list_any (overlaps a.seq a.start a.stop) records
 
-any-line : (g : Sequences) (a : RecordValue) (rows : List RecordValue) → intersect_rows IfHit g a (hits_of rows a) ≡ cond (has_hit rows a) (record_line g a) []
+any-line : (g : Sequences) (a : RecordValue) (records : List RecordValue) → intersect_rows IfHit g a (hits_of records a) ≡ cond (has_hit records a) (record_line g a) []
 any-line g a [] = refl
-any-line g a (q ∷ rows) = elim (overlaps a.seq a.start a.stop q) as (λ c. intersect_rows IfHit g a (cond c (q ∷ hits_of rows a) (hits_of rows a)) ≡ cond (c || has_hit rows a) (record_line g a) []) [
+any-line g a (q ∷ records) = elim (overlaps a.seq a.start a.stop q) as (λ c. intersect_rows IfHit g a (cond c (q ∷ hits_of records a) (hits_of records a)) ≡ cond (c || has_hit records a) (record_line g a) []) [
   | true ↦ refl
-  | false ↦ any-line g a rows
+  | false ↦ any-line g a records
 ]
 
-none-line : (g : Sequences) (a : RecordValue) (rows : List RecordValue) → intersect_rows IfNoHit g a (hits_of rows a) ≡ cond (has_hit rows a) [] (record_line g a)
+none-line : (g : Sequences) (a : RecordValue) (records : List RecordValue) → intersect_rows IfNoHit g a (hits_of records a) ≡ cond (has_hit records a) [] (record_line g a)
 none-line g a [] = refl
-none-line g a (q ∷ rows) = elim (overlaps a.seq a.start a.stop q) as (λ c. intersect_rows IfNoHit g a (cond c (q ∷ hits_of rows a) (hits_of rows a)) ≡ cond (c || has_hit rows a) [] (record_line g a)) [
+none-line g a (q ∷ records) = elim (overlaps a.seq a.start a.stop q) as (λ c. intersect_rows IfNoHit g a (cond c (q ∷ hits_of records a) (hits_of records a)) ≡ cond (c || has_hit records a) [] (record_line g a)) [
   | true ↦ refl
-  | false ↦ none-line g a rows
+  | false ↦ none-line g a records
 ]
 
 -- a hit in one list is one in another that covers the same
@@ -61,13 +61,13 @@ hits-alike second other a some bases others alike =
     same_tests (has_hit second a) (has_hit other a) (hit-alike second other a some bases others alike) (hit-alike other second a some others bases (λ seq p. sym (alike seq p)))
 
 -- a position has depth 0 exactly if no record covers it
-depth-zero : (rows : List RecordValue) (seq p : ℕ) → (depth rows seq p == 0) ≡ not (is_covered rows seq p)
+depth-zero : (records : List RecordValue) (seq p : ℕ) → (depth records seq p == 0) ≡ not (is_covered records seq p)
 depth-zero [] seq p = refl
-depth-zero (q ∷ rows) seq p =
-    ap (λ n. n == 0) (depth-cons q rows seq p)
-    ∙ (elim (covers seq p q) as (λ c. (cond c 1 0 + depth rows seq p == 0) ≡ not (c || is_covered rows seq p)) [
-      | true ↦ ne_eqb (1 + depth rows seq p) 0 (λ e. absurd (omega arith))
-      | false ↦ ap (λ n. n == 0) (zero-add (depth rows seq p)) ∙ depth-zero rows seq p
+depth-zero (q ∷ records) seq p =
+    ap (λ n. n == 0) (depth-cons q records seq p)
+    ∙ (elim (covers seq p q) as (λ c. (cond c 1 0 + depth records seq p == 0) ≡ not (c || is_covered records seq p)) [
+      | true ↦ ne_eqb (1 + depth records seq p) 0 (λ e. absurd (omega arith))
+      | false ↦ ap (λ n. n == 0) (zero-add (depth records seq p)) ∙ depth-zero records seq p
     ])
 
 pub uncovered-alike : (g : Sequences) (a : RecordValue) (second other : List RecordValue) → CoverAlike second other → pair_rows (Subtract false) g a second ≡ pair_rows (Subtract false) g a other
@@ -76,8 +76,8 @@ uncovered-alike g a second other alike =
     (empty-alike (depth second a.seq) (depth other a.seq) (λ p. depth-zero second a.seq p ∙ ap not (alike a.seq p) ∙ sym (depth-zero other a.seq p)) a.start a.stop)
 
 -- the rows of one record
-rows-alike : (rows : PairRows) → needs_cover_alone rows ≡ true → (g : Sequences) (a : RecordValue) (second other : List RecordValue) → a.start < a.stop → HaveBases second → HaveBases other → CoverAlike second other
-    → pair_rows rows g a second ≡ pair_rows rows g a other
+rows-alike : (output : PairOutput) → needs_cover_alone output ≡ true → (g : Sequences) (a : RecordValue) (second other : List RecordValue) → a.start < a.stop → HaveBases second → HaveBases other → CoverAlike second other
+    → pair_rows output g a second ≡ pair_rows output g a other
 rows-alike (Intersect Shared) is g a second other some bases others alike = absurd (false≢true is)
 rows-alike (Intersect SharedAndHit) is g a second other some bases others alike = absurd (false≢true is)
 rows-alike (Intersect Whole) is g a second other some bases others alike = absurd (false≢true is)
@@ -92,8 +92,8 @@ rows-alike (Subtract true) is g a second other some bases others alike =
 rows-alike (Subtract false) is g a second other some bases others alike = uncovered-alike g a second other alike
 
 -- the rows of all
-pub text-alike : (rows : PairRows) → needs_cover_alone rows ≡ true → DependsOnCoverAlone rows
-text-alike rows is g [] second other firsts bases others alike = refl
-text-alike rows is g (a ∷ first) second other firsts bases others alike =
-    (λ i. rows-alike rows is g a second other (All-head (λ (r : RecordValue). r.start < r.stop) a first firsts) bases others alike i
-    ++ text-alike rows is g first second other (All-tail (λ (r : RecordValue). r.start < r.stop) a first firsts) bases others alike i)
+pub text-alike : (output : PairOutput) → needs_cover_alone output ≡ true → DependsOnCoverAlone output
+text-alike output is g [] second other firsts bases others alike = refl
+text-alike output is g (a ∷ first) second other firsts bases others alike =
+    (λ i. rows-alike output is g a second other (All-head (λ (r : RecordValue). r.start < r.stop) a first firsts) bases others alike i
+    ++ text-alike output is g first second other (All-tail (λ (r : RecordValue). r.start < r.stop) a first firsts) bases others alike i)

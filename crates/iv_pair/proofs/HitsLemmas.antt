@@ -45,38 +45,38 @@ overlap-means seq start stop q some long = (
 -- ---- where a search begins
 
 -- if no record is longer than n, the hits are among the records from the start less n on
-pub hits_from : (rows : List RecordValue) (seq start stop from n : ℕ) → AreUpTo seq n rows → from ≤ start + 1 - n → hits (filter (is_from seq from) rows) seq start stop ≡ hits rows seq start stop
-hits_from rows seq start stop from n up low = filter-implied (overlaps seq start stop) (is_from seq from) rows (λ q m is.
+pub hits_from : (records : List RecordValue) (seq start stop from n : ℕ) → AreUpTo seq n records → from ≤ start + 1 - n → hits (filter (is_from seq from) records) seq start stop ≡ hits records seq start stop
+hits_from records seq start stop from n up low = filter-implied (overlaps seq start stop) (is_from seq from) records (λ q m is.
     let parts = overlaps_parts seq start stop q is in
     let here : q.seq ≡ seq = parts.0 in
     let past : start < q.stop = parts.2 in
-    let long : q.stop ≤ q.start + n = all-mem (λ (r : RecordValue). r.seq ≡ seq → r.stop ≤ r.start + n) rows up q m here in
+    let long : q.stop ≤ q.start + n = all-mem (λ (r : RecordValue). r.seq ≡ seq → r.stop ≤ r.start + n) records up q m here in
     pair_le seq q.seq from q.start (omega arith) (λ _. omega (arith, past, long, low)))
 
-pub length-filter_le : (p : RecordValue → Bool) (rows : List RecordValue) → length (filter p rows) ≤ length rows
-length-filter_le p rows = omega (arith, length-filter p rows, count_by-le-length p rows)
+pub length-filter_le : (p : RecordValue → Bool) (records : List RecordValue) → length (filter p records) ≤ length records
+length-filter_le p records = omega (arith, length-filter p records, count_by-le-length p records)
 
 -- ---- a walk that goes on to a start
 
-pub near-none : (seq from : ℕ) (near rows : List RecordValue) → near ≡ [] → filter (is_from seq from) near ≡ filter (is_from seq from) rows → near ≡ filter (is_from seq from) rows
-near-none seq from near rows none same = none ∙ sym (ap (filter (is_from seq from)) none) ∙ same
+pub near-none : (seq from : ℕ) (near records : List RecordValue) → near ≡ [] → filter (is_from seq from) near ≡ filter (is_from seq from) records → near ≡ filter (is_from seq from) records
+near-none seq from near records none same = none ∙ sym (ap (filter (is_from seq from)) none) ∙ same
 
-pub near-first : (seq from : ℕ) (near rest rows : List RecordValue) (r : RecordValue) → near ≡ r ∷ rest → AreInOrder near → is_from seq from r ≡ true
-    → filter (is_from seq from) near ≡ filter (is_from seq from) rows → near ≡ filter (is_from seq from) rows
-near-first seq from near rest rows r first order is same =
+pub near-first : (seq from : ℕ) (near rest records : List RecordValue) (r : RecordValue) → near ≡ r ∷ rest → AreInOrder near → is_from seq from r ≡ true
+    → filter (is_from seq from) near ≡ filter (is_from seq from) records → near ≡ filter (is_from seq from) records
+near-first seq from near rest records r first order is same =
     first ∙ sym (from_whole seq from r rest (subst AreInOrder first order) is) ∙ sym (ap (filter (is_from seq from)) first) ∙ same
 
-pub near-next : (seq from : ℕ) (near rest rows : List RecordValue) (r : RecordValue) → near ≡ r ∷ rest → is_from seq from r ≡ false
-    → filter (is_from seq from) near ≡ filter (is_from seq from) rows → filter (is_from seq from) rest ≡ filter (is_from seq from) rows
-near-next seq from near rest rows r first not same =
+pub near-next : (seq from : ℕ) (near rest records : List RecordValue) (r : RecordValue) → near ≡ r ∷ rest → is_from seq from r ≡ false
+    → filter (is_from seq from) near ≡ filter (is_from seq from) records → filter (is_from seq from) rest ≡ filter (is_from seq from) records
+near-next seq from near rest records r first not same =
     sym (ap (filter (is_from seq from)) first ∙ ap (λ b. cond b (r ∷ filter (is_from seq from) rest) (filter (is_from seq from) rest)) not) ∙ same
 
 -- each hit of a record shares a position with it
-pub hits-overlap : (rows : List RecordValue) (a : RecordValue) → AllOverlap a (hits_of rows a)
+pub hits-overlap : (records : List RecordValue) (a : RecordValue) → AllOverlap a (hits_of records a)
 hits-overlap [] a = tt
-hits-overlap (q ∷ rows) a = go (hits-overlap rows a) (overlaps a.seq a.start a.stop q) refl
+hits-overlap (q ∷ records) a = go (hits-overlap records a) (overlaps a.seq a.start a.stop q) refl
   where
-    go : AllOverlap a (hits_of rows a) → (b : Bool) → overlaps a.seq a.start a.stop q ≡ b → AllOverlap a (cond b (q ∷ hits_of rows a) (hits_of rows a))
+    go : AllOverlap a (hits_of records a) → (b : Bool) → overlaps a.seq a.start a.stop q ≡ b → AllOverlap a (cond b (q ∷ hits_of records a) (hits_of records a))
     go rest true is = (is, rest)
     go rest false is = rest
 
@@ -85,11 +85,11 @@ none-active [] h = refl
 none-active (x ∷ xs) h = let none : length (x ∷ xs) ≡ 0 = exact_unsigned_eq (length (x ∷ xs)) 0 h in absurd (omega (arith, none))
 
 -- if nothing is active, and a record that begins at the stop or past it is the first that is left, there is no hit
-pub none-from : (seq start stop : ℕ) (active rows rest : List RecordValue) (r : RecordValue) → (length active == 0) ≡ true → rows ≡ r ∷ rest → AreInOrder rows → is_from seq stop r ≡ true
-    → active ++ hits rows seq start stop ≡ []
-none-from seq start stop active rows rest r none is order far =
-    ap (λ (l : List RecordValue). l ++ hits rows seq start stop) (none-active active none)
-    ∙ hit_not rows rest r seq start stop is (apart (overlaps seq start stop r) refl)
+pub none-from : (seq start stop : ℕ) (active records rest : List RecordValue) (r : RecordValue) → (length active == 0) ≡ true → records ≡ r ∷ rest → AreInOrder records → is_from seq stop r ≡ true
+    → active ++ hits records seq start stop ≡ []
+none-from seq start stop active records rest r none is order far =
+    ap (λ (l : List RecordValue). l ++ hits records seq start stop) (none-active active none)
+    ∙ hit_not records rest r seq start stop is (apart (overlaps seq start stop r) refl)
     ∙ hits_beyond seq start stop r rest (subst AreInOrder is order) far
   where
     apart : (b : Bool) → overlaps seq start stop r ≡ b → b ≡ false

@@ -70,7 +70,7 @@ module _ (es fs : List ((ℕ × ℕ) × ℕ)) (k : ℕ × ℕ) (t : IsTally es) 
 -- fs is the map es with one length k less
 pub record IsLowered (es fs : List ((ℕ × ℕ) × ℕ)) (k : ℕ × ℕ) : Type 0 where
   pub tally : IsTally fs
-  pub rows : expanded fs ≡ removed_by pair_cmp (expanded es) k
+  pub records : expanded fs ≡ removed_by pair_cmp (expanded es) k
 
 -- a length that is counted is there
 pub not-absent : (es : List ((ℕ × ℕ) × ℕ)) (k : ℕ × ℕ) → IsTally es → 0 < copies_by pair_cmp (expanded es) k → value_at pair_cmp es k ≡ None → ⊥
@@ -87,7 +87,7 @@ module _ (es fs : List ((ℕ × ℕ) × ℕ)) (k : ℕ × ℕ) (t : IsTally es) 
       present = subst (λ gs. All (λ m. 0 < m) (values_of gs)) (sym is) (All-map-remove_entry (is_at (pair_cmp k)) (λ e. e.1) (λ m. 0 < m) es t.present);
       small = subst (λ gs. All (λ (q : ℕ × ℕ). q.1 < 2 ^ 32) (keys_of gs)) (sym is) (All-map-remove_entry (is_at (pair_cmp k)) (λ e. e.0) (λ (q : ℕ × ℕ). q.1 < 2 ^ 32) es t.small);
     };
-    rows = ap expanded is ∙ expanded-remove_entry pair_cmp es k (count ∙ ap Some one);
+    records = ap expanded is ∙ expanded-remove_entry pair_cmp es k (count ∙ ap Some one);
   }
 
   pub lowered_by_set : n ≢ 1 → fs ≡ set_value (is_at (pair_cmp k)) es (n - 1) → IsLedger pair_cmp fs → IsLowered es fs k
@@ -101,35 +101,35 @@ module _ (es fs : List ((ℕ × ℕ) × ℕ)) (k : ℕ × ℕ) (t : IsTally es) 
           small = subst (λ gs. All (λ (q : ℕ × ℕ). q.1 < 2 ^ 32) (keys_of gs)) (sym is)
               (subst (All (λ (q : ℕ × ℕ). q.1 < 2 ^ 32)) (sym (keys-set_value (is_at (pair_cmp k)) es (n - 1))) t.small);
         };
-        rows = ap expanded is ∙ expanded-set_value pair_cmp es k (n - 1) (count ∙ ap Some e);
+        records = ap expanded is ∙ expanded-set_value pair_cmp es k (n - 1) (count ∙ ap Some e);
       }
 
 -- ---- the lengths of records, one after another
 
-with_length-cons : (r : RecordValue) (rows : List RecordValue) (k : ℕ × ℕ) → with_length (r ∷ rows) k ≡ cond (is_eq (pair_cmp k (length_of r))) 1 0 + with_length rows k
-with_length-cons r rows k = sum_by-cons (λ q. cond (is_eq (pair_cmp k (length_of q))) 1 0) r rows
+with_length-cons : (r : RecordValue) (records : List RecordValue) (k : ℕ × ℕ) → with_length (r ∷ records) k ≡ cond (is_eq (pair_cmp k (length_of r))) 1 0 + with_length records k
+with_length-cons r records k = sum_by-cons (λ q. cond (is_eq (pair_cmp k (length_of q))) 1 0) r records
 
 -- the map has the lengths of all records but those that are left
-pub record IsCounted (es : List ((ℕ × ℕ) × ℕ)) (left rows : List RecordValue) : Type 0 where
+pub record IsCounted (es : List ((ℕ × ℕ) × ℕ)) (left records : List RecordValue) : Type 0 where
   pub tally : IsTally es
-  pub counts : (k : ℕ × ℕ) → copies_by pair_cmp (expanded es) k + with_length left k ≡ with_length rows k
+  pub counts : (k : ℕ × ℕ) → copies_by pair_cmp (expanded es) k + with_length left k ≡ with_length records k
 
 no_lengths : IsLedger {V = ℕ} pair_cmp []
 unfolding IsStrictlySortedBy
 no_lengths = tt
 
-pub IsCounted-begin : (es : List ((ℕ × ℕ) × ℕ)) (rows : List RecordValue) → es ≡ [] → IsCounted es rows rows
-IsCounted-begin es rows none = rw none record {
+pub IsCounted-begin : (es : List ((ℕ × ℕ) × ℕ)) (records : List RecordValue) → es ≡ [] → IsCounted es records records
+IsCounted-begin es records none = rw none record {
   tally = record { ordered = no_lengths; present = All-nil (λ n. 0 < n); small = All-nil (λ (k : ℕ × ℕ). k.1 < 2 ^ 32) };
   counts = λ k. omega arith;
 }
 
-pub IsCounted-room : (es : List ((ℕ × ℕ) × ℕ)) (left rows : List RecordValue) (k : ℕ × ℕ) → IsCounted es left rows → copies_by pair_cmp (expanded es) k ≤ length rows
-IsCounted-room es left rows k c = omega (arith, c.counts k, count_by-le-length (λ r. is_eq (pair_cmp k (length_of r))) rows)
+pub IsCounted-room : (es : List ((ℕ × ℕ) × ℕ)) (left records : List RecordValue) (k : ℕ × ℕ) → IsCounted es left records → copies_by pair_cmp (expanded es) k ≤ length records
+IsCounted-room es left records k c = omega (arith, c.counts k, count_by-le-length (λ r. is_eq (pair_cmp k (length_of r))) records)
 
-pub IsCounted-next : (es fs : List ((ℕ × ℕ) × ℕ)) (left after rows : List RecordValue) (r : RecordValue) → IsCounted es left rows → left ≡ r ∷ after
-    → IsTally fs → expanded fs ≡ added_by pair_cmp (expanded es) (length_of r) → IsCounted fs after rows
-IsCounted-next es fs left after rows r c first t up = record {
+pub IsCounted-next : (es fs : List ((ℕ × ℕ) × ℕ)) (left after records : List RecordValue) (r : RecordValue) → IsCounted es left records → left ≡ r ∷ after
+    → IsTally fs → expanded fs ≡ added_by pair_cmp (expanded es) (length_of r) → IsCounted fs after records
+IsCounted-next es fs left after records r c first t up = record {
   tally = t;
   counts = λ k. omega (
     arith,
@@ -141,8 +141,8 @@ IsCounted-next es fs left after rows r c first t up = record {
   );
 }
 
-pub IsCounted-all : (es : List ((ℕ × ℕ) × ℕ)) (left rows : List RecordValue) → IsCounted es left rows → left ≡ [] → AreLengths es rows
-IsCounted-all es left rows c none = record {
+pub IsCounted-all : (es : List ((ℕ × ℕ) × ℕ)) (left records : List RecordValue) → IsCounted es left records → left ≡ [] → AreLengths es records
+IsCounted-all es left records c none = record {
   tally = c.tally;
   counts = λ k. omega (arith, c.counts k, ap (λ (l : List RecordValue). with_length l k) none);
 }
@@ -150,52 +150,52 @@ IsCounted-all es left rows c none = record {
 -- ---- the lengths of a track's records, with one more and with one less
 
 -- a length is counted at most once for each record
-pub AreLengths-room : (es : List ((ℕ × ℕ) × ℕ)) (rows : List RecordValue) (k : ℕ × ℕ) → AreLengths es rows → copies_by pair_cmp (expanded es) k ≤ length rows
-AreLengths-room es rows k a = omega (arith, a.counts k, count_by-le-length (λ r. is_eq (pair_cmp k (length_of r))) rows)
+pub AreLengths-room : (es : List ((ℕ × ℕ) × ℕ)) (records : List RecordValue) (k : ℕ × ℕ) → AreLengths es records → copies_by pair_cmp (expanded es) k ≤ length records
+AreLengths-room es records k a = omega (arith, a.counts k, count_by-le-length (λ r. is_eq (pair_cmp k (length_of r))) records)
 
-with_length-added : (rows : List RecordValue) (r : RecordValue) (k : ℕ × ℕ) → with_length (added rows r) k ≡ cond (is_eq (pair_cmp k (length_of r))) 1 0 + with_length rows k
-with_length-added rows r k = count-added record_cmp (λ q. is_eq (pair_cmp k (length_of q))) rows r
+with_length-added : (records : List RecordValue) (r : RecordValue) (k : ℕ × ℕ) → with_length (added records r) k ≡ cond (is_eq (pair_cmp k (length_of r))) 1 0 + with_length records k
+with_length-added records r k = count-added record_cmp (λ q. is_eq (pair_cmp k (length_of q))) records r
 
 -- a record that is there is one of those that have its length
-with_length-removed : (rows : List RecordValue) (r : RecordValue) (k : ℕ × ℕ) → AreInOrder rows → 0 < copies rows r
-    → with_length rows k ≡ cond (is_eq (pair_cmp k (length_of r))) 1 0 + with_length (removed rows r) k
-with_length-removed rows r k order there = ap (λ (l : List RecordValue). with_length l k) (added-removed rows r order there) ∙ with_length-added (removed rows r) r k
+with_length-removed : (records : List RecordValue) (r : RecordValue) (k : ℕ × ℕ) → AreInOrder records → 0 < copies records r
+    → with_length records k ≡ cond (is_eq (pair_cmp k (length_of r))) 1 0 + with_length (removed records r) k
+with_length-removed records r k order there = ap (λ (l : List RecordValue). with_length l k) (added-removed records r order there) ∙ with_length-added (removed records r) r k
 
 -- its length is counted
-pub counted-there : (es : List ((ℕ × ℕ) × ℕ)) (rows : List RecordValue) (r : RecordValue) → AreLengths es rows → AreInOrder rows → 0 < copies rows r → 0 < copies_by pair_cmp (expanded es) (length_of r)
-counted-there es rows r a order there =
-    omega (arith, a.counts (length_of r), with_length-removed rows r (length_of r) order there, ap {B = ℕ} (λ (o : Ordering). cond (is_eq o) 1 0) (tied_itself pair_total (length_of r)))
+pub counted-there : (es : List ((ℕ × ℕ) × ℕ)) (records : List RecordValue) (r : RecordValue) → AreLengths es records → AreInOrder records → 0 < copies records r → 0 < copies_by pair_cmp (expanded es) (length_of r)
+counted-there es records r a order there =
+    omega (arith, a.counts (length_of r), with_length-removed records r (length_of r) order there, ap {B = ℕ} (λ (o : Ordering). cond (is_eq o) 1 0) (tied_itself pair_total (length_of r)))
 
 -- a record whose length isn't counted is not there
-pub absent-uncounted : (es : List ((ℕ × ℕ) × ℕ)) (rows : List RecordValue) (r : RecordValue) → AreLengths es rows → AreInOrder rows → copies_by pair_cmp (expanded es) (length_of r) ≡ 0 → copies rows r ≡ 0
-absent-uncounted es rows r a order none = elim (cases_lt 0 (copies rows r)) [
-  | inl there ↦ absurd (omega (arith, none, counted-there es rows r a order there))
+pub absent-uncounted : (es : List ((ℕ × ℕ) × ℕ)) (records : List RecordValue) (r : RecordValue) → AreLengths es records → AreInOrder records → copies_by pair_cmp (expanded es) (length_of r) ≡ 0 → copies records r ≡ 0
+absent-uncounted es records r a order none = elim (cases_lt 0 (copies records r)) [
+  | inl there ↦ absurd (omega (arith, none, counted-there es records r a order there))
   | inr low ↦ omega arith
 ]
 
-pub AreLengths-added : (es fs : List ((ℕ × ℕ) × ℕ)) (rows : List RecordValue) (r : RecordValue) → AreLengths es rows → IsTally fs
-    → expanded fs ≡ added_by pair_cmp (expanded es) (length_of r) → AreLengths fs (added rows r)
-AreLengths-added es fs rows r a t up = record {
+pub AreLengths-added : (es fs : List ((ℕ × ℕ) × ℕ)) (records : List RecordValue) (r : RecordValue) → AreLengths es records → IsTally fs
+    → expanded fs ≡ added_by pair_cmp (expanded es) (length_of r) → AreLengths fs (added records r)
+AreLengths-added es fs records r a t up = record {
   tally = t;
   counts = λ k. omega (
     arith,
     a.counts k,
-    with_length-added rows r k,
+    with_length-added records r k,
     ap (λ (l : List (ℕ × ℕ)). copies_by pair_cmp l k) up,
     copies-added pair_cmp (expanded es) (length_of r) k,
   );
 }
 
-pub AreLengths-removed : (es fs : List ((ℕ × ℕ) × ℕ)) (rows : List RecordValue) (r : RecordValue) → AreLengths es rows → AreInOrder rows → 0 < copies rows r
-    → IsLowered es fs (length_of r) → AreLengths fs (removed rows r)
-AreLengths-removed es fs rows r a order there low = record {
+pub AreLengths-removed : (es fs : List ((ℕ × ℕ) × ℕ)) (records : List RecordValue) (r : RecordValue) → AreLengths es records → AreInOrder records → 0 < copies records r
+    → IsLowered es fs (length_of r) → AreLengths fs (removed records r)
+AreLengths-removed es fs records r a order there low = record {
   tally = low.tally;
   counts = λ k. omega (
     arith,
     a.counts k,
-    with_length-removed rows r k order there,
-    ap (λ (l : List (ℕ × ℕ)). copies_by pair_cmp l k) low.rows,
-    copies-removed pair_cmp pair_total (expanded es) (length_of r) k (counted-there es rows r a order there),
+    with_length-removed records r k order there,
+    ap (λ (l : List (ℕ × ℕ)). copies_by pair_cmp l k) low.records,
+    copies-removed pair_cmp pair_total (expanded es) (length_of r) k (counted-there es records r a order there),
   );
 }
 
@@ -210,45 +210,45 @@ raised-there es fs k up =
     )
 
 -- and then all is counted as before
-pub AreLengths-back : (es fs gs : List ((ℕ × ℕ) × ℕ)) (rows : List RecordValue) (k : ℕ × ℕ) → AreLengths es rows → expanded fs ≡ added_by pair_cmp (expanded es) k
-    → IsLowered fs gs k → AreLengths gs rows
-AreLengths-back es fs gs rows k a up low = record {
+pub AreLengths-back : (es fs gs : List ((ℕ × ℕ) × ℕ)) (records : List RecordValue) (k : ℕ × ℕ) → AreLengths es records → expanded fs ≡ added_by pair_cmp (expanded es) k
+    → IsLowered fs gs k → AreLengths gs records
+AreLengths-back es fs gs records k a up low = record {
   tally = low.tally;
   counts = λ q. omega (
     arith,
     a.counts q,
     ap (λ (l : List (ℕ × ℕ)). copies_by pair_cmp l q) up,
     copies-added pair_cmp (expanded es) k q,
-    ap (λ (l : List (ℕ × ℕ)). copies_by pair_cmp l q) low.rows,
+    ap (λ (l : List (ℕ × ℕ)). copies_by pair_cmp l q) low.records,
     copies-removed pair_cmp pair_total (expanded fs) k q (raised-there es fs k up),
   );
 }
 
 -- a second file of the records of a file
-pub few-ordered : (rows : List RecordValue) (limit : ℕ) → length rows ≤ limit → length (ordered rows) ≤ limit
-few-ordered rows limit few = omega (arith, length-all_added record_cmp rows [], few)
+pub few-ordered : (records : List RecordValue) (limit : ℕ) → length records ≤ limit → length (ordered records) ≤ limit
+few-ordered records limit few = omega (arith, length-all_added record_cmp records [], few)
 
-pub IsSecond-new : (es : List ((ℕ × ℕ) × ℕ)) (rows : List RecordValue) (width limit : ℕ) (track : Tracked) → track ≡ record { rows = ordered rows; width = width; limit = limit }
-    → AreLengths es track.rows → length rows ≤ limit → IsSecond es track
-IsSecond-new es rows width limit track is a few = record {
+pub IsSecond-new : (es : List ((ℕ × ℕ) × ℕ)) (records : List RecordValue) (width limit : ℕ) (track : Tracked) → track ≡ record { records = ordered records; width = width; limit = limit }
+    → AreLengths es track.records → length records ≤ limit → IsSecond es track
+IsSecond-new es records width limit track is a few = record {
   counted = a;
-  few = subst (λ (t : Tracked). length t.rows ≤ t.limit) (sym is) (few-ordered rows limit few);
+  few = subst (λ (t : Tracked). length t.records ≤ t.limit) (sym is) (few-ordered records limit few);
 }
 
 -- a bound of all lengths of a sequence is one of its records
-up_to : (rows : List RecordValue) (seq n : ℕ) → ((k : ℕ × ℕ) → k.0 ≡ seq → 0 < with_length rows k → k.1 ≤ n) → AreUpTo seq n rows
+up_to : (records : List RecordValue) (seq n : ℕ) → ((k : ℕ × ℕ) → k.0 ≡ seq → 0 < with_length records k → k.1 ≤ n) → AreUpTo seq n records
 up_to [] seq n h = All-nil (λ (q : RecordValue). q.seq ≡ seq → q.stop ≤ q.start + n)
-up_to (r ∷ rows) seq n h =
-    All-cons (λ (q : RecordValue). q.seq ≡ seq → q.stop ≤ q.start + n) r rows
+up_to (r ∷ records) seq n h =
+    All-cons (λ (q : RecordValue). q.seq ≡ seq → q.stop ≤ q.start + n) r records
     (λ is.
     let own = ap {B = ℕ} (λ (o : Ordering). cond (is_eq o) 1 0) (tied_itself pair_total (length_of r)) in
-    let long : r.stop - r.start ≤ n = h (length_of r) is (omega (arith, with_length-cons r rows (length_of r), own)) in
+    let long : r.stop - r.start ≤ n = h (length_of r) is (omega (arith, with_length-cons r records (length_of r), own)) in
     omega arith)
-    (up_to rows seq n (λ k is some. h k is (omega (arith, some, with_length-cons r rows k))))
+    (up_to records seq n (λ k is some. h k is (omega (arith, some, with_length-cons r records k))))
 
-pub AreLengths-up_to : (es : List ((ℕ × ℕ) × ℕ)) (rows : List RecordValue) (seq n : ℕ) → AreLengths es rows
-    → ((k : ℕ × ℕ) → k.0 ≡ seq → 0 < copies_by pair_cmp (expanded es) k → k.1 ≤ n) → AreUpTo seq n rows
-AreLengths-up_to es rows seq n a bound = up_to rows seq n (λ k is some. bound k is (omega (arith, a.counts k, some)))
+pub AreLengths-up_to : (es : List ((ℕ × ℕ) × ℕ)) (records : List RecordValue) (seq n : ℕ) → AreLengths es records
+    → ((k : ℕ × ℕ) → k.0 ≡ seq → 0 < copies_by pair_cmp (expanded es) k → k.1 ≤ n) → AreUpTo seq n records
+AreLengths-up_to es records seq n a bound = up_to records seq n (λ k is some. bound k is (omega (arith, a.counts k, some)))
 
 -- ---- the last length of a sequence
 

@@ -10,19 +10,19 @@ use Rattle.iv_text.specs.RecordValue.{RecordValue}
 use Rattle.iv_pair.specs.Hits.{hits_of}
 use Rattle.iv_pair.specs.IntersectRows.{intersect_rows}
 use Rattle.iv_pair.specs.Inside.HitLines.{AllOverlap, Overlaps, hit_line}
-use Rattle.iv_pair.specs.declared.intersect.IntersectRows.{IntersectRows}
-use Rattle.iv_pair.specs.declared.intersect.IntersectRows.TheVariants.{IfHit, IfNoHit, Shared, SharedAndHit, Whole, WholeAndHit}
+use Rattle.iv_pair.specs.declared.intersect.IntersectOutput.{IntersectOutput}
+use Rattle.iv_pair.specs.declared.intersect.IntersectOutput.TheVariants.{IfHit, IfNoHit, Shared, SharedAndHit, Whole, WholeAndHit}
 use Rattle.iv_pair.proofs.HitsLemmas.{hits-overlap}
 use Rattle.iv_pair.proofs.YieldLemmas.{ended, went}
 
 -- if a line is shown for each hit, they are the rows
-lines-rows : (shown : IntersectRows) (g : Sequences) (a : RecordValue) (found : List RecordValue)
-    → (shown ≡ Shared) ⊎ ((shown ≡ SharedAndHit) ⊎ ((shown ≡ Whole) ⊎ (shown ≡ WholeAndHit)))
-    → flat_map (hit_line shown g a) found ≡ intersect_rows shown g a found
-lines-rows shown g a found (inl e) = rw e refl
-lines-rows shown g a found (inr (inl e)) = rw e refl
-lines-rows shown g a found (inr (inr (inl e))) = rw e refl
-lines-rows shown g a found (inr (inr (inr e))) = rw e refl
+lines-rows : (output : IntersectOutput) (g : Sequences) (a : RecordValue) (found : List RecordValue)
+    → (output ≡ Shared) ⊎ ((output ≡ SharedAndHit) ⊎ ((output ≡ Whole) ⊎ (output ≡ WholeAndHit)))
+    → flat_map (hit_line output g a) found ≡ intersect_rows output g a found
+lines-rows output g a found (inl e) = rw e refl
+lines-rows output g a found (inr (inl e)) = rw e refl
+lines-rows output g a found (inr (inr (inl e))) = rw e refl
+lines-rows output g a found (inr (inr (inr e))) = rw e refl
 
 -- a record has no line if it has a hit and none is asked for, or the other way round
 pub not-asked : {S A : Type 0} (steps : S → Option A → S → Type 0) (v : A → RecordValue) (has : Bool) (first : Option A) (s t : S) (found : List RecordValue)
@@ -34,11 +34,11 @@ not-asked steps v false None s t found g a all step other = absurd (true≢false
 not-asked steps v false (Some x) s t found g a all step other = ap (intersect_rows IfNoHit g a) (went steps v found s t x all step).1
 
 -- a line was put for each hit of a record
-pub Puts-hits : {T E : Type 0} (shown : IntersectRows) (g : Sequences) (a : RecordValue) (second : List RecordValue) (old new : SinkState) (result : Result T E)
-    → (AllOverlap a (hits_of second a) → Puts old new result (flat_map (hit_line shown g a) (hits_of second a)))
-    → (shown ≡ Shared) ⊎ ((shown ≡ SharedAndHit) ⊎ ((shown ≡ Whole) ⊎ (shown ≡ WholeAndHit))) → Puts old new result (intersect_rows shown g a (hits_of second a))
-Puts-hits shown g a second old new result put which =
-    subst (Puts old new result) (lines-rows shown g a (hits_of second a) which) (put (hits-overlap second a))
+pub Puts-hits : {T E : Type 0} (output : IntersectOutput) (g : Sequences) (a : RecordValue) (second : List RecordValue) (old new : SinkState) (result : Result T E)
+    → (AllOverlap a (hits_of second a) → Puts old new result (flat_map (hit_line output g a) (hits_of second a)))
+    → (output ≡ Shared) ⊎ ((output ≡ SharedAndHit) ⊎ ((output ≡ Whole) ⊎ (output ≡ WholeAndHit))) → Puts old new result (intersect_rows output g a (hits_of second a))
+Puts-hits output g a second old new result put which =
+    subst (Puts old new result) (lines-rows output g a (hits_of second a) which) (put (hits-overlap second a))
 
 -- ---- hit by hit, as an iterator gives them
 

@@ -2,28 +2,28 @@
 use Rattle.std.specs.Prelude.{◌≡◌, ◌<◌, ℕ, Bool, true, false, List, All}
 use Rattle.iv_text.specs.Genome.{Sequences}
 use Rattle.iv_text.specs.RecordValue.{RecordValue}
-use Rattle.iv_index.specs.Cover.{is_covered}
+use Rattle.iv_locators.specs.Cover.{is_covered}
 use Rattle.iv_pair.specs.PairRows.{pair_text}
-use Rattle.iv_pair.specs.declared.intersect.IntersectRows.TheVariants.{Shared, SharedAndHit, Whole, WholeAndHit, IfHit, IfNoHit, Count}
-use Rattle.iv_pair.specs.declared.pair_rows.PairRows.{PairRows}
-use Rattle.iv_pair.specs.declared.pair_rows.PairRows.TheVariants.{Intersect, Subtract}
+use Rattle.iv_pair.specs.declared.intersect.IntersectOutput.TheVariants.{Shared, SharedAndHit, Whole, WholeAndHit, IfHit, IfNoHit, Count}
+use Rattle.iv_pair.specs.declared.pair_rows.PairOutput.{PairOutput}
+use Rattle.iv_pair.specs.declared.pair_rows.PairOutput.TheVariants.{Intersect, Subtract}
 
 -- each record has a base
 abbrev pub HaveBases : List RecordValue → Type 0
-HaveBases rows = All (λ r. r.start < r.stop) rows
+HaveBases records = All (λ r. r.start < r.stop) records
 
 -- the same positions of each sequence are covered
 abbrev pub CoverAlike : List RecordValue → List RecordValue → Type 0
 CoverAlike second other = (seq p : ℕ) → is_covered second seq p ≡ is_covered other seq p
 
 -- two second lists that cover the same positions give one text, whatever the first list
-abbrev pub DependsOnCoverAlone : PairRows → Type 0
-DependsOnCoverAlone rows =
+abbrev pub DependsOnCoverAlone : PairOutput → Type 0
+DependsOnCoverAlone output =
     (g : Sequences) (first second other : List RecordValue) → HaveBases first → HaveBases second → HaveBases other → CoverAlike second other
-    → pair_text rows g first second ≡ pair_text rows g first other
+    → pair_text output g first second ≡ pair_text output g first other
 
 -- an intersect that only asks whether there is a hit, and each subtract
-abbrev pub needs_cover_alone : PairRows → Bool
+abbrev pub needs_cover_alone : PairOutput → Bool
 needs_cover_alone (Intersect Shared) = false
 needs_cover_alone (Intersect SharedAndHit) = false
 needs_cover_alone (Intersect Whole) = false

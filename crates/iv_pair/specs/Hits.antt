@@ -5,4 +5,4 @@ use Rattle.iv_track.specs.Regions.{hits}
 
 -- the records that share a position with a record
 abbrev pub hits_of : List RecordValue → RecordValue → List RecordValue
-hits_of rows a = hits rows a.seq a.start a.stop
+hits_of records a = hits records a.seq a.start a.stop

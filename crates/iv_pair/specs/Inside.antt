@@ -7,4 +7,4 @@ pub mod Pairs
 pub mod PairSweeps
 pub mod Intervals
 pub mod JoinedCovers
-pub mod Besides
+pub mod PairPrinters

@@ -4,8 +4,8 @@ use Rattle.std.specs.List.{flat_map}
 use Rattle.iv_text.specs.Genome.{Sequences}
 use Rattle.iv_text.specs.RecordText.{record_text}
 use Rattle.iv_text.specs.RecordValue.{RecordValue, part}
-use Rattle.iv_pair.specs.declared.intersect.IntersectRows.{IntersectRows}
-use Rattle.iv_pair.specs.declared.intersect.IntersectRows.TheVariants.{Shared, SharedAndHit, Whole, WholeAndHit, IfHit, IfNoHit, Count}
+use Rattle.iv_pair.specs.declared.intersect.IntersectOutput.{IntersectOutput}
+use Rattle.iv_pair.specs.declared.intersect.IntersectOutput.TheVariants.{Shared, SharedAndHit, Whole, WholeAndHit, IfHit, IfNoHit, Count}
 
 -- the line of a record: its columns and a line feed
 abbrev pub record_line : Sequences → RecordValue → List ℕ
@@ -20,7 +20,7 @@ abbrev pub shared : RecordValue → RecordValue → RecordValue
 shared a b = part a (max a.start b.start) (min a.stop b.stop)
 
 -- the rows of a record and its hits: one for each hit, or the record if it has a hit or has none, or the record and how many it has
-abbrev pub intersect_rows : IntersectRows → Sequences → RecordValue → List RecordValue → List ℕ
+abbrev pub intersect_rows : IntersectOutput → Sequences → RecordValue → List RecordValue → List ℕ
 intersect_rows Shared g a found = flat_map (λ b. record_line g (shared a b)) found
 intersect_rows SharedAndHit g a found = flat_map (λ b. pair_line g (shared a b) b) found
 intersect_rows Whole g a found = flat_map (λ b. record_line g a) found

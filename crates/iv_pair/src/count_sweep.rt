@@ -5,12 +5,12 @@ ghost use Rattle.iv_bytes.specs.Sinks.{Puts};
 ghost use Rattle.iv_text.specs.Ordered.{AreInOrder};
 ghost use Rattle.iv_pair.specs.Inside.Counts.{EndsAscend, StartsAscend, end_by, end_of, is_before, is_up_to, place_before};
 ghost use Rattle.iv_pair.specs.PairRows.{pair_text};
-ghost use Rattle.iv_pair.specs.declared.intersect.IntersectRows.TheVariants.{Count};
-ghost use Rattle.iv_pair.specs.declared.pair_rows.PairRows.TheVariants.{Intersect};
+ghost use Rattle.iv_pair.specs.declared.intersect.IntersectOutput.TheVariants.{Count};
+ghost use Rattle.iv_pair.specs.declared.pair_rows.PairOutput.TheVariants.{Intersect};
 
 use crate::intersect::put_count;
 use iv_bytes::{Sink, WriteFault};
-use iv_index::{Locator, TextRecords};
+use iv_locators::{Locator, TextRecords};
 use iv_text::{BedRecord, Genome};
 use std::alloc::{AllocError, Allocator, Global};
 use std::marker::Model;
@@ -68,18 +68,18 @@ impl<'t, A: Allocator + Copy> CountSweep<'t, A> {
     pub fn print<S: Sink>(&self, genome: &Genome<A>, sink: &mut S) -> Result<(), WriteFault>
         ensures { Puts (S.state sink.old) (S.state sink.new) result (pair_text (Intersect Count) genome.now self.now.first self.now.second) }
     {
-        let places = self.second.locators();
+        let locators = self.second.locators();
         let ends = self.ends.as_slice();
         let mut begun = 0;
         let mut ended = 0;
-        for row in self.first.again() {
-            row.lemma_of_interval();
-            let seq = row.seq();
-            let start = row.start();
+        for feature in self.first.again() {
+            feature.lemma_of_interval();
+            let seq = feature.seq();
+            let start = feature.start();
             ended = pass_ends(ends, ended, seq, start);
-            begun = pass_starts(places, begun, places.len(), seq, start);
-            let reached = count_starts(places, begun, seq, row.stop());
-            put_count(genome, &row, (reached - ended) as u64, sink)?;
+            begun = pass_starts(locators, begun, locators.len(), seq, start);
+            let reached = count_starts(locators, begun, seq, feature.stop());
+            put_count(genome, &feature, (reached - ended) as u64, sink)?;
         }
         Ok(())
     }
@@ -95,15 +95,18 @@ pub(crate) struct End {
 }
 
 /// The ends of these locators, in order: 8 bytes for each.
-pub(crate) fn ends_of<A: Allocator>(alloc: A, places: &[Locator]) -> Result<Vec<End, A>, AllocError>
-    ensures moved { IfOk result (λ ends. IsPermutation (map end_of places.now) ends.items) }
+pub(crate) fn ends_of<A: Allocator>(
+    alloc: A,
+    locators: &[Locator],
+) -> Result<Vec<End, A>, AllocError>
+    ensures moved { IfOk result (λ ends. IsPermutation (map end_of locators.now) ends.items) }
     ensures ordered { IfOk result (λ ends. EndsAscend ends.items) }
 {
-    let mut ends = Vec::with_capacity(alloc, places.len())?;
-    for place in places {
+    let mut ends = Vec::with_capacity(alloc, locators.len())?;
+    for locator in locators {
         ends.push(End {
-            seq: place.span.seq,
-            stop: place.span.stop,
+            seq: locator.span.seq,
+            stop: locator.span.stop,
         })?;
     }
     ends.sort_unstable();
@@ -144,31 +147,31 @@ pub(crate) fn count_ends(ends: &[End], seq: u32, at: u64) -> usize
 /// How many locators begin before a position, if it is known that so many do.
 ///
 /// The next few are looked at one after another. If all of them begin before it, the others are searched.
-pub(crate) fn count_starts(places: &[Locator], from: usize, seq: u32, at: u64) -> usize
-    requires ordered { StartsAscend places.now }
-    requires from { from ≤ count_by (place_before seq at) places.now }
-    ensures { result ≡ count_by (place_before seq at) places.now }
+pub(crate) fn count_starts(locators: &[Locator], from: usize, seq: u32, at: u64) -> usize
+    requires ordered { StartsAscend locators.now }
+    requires from { from ≤ count_by (place_before seq at) locators.now }
+    ensures { result ≡ count_by (place_before seq at) locators.now }
 {
-    let until = from + FEW.min(places.len() - from);
-    let passed = pass_starts(places, from, until, seq, at);
+    let until = from + FEW.min(locators.len() - from);
+    let passed = pass_starts(locators, from, until, seq, at);
     if passed < until {
         return passed;
     }
-    let others = &places[passed..];
-    passed + others.partition_point(|place| begins_before(place, seq, at))
+    let others = &locators[passed..];
+    passed + others.partition_point(|locator| begins_before(locator, seq, at))
 }
 
 /// Passes locators that begin before a position, if it is known that so many do. It goes no further than to an index.
-fn pass_starts(places: &[Locator], from: usize, until: usize, seq: u32, at: u64) -> usize
-    requires ordered { StartsAscend places.now }
-    requires from { from ≤ count_by (place_before seq at) places.now }
-    requires until { until ≤ length places.now }
-    ensures few { result ≤ count_by (place_before seq at) places.now }
-    ensures all { result < until → result ≡ count_by (place_before seq at) places.now }
+fn pass_starts(locators: &[Locator], from: usize, until: usize, seq: u32, at: u64) -> usize
+    requires ordered { StartsAscend locators.now }
+    requires from { from ≤ count_by (place_before seq at) locators.now }
+    requires until { until ≤ length locators.now }
+    ensures few { result ≤ count_by (place_before seq at) locators.now }
+    ensures all { result < until → result ≡ count_by (place_before seq at) locators.now }
 {
     let mut passed = from;
     while passed < until {
-        if !begins_before(&places[passed], seq, at) {
+        if !begins_before(&locators[passed], seq, at) {
             return passed;
         }
         passed += 1;
@@ -177,8 +180,8 @@ fn pass_starts(places: &[Locator], from: usize, until: usize, seq: u32, at: u64)
 }
 
 /// Whether a locator begins before a position of a sequence.
-fn begins_before(place: &Locator, seq: u32, at: u64) -> bool
-    ensures { result ≡ is_before seq at place.now.span.seq place.now.span.start }
+fn begins_before(locator: &Locator, seq: u32, at: u64) -> bool
+    ensures { result ≡ is_before seq at locator.now.span.seq locator.now.span.start }
 {
-    place.span.seq < seq || place.span.seq == seq && u64::from(place.span.start) < at
+    locator.span.seq < seq || locator.span.seq == seq && u64::from(locator.span.start) < at
 }

@@ -3,7 +3,7 @@ ghost use Rattle.iv_bytes.specs.Sinks.{Puts};
 ghost use Rattle.iv_fasta.specs.FastaRows.{fasta_text};
 
 use iv_bytes::{Sink, WriteFault};
-use iv_fasta::{Fasta, FastaRows, put_fasta};
+use iv_fasta::{Fasta, FastaOutput, put_fasta};
 use iv_text::Genome;
 use iv_track::{Meter, Track};
 use std::alloc::Allocator;
@@ -12,18 +12,18 @@ use std::alloc::Allocator;
 ///
 /// One walk over the track, and no memory. On a fault the sink has taken a prefix of the text.
 pub fn print_fasta<A: Allocator + Copy, S: Sink>(
-    shown: FastaRows,
+    output: FastaOutput,
     track: &Track<A>,
     fasta: &Fasta<A>,
     genome: &Genome<A>,
     meter: &mut Meter,
     sink: &mut S,
 ) -> Result<(), WriteFault>
-    ensures { Puts (S.state sink.old) (S.state sink.new) result (fasta_text shown genome.now fasta.now track.now.rows) }
+    ensures { Puts (S.state sink.old) (S.state sink.new) result (fasta_text output genome.now fasta.now track.now.records) }
 {
-    let mut rows = track.walk(0, 0, meter);
-    while let Some(row) = rows.next(meter) {
-        put_fasta(shown, genome, row, fasta, sink)?;
+    let mut records = track.walk(0, 0, meter);
+    while let Some(feature) = records.next(meter) {
+        put_fasta(output, genome, feature, fasta, sink)?;
     }
     Ok(())
 }

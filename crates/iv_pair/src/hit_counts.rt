@@ -1,12 +1,12 @@
 //! How many hits an interval has, without a look at them.
 ghost use Rattle.std.specs.Prelude.{◌≡◌, ◌<◌, IfOk, length, map};
-ghost use Rattle.iv_index.specs.Locators.{bare};
+ghost use Rattle.iv_locators.specs.Locators.{bare};
 ghost use Rattle.iv_track.specs.Regions.{hits};
 
 use crate::count_sweep::{End, count_ends, count_starts, ends_of};
 use crate::intervals::intervals_of;
 use crate::second::Second;
-use iv_index::BedText;
+use iv_locators::BedText;
 use iv_track::Meter;
 use std::alloc::{AllocError, Allocator};
 use std::marker::Model;
@@ -28,15 +28,15 @@ impl<A: Allocator + Copy> Model for HitCounts<A> {
 
     ghost Value = { List RecordValue };
 
-    ghost view = { λ c. c.intervals.rows };
+    ghost view = { λ c. c.intervals.records };
 
-    ghost invariant = { λ c. AreCounted c.ends.items c.intervals.rows };
+    ghost invariant = { λ c. AreCounted c.ends.items c.intervals.records };
 }
 
 impl<A: Allocator + Copy> HitCounts<A> {
     /// Those of a second file.
     pub(crate) fn of(second: &Second<A>, meter: &mut Meter) -> Result<Self, AllocError>
-        ensures { IfOk result (λ c. c ≡ map bare second.now.rows) }
+        ensures { IfOk result (λ c. c ≡ map bare second.now.records) }
     {
         // The records of the second file are in order.
         let _count = second.len();

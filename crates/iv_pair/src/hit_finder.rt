@@ -27,7 +27,7 @@ const MOST_CARRIED: usize = 64;
 pub(crate) struct HitFinder<'a, A: Allocator + Copy> {
     second: &'a Second<A>,
     carried: Carried<'a, A>,
-    rows: TrackRecords<'a, A>,
+    walk: TrackRecords<'a, A>,
     // The interval that was sought last.
     seq: u32,
     start: u64,
@@ -43,21 +43,21 @@ impl<'a, A: Allocator + Copy> Model for HitFinder<'a, A> {
 
     ghost Value = { Finding };
 
-    ghost view = { λ f. record { records = f.second.now.rows; seq = f.seq; start = f.start; found = f.carried ++ hits f.rows f.seq f.start f.stop } };
+    ghost view = { λ f. record { records = f.second.now.records; seq = f.seq; start = f.start; found = f.carried ++ hits f.walk f.seq f.start f.stop } };
 
-    ghost invariant = { λ f. StandsAt f.second.now.rows f.carried f.rows f.seq f.start f.longest };
+    ghost invariant = { λ f. StandsAt f.second.now.records f.carried f.walk f.seq f.start f.longest };
 }
 
 impl<'a, A: Allocator + Copy> HitFinder<'a, A> {
     /// It is at the first record.
     pub(crate) fn of(second: &'a Second<A>, meter: &mut Meter) -> Self
-        ensures { result.records ≡ second.now.rows }
+        ensures { result.records ≡ second.now.records }
     {
         let longest = second.longest(0, meter);
         HitFinder {
             second,
             carried: Carried::none(),
-            rows: second.walk(0, 0, meter),
+            walk: second.walk(0, 0, meter),
             seq: 0,
             start: 0,
             stop: 0,
@@ -74,7 +74,7 @@ impl<'a, A: Allocator + Copy> HitFinder<'a, A> {
         self.go_to(seq, start, meter);
         take_begun(
             &mut self.carried,
-            &mut self.rows,
+            &mut self.walk,
             self.seq,
             self.start,
             u32::MAX,
@@ -97,13 +97,13 @@ impl<'a, A: Allocator + Copy> HitFinder<'a, A> {
         self.longest = longest;
         if goes_on {
             self.carried.keep(seq, start);
-            take_begun(&mut self.carried, &mut self.rows, seq, start, 8, meter);
-            if begins_from(&self.rows, seq, from, meter) {
+            take_begun(&mut self.carried, &mut self.walk, seq, start, 8, meter);
+            if begins_from(&self.walk, seq, from, meter) {
                 return;
             }
         }
         self.carried.clear();
-        self.rows = self.second.walk(seq, from, meter);
+        self.walk = self.second.walk(seq, from, meter);
     }
 
     /// The records that share a position with the interval that was sought last, as `Second::hits` gives them.
@@ -112,7 +112,7 @@ impl<'a, A: Allocator + Copy> HitFinder<'a, A> {
     {
         Hits::of(
             self.carried.slots(),
-            self.rows.again(),
+            self.walk.again(),
             self.seq,
             self.start,
             self.stop,
@@ -140,13 +140,13 @@ pub(crate) fn is_onward(seq: u32, at: u64, to_seq: u32, to: u64) -> bool
 
 /// Whether the first of the records is from a start on. If it does, to begin at the root would lead no further.
 fn begins_from<A: Allocator + Copy>(
-    rows: &TrackRecords<'_, A>,
+    walk: &TrackRecords<'_, A>,
     seq: u32,
     from: u64,
     meter: &mut Meter,
 ) -> bool {
-    match rows.again().next(meter) {
-        Some(row) => is_from(row, seq, from),
+    match walk.again().next(meter) {
+        Some(feature) => is_from(feature, seq, from),
         None => true,
     }
 }
@@ -155,34 +155,34 @@ fn begins_from<A: Allocator + Copy>(
 /// at one of them if there is no room.
 fn take_begun<'a, A: Allocator + Copy>(
     carried: &mut Carried<'a, A>,
-    rows: &mut TrackRecords<'a, A>,
+    walk: &mut TrackRecords<'a, A>,
     seq: u32,
     start: u64,
     most: u32,
     meter: &mut Meter,
 )
     requires start { start < 2 ^ 64 - 1 }
-    requires ordered { AreInOrder rows.old }
+    requires ordered { AreInOrder walk.old }
     requires cover { AllCover seq start carried.old }
-    ensures ordered { AreInOrder rows.new }
-    ensures few { length rows.new ≤ length rows.old }
+    ensures ordered { AreInOrder walk.new }
+    ensures few { length walk.new ≤ length walk.old }
     ensures cover { AllCover seq start carried.new }
-    ensures alike { HitAlike seq start (carried.new ++ rows.new) (carried.old ++ rows.old) }
+    ensures alike { HitAlike seq start (carried.new ++ walk.new) (carried.old ++ walk.old) }
 {
     for _ in 0..most {
-        let mut ahead = rows.again();
-        let Some(row) = ahead.next(meter) else {
+        let mut ahead = walk.again();
+        let Some(feature) = ahead.next(meter) else {
             return;
         };
-        if is_from(row, seq, start + 1) {
+        if is_from(feature, seq, start + 1) {
             return;
         }
-        if covers(row, seq, start) {
-            if !carried.push(row) {
+        if covers(feature, seq, start) {
+            if !carried.push(feature) {
                 return;
             }
         }
-        *rows = ahead;
+        *walk = ahead;
     }
 }
 
@@ -231,14 +231,14 @@ impl<'a, A: Allocator + Copy> Carried<'a, A> {
     }
 
     /// One more after them, if there is room.
-    fn push(&mut self, row: &'a Record<A>) -> bool
-        ensures pushed { result ≡ true → self.new ≡ self.old ++ row.now ∷ [] }
+    fn push(&mut self, feature: &'a Record<A>) -> bool
+        ensures pushed { result ≡ true → self.new ≡ self.old ++ feature.now ∷ [] }
         ensures full { result ≡ false → self.new ≡ self.old }
     {
         if self.slots.is_full() {
             return false;
         }
-        self.slots.push(Some(row));
+        self.slots.push(Some(feature));
         true
     }
 
@@ -255,14 +255,14 @@ fn is_kept<A: Allocator + Copy>(slot: &Option<&Record<A>>, seq: u32, position: u
     ensures { result ≡ keeps (covers seq position) slot.now }
 {
     match slot {
-        Some(row) => covers(*row, seq, position),
+        Some(feature) => covers(*feature, seq, position),
         None => false,
     }
 }
 
 /// Whether a record has this position of this sequence.
-fn covers<R: BedRecord>(row: &R, seq: u32, position: u64) -> bool
-    ensures { result ≡ covers seq position (R.as_record row.now) }
+fn covers<R: BedRecord>(feature: &R, seq: u32, position: u64) -> bool
+    ensures { result ≡ covers seq position (R.as_record feature.now) }
 {
-    row.seq() == seq && row.start() <= position && position < row.stop()
+    feature.seq() == seq && feature.start() <= position && position < feature.stop()
 }

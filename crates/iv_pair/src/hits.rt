@@ -18,7 +18,7 @@ use std::marker::Model;
 pub struct Hits<'a, A: Allocator + Copy = Global> {
     // Hits that are before those of the walk.
     carried: &'a [Option<&'a Record<A>>],
-    rows: TrackRecords<'a, A>,
+    walk: TrackRecords<'a, A>,
     meter: Meter,
     seq: u32,
     start: u64,
@@ -34,28 +34,28 @@ impl<'a, A: Allocator + Copy> Model for Hits<'a, A> {
 
     ghost Value = { List RecordValue };
 
-    ghost view = { λ h. held h.carried.now ++ hits h.rows h.seq h.start h.stop };
+    ghost view = { λ h. held h.carried.now ++ hits h.walk h.seq h.start h.stop };
 
-    ghost invariant = { λ h. AreInOrder h.rows × (length h.rows < 2 ^ 32) × (length h.carried.now ≤ 64) };
+    ghost invariant = { λ h. AreInOrder h.walk × (length h.walk < 2 ^ 32) × (length h.carried.now ≤ 64) };
 }
 
 impl<'a, A: Allocator + Copy> Hits<'a, A> {
     /// The hits that are carried, and after them those among the records of a walk.
     pub(crate) fn of(
         carried: &'a [Option<&'a Record<A>>],
-        rows: TrackRecords<'a, A>,
+        walk: TrackRecords<'a, A>,
         seq: u32,
         start: u64,
         stop: u64,
     ) -> Self
-        requires ordered { AreInOrder rows }
-        requires few { length rows < 2 ^ 32 }
+        requires ordered { AreInOrder walk }
+        requires few { length walk < 2 ^ 32 }
         requires few_carried { length carried.now ≤ 64 }
-        ensures { result ≡ held carried.now ++ hits rows.entry seq start stop }
+        ensures { result ≡ held carried.now ++ hits walk.entry seq start stop }
     {
         Hits {
             carried,
-            rows,
+            walk,
             meter: Meter::new(),
             seq,
             start,
@@ -87,15 +87,15 @@ impl<'a, A: Allocator + Copy> Iterator for Hits<'a, A> {
     fn next(&mut self) -> Option<&'a Record<A>> {
         while let [slot, others @ ..] = self.carried {
             self.carried = others;
-            if let Some(row) = slot {
-                return Some(*row);
+            if let Some(feature) = slot {
+                return Some(*feature);
             }
         }
-        while let Some(row) = self.rows.next(&mut self.meter) {
-            if overlaps(row, self.seq, self.start, self.stop) {
-                return Some(row);
+        while let Some(feature) = self.walk.next(&mut self.meter) {
+            if overlaps(feature, self.seq, self.start, self.stop) {
+                return Some(feature);
             }
-            if is_from(row, self.seq, self.stop) {
+            if is_from(feature, self.seq, self.stop) {
                 return None;
             }
         }
@@ -104,15 +104,17 @@ impl<'a, A: Allocator + Copy> Iterator for Hits<'a, A> {
 }
 
 /// Whether a record is on this sequence from this start on, or on a later sequence.
-pub fn is_from<R: BedRecord>(row: &R, seq: u32, start: u64) -> bool
-    ensures { result ≡ is_from seq start (R.as_record row.now) }
+pub fn is_from<R: BedRecord>(feature: &R, seq: u32, start: u64) -> bool
+    ensures { result ≡ is_from seq start (R.as_record feature.now) }
 {
-    seq.cmp(&row.seq()).then(start.cmp(&row.start())).is_le()
+    seq.cmp(&feature.seq())
+        .then(start.cmp(&feature.start()))
+        .is_le()
 }
 
 /// Whether a record is on this sequence and shares a position with the interval.
-pub fn overlaps<R: BedRecord>(row: &R, seq: u32, start: u64, stop: u64) -> bool
-    ensures { result ≡ overlaps seq start stop (R.as_record row.now) }
+pub fn overlaps<R: BedRecord>(feature: &R, seq: u32, start: u64, stop: u64) -> bool
+    ensures { result ≡ overlaps seq start stop (R.as_record feature.now) }
 {
-    row.seq() == seq && row.start() < stop && start < row.stop()
+    feature.seq() == seq && feature.start() < stop && start < feature.stop()
 }

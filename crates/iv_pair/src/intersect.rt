@@ -8,7 +8,7 @@ ghost use Rattle.iv_text.specs.RecordValue.{RecordValue};
 ghost use Rattle.iv_pair.specs.Hits.{hits_of};
 ghost use Rattle.iv_pair.specs.IntersectRows.{shared, record_line, pair_line, intersect_rows};
 ghost use Rattle.iv_pair.specs.Inside.HitLines.{Overlaps, AllOverlap, hit_line};
-ghost use Rattle.iv_pair.specs.declared.intersect.IntersectRows.TheVariants.{IfHit, IfNoHit, Count};
+ghost use Rattle.iv_pair.specs.declared.intersect.IntersectOutput.TheVariants.{IfHit, IfNoHit, Count};
 
 use iv_bytes::{Sink, WriteFault, put_all};
 use iv_text::{BedRecord, Genome, RecordRef, put_line, put_numbered, put_record};
@@ -17,7 +17,7 @@ use std::alloc::Allocator;
 /// Which rows an intersect shows of a record of the first file and its hits, the records of the second that share a position
 /// with it. The options are those of bedtools intersect.
 #[derive(Clone, Copy, Debug, PartialEq, Eq)]
-pub enum IntersectRows {
+pub enum IntersectOutput {
     /// For each hit the part that the two share.
     Shared,
     /// For each hit that part, and the hit after it: `-wb`.
@@ -34,8 +34,8 @@ pub enum IntersectRows {
     Count,
 }
 
-/// [`IntersectRows`] by a shorter name.
-pub type Cross = IntersectRows;
+/// [`IntersectOutput`] by a shorter name.
+pub type Cross = IntersectOutput;
 
 /// Puts the rows of one record and its hits, which any iterator may give.
 ///
@@ -48,99 +48,99 @@ pub fn put_intersect<
     H: Iterator<Item = T>,
     S: Sink,
 >(
-    shown: IntersectRows,
+    output: IntersectOutput,
     genome: &Genome<A>,
-    row: &R,
+    feature: &R,
     hits: H,
     sink: &mut S,
 ) -> Result<(), WriteFault>
     requires starts { H.can_next hits }
     requires few { UpTo (H.remaining hits) u64.MAX }
-    ensures { (second : List RecordValue) → AlwaysYields H.next_gives T.as_record hits (hits_of second (R.as_record row.now)) → Puts (S.state sink.old) (S.state sink.new) result (intersect_rows shown genome.now (R.as_record row.now) (hits_of second (R.as_record row.now))) }
+    ensures { (second : List RecordValue) → AlwaysYields H.next_gives T.as_record hits (hits_of second (R.as_record feature.now)) → Puts (S.state sink.old) (S.state sink.new) result (intersect_rows output genome.now (R.as_record feature.now) (hits_of second (R.as_record feature.now))) }
 {
-    match shown {
-        IntersectRows::IfHit => put_if(true, genome, row, hits, sink),
-        IntersectRows::IfNoHit => put_if(false, genome, row, hits, sink),
-        IntersectRows::Count => put_count(genome, row, hits.count() as u64, sink),
-        IntersectRows::Shared
-        | IntersectRows::SharedAndHit
-        | IntersectRows::Whole
-        | IntersectRows::WholeAndHit => put_hits(shown, genome, row, hits, sink),
+    match output {
+        IntersectOutput::IfHit => put_if(true, genome, feature, hits, sink),
+        IntersectOutput::IfNoHit => put_if(false, genome, feature, hits, sink),
+        IntersectOutput::Count => put_count(genome, feature, hits.count() as u64, sink),
+        IntersectOutput::Shared
+        | IntersectOutput::SharedAndHit
+        | IntersectOutput::Whole
+        | IntersectOutput::WholeAndHit => put_hits(output, genome, feature, hits, sink),
     }
 }
 
 /// Puts a line for each hit.
 fn put_hits<A: Allocator + Copy, R: BedRecord, T: BedRecord, H: Iterator<Item = T>, S: Sink>(
-    shown: IntersectRows,
+    output: IntersectOutput,
     genome: &Genome<A>,
-    row: &R,
+    feature: &R,
     hits: H,
     sink: &mut S,
 ) -> Result<(), WriteFault>
     requires starts { H.can_next hits }
     requires ends { IsFinite (H.remaining hits) }
-    ensures { (found : List RecordValue) → AlwaysYields H.next_gives T.as_record hits found → AllOverlap (R.as_record row.now) found → Puts (S.state sink.old) (S.state sink.new) result (flat_map (hit_line shown genome.now (R.as_record row.now)) found) }
+    ensures { (found : List RecordValue) → AlwaysYields H.next_gives T.as_record hits found → AllOverlap (R.as_record feature.now) found → Puts (S.state sink.old) (S.state sink.new) result (flat_map (hit_line output genome.now (R.as_record feature.now)) found) }
 {
     let mut hits = hits;
     let Some(hit) = hits.next() else {
         return Ok(());
     };
-    let row = row.to_ref();
-    put_hit(shown, genome, &row, &hit, sink)?;
-    put_each_hit(shown, genome, &row, hits, sink)
+    let feature = feature.to_ref();
+    put_hit(output, genome, &feature, &hit, sink)?;
+    put_each_hit(output, genome, &feature, hits, sink)
 }
 
 /// Puts a line for each of these hits.
 fn put_each_hit<A: Allocator + Copy, T: BedRecord, H: Iterator<Item = T>, S: Sink>(
-    shown: IntersectRows,
+    output: IntersectOutput,
     genome: &Genome<A>,
-    row: &RecordRef<'_>,
+    feature: &RecordRef<'_>,
     hits: H,
     sink: &mut S,
 ) -> Result<(), WriteFault>
     requires starts { H.can_next hits }
     requires ends { IsFinite (H.remaining hits) }
-    ensures { (found : List RecordValue) → AlwaysYields H.next_gives T.as_record hits found → AllOverlap row.now found → Puts (S.state sink.old) (S.state sink.new) result (flat_map (hit_line shown genome.now row.now) found) }
+    ensures { (found : List RecordValue) → AlwaysYields H.next_gives T.as_record hits found → AllOverlap feature.now found → Puts (S.state sink.old) (S.state sink.new) result (flat_map (hit_line output genome.now feature.now) found) }
 {
     for hit in hits {
-        put_hit(shown, genome, row, &hit, sink)?;
+        put_hit(output, genome, feature, &hit, sink)?;
     }
     Ok(())
 }
 
 /// Puts the line of one hit, and nothing if there is not a line for each.
 fn put_hit<A: Allocator + Copy, T: BedRecord, S: Sink>(
-    shown: IntersectRows,
+    output: IntersectOutput,
     genome: &Genome<A>,
-    row: &RecordRef<'_>,
+    feature: &RecordRef<'_>,
     hit: &T,
     sink: &mut S,
 ) -> Result<(), WriteFault>
-    ensures { Overlaps row.now (T.as_record hit.now) → Puts (S.state sink.old) (S.state sink.new) result (hit_line shown genome.now row.now (T.as_record hit.now)) }
+    ensures { Overlaps feature.now (T.as_record hit.now) → Puts (S.state sink.old) (S.state sink.new) result (hit_line output genome.now feature.now (T.as_record hit.now)) }
 {
-    match shown {
-        IntersectRows::Shared => match shared(row, hit) {
+    match output {
+        IntersectOutput::Shared => match shared(feature, hit) {
             Some(part) => put_line(sink, genome, &part),
             None => Ok(()),
         },
-        IntersectRows::SharedAndHit => match shared(row, hit) {
+        IntersectOutput::SharedAndHit => match shared(feature, hit) {
             Some(part) => put_pair(genome, &part, &hit.to_ref(), sink),
             None => Ok(()),
         },
-        IntersectRows::Whole => put_line(sink, genome, row),
-        IntersectRows::WholeAndHit => put_pair(genome, row, &hit.to_ref(), sink),
-        IntersectRows::IfHit | IntersectRows::IfNoHit | IntersectRows::Count => Ok(()),
+        IntersectOutput::Whole => put_line(sink, genome, feature),
+        IntersectOutput::WholeAndHit => put_pair(genome, feature, &hit.to_ref(), sink),
+        IntersectOutput::IfHit | IntersectOutput::IfNoHit | IntersectOutput::Count => Ok(()),
     }
 }
 
 /// The part of a record that it shares with a hit, `None` if it shares none.
-fn shared<'a, T: BedRecord>(row: &RecordRef<'a>, hit: &T) -> Option<RecordRef<'a>>
-    ensures { Overlaps row.now (T.as_record hit.now) → IsSomeAnd result (λ part. part ≡ shared row.now (T.as_record hit.now)) }
+fn shared<'a, T: BedRecord>(feature: &RecordRef<'a>, hit: &T) -> Option<RecordRef<'a>>
+    ensures { Overlaps feature.now (T.as_record hit.now) → IsSomeAnd result (λ part. part ≡ shared feature.now (T.as_record hit.now)) }
 {
-    let start = row.start().max(hit.start());
-    let stop = row.stop().min(hit.stop());
+    let start = feature.start().max(hit.start());
+    let stop = feature.stop().min(hit.stop());
     if start < stop {
-        Some(row.part(start, stop))
+        Some(feature.part(start, stop))
     } else {
         None
     }
@@ -151,26 +151,26 @@ fn shared<'a, T: BedRecord>(row: &RecordRef<'a>, hit: &T) -> Option<RecordRef<'a
 /// On a fault the sink has taken a prefix of the line.
 fn put_pair<A: Allocator + Copy, S: Sink>(
     genome: &Genome<A>,
-    row: &RecordRef<'_>,
+    feature: &RecordRef<'_>,
     hit: &RecordRef<'_>,
     sink: &mut S,
 ) -> Result<(), WriteFault>
-    ensures { Puts (S.state sink.old) (S.state sink.new) result (pair_line genome.now row.now hit.now) }
+    ensures { Puts (S.state sink.old) (S.state sink.new) result (pair_line genome.now feature.now hit.now) }
 {
-    put_record(sink, genome, row)?;
+    put_record(sink, genome, feature)?;
     put_after(genome, hit, sink)
 }
 
 /// Puts a TAB and the line of a record.
 fn put_after<A: Allocator + Copy, S: Sink>(
     genome: &Genome<A>,
-    row: &RecordRef<'_>,
+    feature: &RecordRef<'_>,
     sink: &mut S,
 ) -> Result<(), WriteFault>
-    ensures { Puts (S.state sink.old) (S.state sink.new) result (codes "\t" ++ record_line genome.now row.now) }
+    ensures { Puts (S.state sink.old) (S.state sink.new) result (codes "\t" ++ record_line genome.now feature.now) }
 {
     put_all(sink, b"\t")?;
-    put_line(sink, genome, row)
+    put_line(sink, genome, feature)
 }
 
 /// Puts the line of a record, if it has a hit, or if it has none.
@@ -180,13 +180,13 @@ pub(crate) fn put_if<
     T: BedRecord,
     H: Iterator<Item = T>,
     S: Sink,
->(has: bool, genome: &Genome<A>, row: &R, hits: H, sink: &mut S) -> Result<(), WriteFault>
+>(has: bool, genome: &Genome<A>, feature: &R, hits: H, sink: &mut S) -> Result<(), WriteFault>
     requires { H.can_next hits }
-    ensures { (found : List RecordValue) → AlwaysYields H.next_gives T.as_record hits found → Puts (S.state sink.old) (S.state sink.new) result (if has then intersect_rows IfHit genome.now (R.as_record row.now) found else intersect_rows IfNoHit genome.now (R.as_record row.now) found) }
+    ensures { (found : List RecordValue) → AlwaysYields H.next_gives T.as_record hits found → Puts (S.state sink.old) (S.state sink.new) result (if has then intersect_rows IfHit genome.now (R.as_record feature.now) found else intersect_rows IfNoHit genome.now (R.as_record feature.now) found) }
 {
     let mut hits = hits;
     if hits.next().is_some() == has {
-        put_line(sink, genome, &row.to_ref())
+        put_line(sink, genome, &feature.to_ref())
     } else {
         Ok(())
     }
@@ -195,11 +195,11 @@ pub(crate) fn put_if<
 /// Puts the line of a record with the number of its hits.
 pub(crate) fn put_count<A: Allocator + Copy, R: BedRecord, S: Sink>(
     genome: &Genome<A>,
-    row: &R,
+    feature: &R,
     count: u64,
     sink: &mut S,
 ) -> Result<(), WriteFault>
-    ensures { (found : List RecordValue) → length found ≡ count → Puts (S.state sink.old) (S.state sink.new) result (intersect_rows Count genome.now (R.as_record row.now) found) }
+    ensures { (found : List RecordValue) → length found ≡ count → Puts (S.state sink.old) (S.state sink.new) result (intersect_rows Count genome.now (R.as_record feature.now) found) }
 {
-    put_numbered(sink, genome, &row.to_ref(), count)
+    put_numbered(sink, genome, &feature.to_ref(), count)
 }

@@ -1,11 +1,11 @@
 //! A copy of the second file that has its intervals alone.
 ghost use Rattle.std.specs.Prelude.{◌≡◌, IfOk, map};
-ghost use Rattle.iv_index.specs.Locators.{bare};
-ghost use Rattle.iv_index.specs.Inside.Locators.{HasBase};
+ghost use Rattle.iv_locators.specs.Locators.{bare};
+ghost use Rattle.iv_locators.specs.Inside.Locators.{HasBase};
 ghost use Rattle.iv_pair.specs.Inside.Intervals.{locator_of};
 
 use crate::second::Second;
-use iv_index::{BedText, Locator, Span};
+use iv_locators::{BedText, Locator, Span};
 use iv_text::Record;
 use iv_track::Meter;
 use std::alloc::{AllocError, Allocator};
@@ -15,27 +15,27 @@ pub(crate) fn intervals_of<A: Allocator + Copy>(
     second: &Second<A>,
     meter: &mut Meter,
 ) -> Result<BedText<'static, A>, AllocError>
-    ensures { IfOk result (λ copy. copy.rows ≡ map bare second.now.rows) }
+    ensures { IfOk result (λ copy. copy.records ≡ map bare second.now.records) }
 {
     let mut locators = Vec::with_capacity(second.allocator(), second.len() as usize)?;
-    let mut rows = second.walk(0, 0, meter);
-    while let Some(row) = rows.next(meter) {
-        locators.push(locator_of(row))?;
+    let mut records = second.walk(0, 0, meter);
+    while let Some(feature) = records.next(meter) {
+        locators.push(locator_of(feature))?;
     }
     Ok(BedText::of_intervals(locators))
 }
 
 /// The interval of a record, as a locator without a line.
-fn locator_of<A: Allocator + Copy>(row: &Record<A>) -> Locator
-    ensures is { result ≡ locator_of row.now }
+fn locator_of<A: Allocator + Copy>(feature: &Record<A>) -> Locator
+    ensures is { result ≡ locator_of feature.now }
     ensures base { HasBase result }
 {
-    row.lemma_of_interval();
+    feature.lemma_of_interval();
     Locator {
         span: Span {
-            seq: row.seq(),
-            start: row.start() as u32,
-            stop: row.stop() as u32,
+            seq: feature.seq(),
+            start: feature.start() as u32,
+            stop: feature.stop() as u32,
         },
         line: 0,
     }

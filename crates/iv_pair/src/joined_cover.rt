@@ -10,11 +10,11 @@ ghost use Rattle.iv_pair.specs.Inside.HitFinder.{HitAlike};
 
 use crate::hit_finder::is_onward;
 use crate::intervals::intervals_of;
-use crate::pair_rows::{PairRows, put_pair_rows};
+use crate::pair_rows::{PairOutput, put_pair_rows};
 use crate::pair_sweep::ActiveHits;
 use crate::second::Second;
 use iv_bytes::{Sink, WriteFault};
-use iv_index::{BedText, TextRecord, TextRecords};
+use iv_locators::{BedText, TextRecord, TextRecords};
 use iv_text::{BedRecord, Genome, Record};
 use iv_track::Meter;
 use std::alloc::{AllocError, Allocator};
@@ -43,15 +43,15 @@ impl<A: Allocator + Copy> Model for JoinedCover<A> {
 
     ghost Value = { Finding };
 
-    ghost view = { λ c. record { records = c.cover.rows; seq = c.seq; start = c.start; found = hits (drop c.passed c.cover.rows) c.seq c.start c.stop } };
+    ghost view = { λ c. record { records = c.cover.records; seq = c.seq; start = c.start; found = hits (drop c.passed c.cover.records) c.seq c.start c.stop } };
 
-    ghost invariant = { λ c. IsSearch c.cover.rows c.passed c.seq c.start };
+    ghost invariant = { λ c. IsSearch c.cover.records c.passed c.seq c.start };
 }
 
 impl<A: Allocator + Copy> JoinedCover<A> {
     /// What a second file covers. While it is made, it takes 16 bytes for each record.
     pub(crate) fn of(second: &Second<A>, meter: &mut Meter) -> Result<Self, AllocError>
-        ensures { IfOk result (λ c. CoverAlike c.records second.now.rows) }
+        ensures { IfOk result (λ c. CoverAlike c.records second.now.records) }
     {
         // The records of the second file are in order.
         let _count = second.len();
@@ -71,18 +71,18 @@ impl<A: Allocator + Copy> JoinedCover<A> {
     /// On a fault the sink has taken a prefix of their text.
     pub(crate) fn put_rows<S: Sink>(
         &mut self,
-        rows: PairRows,
+        output: PairOutput,
         genome: &Genome<A>,
-        row: &Record<A>,
+        feature: &Record<A>,
         sink: &mut S,
     ) -> Result<(), WriteFault>
-        ensures text { Puts (S.state sink.old) (S.state sink.new) result (pair_rows rows genome.now row.now self.old.records) }
+        ensures text { Puts (S.state sink.old) (S.state sink.new) result (pair_rows output genome.now feature.now self.old.records) }
         ensures same { self.new.records ≡ self.old.records }
     {
-        self.seek(row.seq(), row.start(), row.stop());
+        self.seek(feature.seq(), feature.start(), feature.stop());
         let hits = self.hits();
         hits.lemma_of_few();
-        put_pair_rows(rows, genome, row, hits, sink)
+        put_pair_rows(output, genome, feature, hits, sink)
     }
 
     /// Seeks those that share a position with an interval. `hits` then has them.
@@ -130,8 +130,8 @@ fn pass_ended(records: &TextRecords<'_>, from: usize, seq: u32, start: u64) -> u
 }
 
 /// Whether a record ends at a position of a sequence or before it.
-fn ends_by(row: &TextRecord<'_>, seq: u32, at: u64) -> bool
-    ensures { result ≡ ends_by seq at row.now }
+fn ends_by(feature: &TextRecord<'_>, seq: u32, at: u64) -> bool
+    ensures { result ≡ ends_by seq at feature.now }
 {
-    row.seq() < seq || row.seq() == seq && row.stop() <= at
+    feature.seq() < seq || feature.seq() == seq && feature.stop() <= at
 }

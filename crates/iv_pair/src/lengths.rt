@@ -16,12 +16,12 @@ use std::alloc::{AllocError, Allocator};
 pub(crate) type Lengths<A> = Ledger<(u32, u32), u32, A>;
 
 /// The rank of a record's sequence, and how many positions the record has.
-pub(crate) fn length_of<A: Allocator + Copy>(row: &Record<A>) -> (u32, u32)
-    ensures is { result ≡ length_of row.now }
+pub(crate) fn length_of<A: Allocator + Copy>(feature: &Record<A>) -> (u32, u32)
+    ensures is { result ≡ length_of feature.now }
     ensures small { result.1 < 2 ^ 32 }
 {
-    row.lemma_of_interval();
-    (row.seq(), (row.stop() - row.start()) as u32)
+    feature.lemma_of_interval();
+    (feature.seq(), (feature.stop() - feature.start()) as u32)
 }
 
 /// Counts one record more of this length. At most 2 steps.
@@ -74,12 +74,12 @@ pub(crate) fn lengths_of<A: Allocator + Copy>(
     track: &Track<A>,
     meter: &mut Meter,
 ) -> Result<Lengths<A>, AllocError>
-    requires { length track.now.rows < 2 ^ 32 - 1 }
-    ensures { IfOk result (λ lengths. AreLengths lengths track.now.rows) }
+    requires { length track.now.records < 2 ^ 32 - 1 }
+    ensures { IfOk result (λ lengths. AreLengths lengths track.now.records) }
 {
     let mut lengths = Ledger::new(alloc);
-    let mut rows = track.walk(0, 0, meter);
-    while let Some(record) = rows.next(meter) {
+    let mut records = track.walk(0, 0, meter);
+    while let Some(record) = records.next(meter) {
         raise(&mut lengths, length_of(record), meter)?;
     }
     Ok(lengths)

@@ -2,7 +2,6 @@
 //! re-exported, with the rows of getfasta over a track.
 #![tactic(auto)]
 
-mod beside;
 mod count_sweep;
 mod getfasta;
 mod hit_counts;
@@ -13,6 +12,7 @@ mod intervals;
 mod joined_cover;
 mod lemmas;
 mod lengths;
+mod pair_printer;
 mod pair_rows;
 mod pair_sweep;
 mod second;
@@ -21,10 +21,10 @@ mod subtract;
 pub use count_sweep::CountSweep;
 pub use getfasta::print_fasta;
 pub use hits::{Hits, is_from, overlaps};
-pub use intersect::{Cross, IntersectRows, put_intersect};
-pub use iv_fasta::{Fasta, FastaReader, FastaRows, complement, put_fasta};
+pub use intersect::{Cross, IntersectOutput, put_intersect};
+pub use iv_fasta::{Fasta, FastaOutput, FastaReader, complement, put_fasta};
 pub use lemmas::{overlap_is_a_shared_position, uncovered_parts_are_maximal};
-pub use pair_rows::{PairRows, needs_cover_alone, print_pairs, put_pair_rows};
+pub use pair_rows::{PairOutput, needs_cover_alone, print_pairs, put_pair_rows};
 pub use pair_sweep::PairSweep;
 pub use second::Second;
 pub use subtract::put_subtract;

@@ -8,8 +8,8 @@ ghost use Rattle.iv_pair.specs.CoverAlone.{DependsOnCoverAlone, needs_cover_alon
 ghost use Rattle.iv_pair.specs.Hits.{hits_of};
 ghost use Rattle.iv_pair.specs.PairRows.{pair_rows, pair_text};
 
-use crate::beside::Beside;
-use crate::intersect::{IntersectRows, put_intersect};
+use crate::intersect::{IntersectOutput, put_intersect};
+use crate::pair_printer::PairPrinter;
 use crate::second::Second;
 use crate::subtract::put_subtract;
 use iv_bytes::{Sink, WriteFault};
@@ -19,9 +19,9 @@ use std::alloc::Allocator;
 
 /// Which rows are put of a record and its hits.
 #[derive(Clone, Copy, Debug, PartialEq, Eq)]
-pub enum PairRows {
+pub enum PairOutput {
     /// Those of an intersect.
-    Intersect(IntersectRows),
+    Intersect(IntersectOutput),
     /// Those of a subtract; if this is true, only whole records are taken away: `-A`.
     Subtract(bool),
 }
@@ -30,14 +30,14 @@ pub enum PairRows {
 /// for an intersect that only asks whether a record has a hit: `-u` and `-v`.
 ///
 /// If it is true, another second list that covers the same positions gives the same text.
-pub fn needs_cover_alone(rows: PairRows) -> bool
-    ensures value { result ≡ needs_cover_alone rows }
-    ensures alone { IsTrue result → DependsOnCoverAlone rows }
+pub fn needs_cover_alone(output: PairOutput) -> bool
+    ensures value { result ≡ needs_cover_alone output }
+    ensures alone { IsTrue result → DependsOnCoverAlone output }
 {
-    match rows {
-        PairRows::Intersect(IntersectRows::IfHit | IntersectRows::IfNoHit) => true,
-        PairRows::Intersect(_) => false,
-        PairRows::Subtract(_) => true,
+    match output {
+        PairOutput::Intersect(IntersectOutput::IfHit | IntersectOutput::IfNoHit) => true,
+        PairOutput::Intersect(_) => false,
+        PairOutput::Subtract(_) => true,
     }
 }
 
@@ -46,20 +46,20 @@ pub fn needs_cover_alone(rows: PairRows) -> bool
 /// One walk over the track. It needs no memory: if many hits of `intersect -c` or `subtract` were looked at, it tries to copy the
 /// intervals of the second file, and goes on without if an allocation fails. On a fault the sink has taken a prefix of the text.
 pub fn print_pairs<A: Allocator + Copy, S: Sink>(
-    rows: PairRows,
+    output: PairOutput,
     track: &Track<A>,
     second: &Second<A>,
     genome: &Genome<A>,
     meter: &mut Meter,
     sink: &mut S,
 ) -> Result<(), WriteFault>
-    ensures { Puts (S.state sink.old) (S.state sink.new) result (pair_text rows genome.now track.now.rows second.now.rows) }
+    ensures { Puts (S.state sink.old) (S.state sink.new) result (pair_text output genome.now track.now.records second.now.records) }
 {
-    let mut beside = Beside::of(rows, second, meter);
+    let mut printer = PairPrinter::of(output, second, meter);
     let mut copy = None;
     let mut walk = track.walk(0, 0, meter);
-    while let Some(row) = walk.next(meter) {
-        beside.put_rows(&mut copy, genome, row, meter, sink)?;
+    while let Some(feature) = walk.next(meter) {
+        printer.put_rows(&mut copy, genome, feature, meter, sink)?;
     }
     Ok(())
 }
@@ -73,13 +73,19 @@ pub fn put_pair_rows<
     T: BedRecord,
     H: Iterator<Item = T>,
     S: Sink,
->(rows: PairRows, genome: &Genome<A>, row: &R, hits: H, sink: &mut S) -> Result<(), WriteFault>
+>(
+    output: PairOutput,
+    genome: &Genome<A>,
+    feature: &R,
+    hits: H,
+    sink: &mut S,
+) -> Result<(), WriteFault>
     requires starts { H.can_next hits }
     requires few { UpTo (H.remaining hits) u64.MAX }
-    ensures { (second : List RecordValue) → AreInOrder second → AlwaysYields H.next_gives T.as_record hits (hits_of second (R.as_record row.now)) → Puts (S.state sink.old) (S.state sink.new) result (pair_rows rows genome.now (R.as_record row.now) second) }
+    ensures { (second : List RecordValue) → AreInOrder second → AlwaysYields H.next_gives T.as_record hits (hits_of second (R.as_record feature.now)) → Puts (S.state sink.old) (S.state sink.new) result (pair_rows output genome.now (R.as_record feature.now) second) }
 {
-    match rows {
-        PairRows::Intersect(shown) => put_intersect(shown, genome, row, hits, sink),
-        PairRows::Subtract(whole) => put_subtract(whole, genome, row, hits, sink),
+    match output {
+        PairOutput::Intersect(output) => put_intersect(output, genome, feature, hits, sink),
+        PairOutput::Subtract(whole) => put_subtract(whole, genome, feature, hits, sink),
     }
 }

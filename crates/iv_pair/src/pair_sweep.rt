@@ -6,13 +6,13 @@ ghost use Rattle.iv_text.specs.Ordered.{AreInOrder};
 ghost use Rattle.iv_track.specs.Regions.{hits};
 ghost use Rattle.iv_pair.specs.Hits.{hits_of};
 ghost use Rattle.iv_pair.specs.PairRows.{pair_rows, pair_text};
-ghost use Rattle.iv_pair.specs.Inside.Pairs.{Gives};
+ghost use Rattle.iv_pair.specs.Inside.Pairs.{GivesPair};
 ghost use Rattle.iv_pair.specs.Inside.PairSweeps.{Covers, HitAlike, is_past, reaches};
 
 use crate::hits::{is_from, overlaps};
-use crate::pair_rows::{PairRows, put_pair_rows};
+use crate::pair_rows::{PairOutput, put_pair_rows};
 use iv_bytes::{Sink, WriteFault};
-use iv_index::{TextRecord, TextRecords};
+use iv_locators::{TextRecord, TextRecords};
 use iv_text::{BedRecord, Genome};
 use std::alloc::{AllocError, Allocator, Global};
 use std::marker::Model;
@@ -78,15 +78,15 @@ impl<'t, A: Allocator + Copy> PairSweep<'t, A> {
     /// It takes no memory. On a fault the sink has taken a prefix of the text.
     pub fn print<S: Sink>(
         &mut self,
-        rows: PairRows,
+        output: PairOutput,
         genome: &Genome<A>,
         sink: &mut S,
     ) -> Result<(), WriteFault>
-        ensures { Puts (S.state sink.old) (S.state sink.new) result (pair_text rows genome.now self.old.first self.old.second) }
+        ensures { Puts (S.state sink.old) (S.state sink.new) result (pair_text output genome.now self.old.first self.old.second) }
     {
         self.lemma_of_order();
-        while let Some(row) = self.next() {
-            self.put_rows(rows, genome, &row, sink)?;
+        while let Some(feature) = self.next() {
+            self.put_rows(output, genome, &feature, sink)?;
         }
         Ok(())
     }
@@ -94,22 +94,22 @@ impl<'t, A: Allocator + Copy> PairSweep<'t, A> {
     /// Puts the rows of the record that was given last.
     fn put_rows<S: Sink>(
         &self,
-        rows: PairRows,
+        output: PairOutput,
         genome: &Genome<A>,
-        row: &TextRecord<'t>,
+        feature: &TextRecord<'t>,
         sink: &mut S,
     ) -> Result<(), WriteFault>
         requires ordered { AreInOrder self.now.second }
-        requires found { self.now.found ≡ hits_of self.now.second row.now }
-        ensures { Puts (S.state sink.old) (S.state sink.new) result (pair_rows rows genome.now row.now self.now.second) }
+        requires found { self.now.found ≡ hits_of self.now.second feature.now }
+        ensures { Puts (S.state sink.old) (S.state sink.new) result (pair_rows output genome.now feature.now self.now.second) }
     {
         if self.is_alone() {
             let (none, _) = self.second.split_at(0);
-            return put_pair_rows(rows, genome, row, none, sink);
+            return put_pair_rows(output, genome, feature, none, sink);
         }
         let hits = self.hits();
         hits.lemma_of_few();
-        put_pair_rows(rows, genome, row, hits, sink)
+        put_pair_rows(output, genome, feature, hits, sink)
     }
 
     /// A lemma for callers' proofs: the second list is in order. The call does nothing.
@@ -122,17 +122,17 @@ impl<'t, A: Allocator + Copy> PairSweep<'t, A> {
 
     /// The next record of the first list. `hits` then has its hits.
     fn next(&mut self) -> Option<TextRecord<'t>>
-        ensures { Gives self.old result self.new }
+        ensures { GivesPair self.old result self.new }
     {
-        let (row, others) = self.first.split_first()?;
+        let (feature, others) = self.first.split_first()?;
         self.first = others;
-        row.lemma_of_interval();
-        drop_passed(&mut self.active, &row);
-        take_begun(&mut self.active, &mut self.rest, &row);
-        self.seq = row.seq();
-        self.start = row.start();
-        self.stop = row.stop();
-        Some(row)
+        feature.lemma_of_interval();
+        drop_passed(&mut self.active, &feature);
+        take_begun(&mut self.active, &mut self.rest, &feature);
+        self.seq = feature.seq();
+        self.start = feature.start();
+        self.stop = feature.stop();
+        Some(feature)
     }
 
     /// Whether no hit of the record that was given last is to be looked for: none is active, and the next of the second list starts
@@ -227,12 +227,12 @@ impl<'a, 't> Iterator for ActiveHits<'a, 't> {
             self.active = others;
             return Some(hit.again());
         }
-        while let Some((row, others)) = self.rest.split_first() {
+        while let Some((feature, others)) = self.rest.split_first() {
             self.rest = others;
-            if overlaps(&row, self.seq, self.start, self.stop) {
-                return Some(row);
+            if overlaps(&feature, self.seq, self.start, self.stop) {
+                return Some(feature);
             }
-            if is_from(&row, self.seq, self.stop) {
+            if is_from(&feature, self.seq, self.stop) {
                 return None;
             }
         }
@@ -241,37 +241,37 @@ impl<'a, 't> Iterator for ActiveHits<'a, 't> {
 }
 
 /// Drops what doesn't reach past the start of `row`.
-fn drop_passed<A: Allocator>(active: &mut Vec<TextRecord<'_>, A>, row: &TextRecord<'_>)
-    ensures kept { active.new.items ≡ filter (reaches row.now) active.old.items }
+fn drop_passed<A: Allocator>(active: &mut Vec<TextRecord<'_>, A>, feature: &TextRecord<'_>)
+    ensures kept { active.new.items ≡ filter (reaches feature.now) active.old.items }
     ensures len { vec_len active.new ≤ vec_len active.old }
     ensures capacity { vec_capacity active.new ≡ vec_capacity active.old }
 {
     if active.as_slice().is_empty() {
         return;
     }
-    active.retain(|other| reaches(row, other));
+    active.retain(|other| reaches(feature, other));
 }
 
 /// Adds those of the second list that have the first position of `row`, and leaves those that start past it.
 fn take_begun<'t, A: Allocator>(
     active: &mut Vec<TextRecord<'t>, A>,
     rest: &mut TextRecords<'t>,
-    row: &TextRecord<'_>,
+    feature: &TextRecord<'_>,
 )
     requires room { vec_len active.old + length rest.old ≤ vec_capacity active.old }
     requires ordered { AreInOrder rest.old }
-    requires active { All (Covers row.now) active.old.items }
+    requires active { All (Covers feature.now) active.old.items }
     ensures room { vec_len active.new + length rest.new ≤ vec_capacity active.new }
     ensures ordered { AreInOrder rest.new }
-    ensures active { All (Covers row.now) active.new.items }
-    ensures alike { HitAlike row.now (active.new.items ++ rest.new) (active.old.items ++ rest.old) }
+    ensures active { All (Covers feature.now) active.new.items }
+    ensures alike { HitAlike feature.now (active.new.items ++ rest.new) (active.old.items ++ rest.old) }
 {
     while let Some((next, others)) = rest.split_first() {
-        if is_past(row, &next) {
+        if is_past(feature, &next) {
             break;
         }
         *rest = others;
-        if reaches(row, &next) {
+        if reaches(feature, &next) {
             // There is room for it: `new` allocated as much as the second list is long.
             let _ = active.push(next);
         }

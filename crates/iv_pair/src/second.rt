@@ -48,7 +48,7 @@ impl<A: Allocator + Copy> Second<A> {
         requires limit { limit ≤ most_records }
         requires few { vec_len records ≤ limit }
         requires width { All (λ r. r.width ≡ width) records.items }
-        ensures { IfOk result (λ s. s ≡ record { rows = ordered records.items; width = width; limit = limit }) }
+        ensures { IfOk result (λ s. s ≡ record { records = ordered records.items; width = width; limit = limit }) }
     {
         Second::from_batches(alloc, width, limit, Batches::of(records))
     }
@@ -64,7 +64,7 @@ impl<A: Allocator + Copy> Second<A> {
         requires limit { limit ≤ most_records }
         requires few { length records ≤ limit }
         requires width { All (λ r. r.width ≡ width) records }
-        ensures { IfOk result (λ s. s ≡ record { rows = ordered records; width = width; limit = limit }) }
+        ensures { IfOk result (λ s. s ≡ record { records = ordered records; width = width; limit = limit }) }
     {
         let mut meter = Meter::new();
         let track = Track::from_batches(alloc, width, limit, records)?;
@@ -78,8 +78,8 @@ impl<A: Allocator + Copy> Second<A> {
 
     /// How many records there are, copies counted.
     pub fn len(&self) -> u32
-        ensures len { result ≡ length self.now.rows }
-        ensures ordered { AreInOrder self.now.rows }
+        ensures len { result ≡ length self.now.records }
+        ensures ordered { AreInOrder self.now.records }
         ensures room { result ≤ self.now.limit + 1 }
         ensures bounded { self.now.limit ≤ most_records }
     {
@@ -106,18 +106,18 @@ impl<A: Allocator + Copy> Second<A> {
     ///
     /// E12 exactly if there are as many records as the limit, else E22, and that only for a record without a copy.
     /// All is as before.
-    pub fn add(&mut self, row: Record<A>, meter: &mut Meter) -> Result<(), EditFault>
-        requires { row.width ≡ self.old.width }
-        ensures room { OnOk result (length self.old.rows < self.old.limit) }
-        ensures ok { OnOk result (self.new ≡ with_record row self.old) }
-        ensures why { IfErr result (RefusesAdd self.old row) }
+    pub fn add(&mut self, feature: Record<A>, meter: &mut Meter) -> Result<(), EditFault>
+        requires { feature.width ≡ self.old.width }
+        ensures room { OnOk result (length self.old.records < self.old.limit) }
+        ensures ok { OnOk result (self.new ≡ with_record feature self.old) }
+        ensures why { IfErr result (RefusesAdd self.old feature) }
         ensures err { OnErr result (self.new ≡ self.old) }
         ensures steps { TakesUpTo meter.old meter.new 16 }
     {
         if self.track.len() >= self.track.limit() {
             return Err(EditFault::Full);
         }
-        stage(&mut self.track, &mut self.lengths, row, meter)?;
+        stage(&mut self.track, &mut self.lengths, feature, meter)?;
         Ok(())
     }
 
@@ -126,14 +126,14 @@ impl<A: Allocator + Copy> Second<A> {
     /// # Errors
     ///
     /// E11 exactly if no copy is there. All is as before.
-    pub fn remove(&mut self, row: &Record<A>, meter: &mut Meter) -> Result<(), EditFault>
-        ensures there { OnOk result (0 < copies self.old.rows row.now) }
-        ensures ok { OnOk result (self.new ≡ without_record row.now self.old) }
-        ensures why { IfErr result (RefusesRemove self.old row.now) }
+    pub fn remove(&mut self, feature: &Record<A>, meter: &mut Meter) -> Result<(), EditFault>
+        ensures there { OnOk result (0 < copies self.old.records feature.now) }
+        ensures ok { OnOk result (self.new ≡ without_record feature.now self.old) }
+        ensures why { IfErr result (RefusesRemove self.old feature.now) }
         ensures err { OnErr result (self.new ≡ self.old) }
         ensures steps { TakesUpTo meter.old meter.new 16 }
     {
-        take(&mut self.track, &mut self.lengths, row, meter)?;
+        take(&mut self.track, &mut self.lengths, feature, meter)?;
         Ok(())
     }
 
@@ -152,7 +152,7 @@ impl<A: Allocator + Copy> Second<A> {
         meter: &mut Meter,
     ) -> Result<(), EditFault>
         requires { new.width ≡ self.old.width }
-        ensures there { OnOk result (0 < copies self.old.rows old.now) }
+        ensures there { OnOk result (0 < copies self.old.records old.now) }
         ensures ok { OnOk result (self.new ≡ with_replaced old.now new self.old) }
         ensures why { IfErr result (RefusesReplace self.old old.now new) }
         ensures err { OnErr result (self.new ≡ self.old) }
@@ -174,8 +174,8 @@ impl<A: Allocator + Copy> Second<A> {
     /// are none of them. It copies no record, and takes no memory.
     pub fn hits(&self, seq: u32, start: u64, stop: u64) -> Hits<'_, A>
         requires { start < stop }
-        ensures hits { result ≡ hits self.now.rows seq start stop }
-        ensures ordered { AreInOrder self.now.rows }
+        ensures hits { result ≡ hits self.now.records seq start stop }
+        ensures ordered { AreInOrder self.now.records }
         ensures few { length result < 2 ^ 32 }
     {
         let mut meter = Meter::new();
@@ -186,7 +186,7 @@ impl<A: Allocator + Copy> Second<A> {
 
     /// A length that no record on the sequence of this rank exceeds.
     pub(crate) fn longest(&self, seq: u32, meter: &mut Meter) -> u64
-        ensures { AreUpTo seq result self.now.rows }
+        ensures { AreUpTo seq result self.now.records }
     {
         longest(&self.lengths, seq, meter)
     }
@@ -199,9 +199,9 @@ impl<A: Allocator + Copy> Second<A> {
     /// The records on the sequence of this rank from this start on, and on later sequences.
     pub(crate) fn walk(&self, seq: u32, start: u64, meter: &mut Meter) -> TrackRecords<'_, A>
         requires { start < 2 ^ 32 - 1 }
-        ensures rows { result ≡ filter (is_from seq start) self.now.rows }
-        ensures ordered { AreInOrder self.now.rows }
-        ensures few { length self.now.rows < 2 ^ 32 }
+        ensures records { result ≡ filter (is_from seq start) self.now.records }
+        ensures ordered { AreInOrder self.now.records }
+        ensures few { length self.now.records < 2 ^ 32 }
     {
         // 32 bits count the records of a track.
         let _few = self.track.len();
@@ -232,23 +232,23 @@ pub(crate) fn first_start(position: u64, longest: u64) -> u64
 fn stage<A: Allocator + Copy>(
     track: &mut Track<A>,
     lengths: &mut Lengths<A>,
-    row: Record<A>,
+    feature: Record<A>,
     meter: &mut Meter,
 ) -> Result<(), AllocError>
-    requires counted { AreLengths lengths.old track.old.rows }
-    requires room { length track.old.rows ≤ track.old.limit }
-    requires width { row.width ≡ track.old.width }
-    ensures ok { OnOk result (track.new ≡ with_record row track.old) }
-    ensures memory { OnErr result (copies track.old.rows row ≡ 0) }
+    requires counted { AreLengths lengths.old track.old.records }
+    requires room { length track.old.records ≤ track.old.limit }
+    requires width { feature.width ≡ track.old.width }
+    ensures ok { OnOk result (track.new ≡ with_record feature track.old) }
+    ensures memory { OnErr result (copies track.old.records feature ≡ 0) }
     ensures err { OnErr result (track.new ≡ track.old) }
-    ensures counted { AreLengths lengths.new track.new.rows }
+    ensures counted { AreLengths lengths.new track.new.records }
     ensures steps { TakesUpTo meter.old meter.new 7 }
 {
     // 32 bits count the records of a track.
     let _few = track.len();
-    let length = length_of(&row);
+    let length = length_of(&feature);
     raise(lengths, length, meter)?;
-    match track.stage(row, meter) {
+    match track.stage(feature, meter) {
         Ok(()) => Ok(()),
         Err(refused) => {
             lower(lengths, length, meter);
@@ -265,19 +265,19 @@ fn stage<A: Allocator + Copy>(
 fn take<A: Allocator + Copy>(
     track: &mut Track<A>,
     lengths: &mut Lengths<A>,
-    row: &Record<A>,
+    feature: &Record<A>,
     meter: &mut Meter,
 ) -> Result<(), EditFault>
-    requires counted { AreLengths lengths.old track.old.rows }
-    ensures there { OnOk result (0 < copies track.old.rows row.now) }
-    ensures ok { OnOk result (track.new ≡ without_record row.now track.old) }
-    ensures why { IfErr result (RefusesRemove track.old row.now) }
+    requires counted { AreLengths lengths.old track.old.records }
+    ensures there { OnOk result (0 < copies track.old.records feature.now) }
+    ensures ok { OnOk result (track.new ≡ without_record feature.now track.old) }
+    ensures why { IfErr result (RefusesRemove track.old feature.now) }
     ensures err { OnErr result (track.new ≡ track.old) }
-    ensures was_ordered { AreInOrder track.old.rows }
-    ensures counted { AreLengths lengths.new track.new.rows }
+    ensures was_ordered { AreInOrder track.old.records }
+    ensures counted { AreLengths lengths.new track.new.records }
     ensures steps { TakesUpTo meter.old meter.new 5 }
 {
-    track.remove(row, meter)?;
-    lower(lengths, length_of(row), meter);
+    track.remove(feature, meter)?;
+    lower(lengths, length_of(feature), meter);
     Ok(())
 }

@@ -7,7 +7,7 @@ ghost use Rattle.iv_text.specs.RecordValue.{RecordValue};
 ghost use Rattle.iv_pair.specs.Hits.{hits_of};
 ghost use Rattle.iv_pair.specs.Inside.HitLines.{part_line};
 ghost use Rattle.iv_pair.specs.PairRows.{pair_rows};
-ghost use Rattle.iv_pair.specs.declared.pair_rows.PairRows.TheVariants.{Subtract};
+ghost use Rattle.iv_pair.specs.declared.pair_rows.PairOutput.TheVariants.{Subtract};
 
 use crate::intersect::put_if;
 use iv_bytes::{Sink, WriteFault};
@@ -23,15 +23,15 @@ pub fn put_subtract<
     T: BedRecord,
     H: Iterator<Item = T>,
     S: Sink,
->(whole: bool, genome: &Genome<A>, row: &R, hits: H, sink: &mut S) -> Result<(), WriteFault>
+>(whole: bool, genome: &Genome<A>, feature: &R, hits: H, sink: &mut S) -> Result<(), WriteFault>
     requires starts { H.can_next hits }
     requires ends { IsFinite (H.remaining hits) }
-    ensures { (second : List RecordValue) → AreInOrder second → AlwaysYields H.next_gives T.as_record hits (hits_of second (R.as_record row.now)) → Puts (S.state sink.old) (S.state sink.new) result (pair_rows (Subtract whole) genome.now (R.as_record row.now) second) }
+    ensures { (second : List RecordValue) → AreInOrder second → AlwaysYields H.next_gives T.as_record hits (hits_of second (R.as_record feature.now)) → Puts (S.state sink.old) (S.state sink.new) result (pair_rows (Subtract whole) genome.now (R.as_record feature.now) second) }
 {
     if whole {
-        put_if(false, genome, row, hits, sink)
+        put_if(false, genome, feature, hits, sink)
     } else {
-        put_uncovered(genome, row, hits, sink)
+        put_uncovered(genome, feature, hits, sink)
     }
 }
 
@@ -39,39 +39,39 @@ pub fn put_subtract<
 /// covered.
 fn put_uncovered<A: Allocator + Copy, R: BedRecord, T: BedRecord, H: Iterator<Item = T>, S: Sink>(
     genome: &Genome<A>,
-    row: &R,
+    feature: &R,
     hits: H,
     sink: &mut S,
 ) -> Result<(), WriteFault>
     requires starts { H.can_next hits }
     requires ends { IsFinite (H.remaining hits) }
-    ensures { (second : List RecordValue) → AreInOrder second → AlwaysYields H.next_gives T.as_record hits (hits_of second (R.as_record row.now)) → Puts (S.state sink.old) (S.state sink.new) result (pair_rows (Subtract false) genome.now (R.as_record row.now) second) }
+    ensures { (second : List RecordValue) → AreInOrder second → AlwaysYields H.next_gives T.as_record hits (hits_of second (R.as_record feature.now)) → Puts (S.state sink.old) (S.state sink.new) result (pair_rows (Subtract false) genome.now (R.as_record feature.now) second) }
 {
-    let mut from = row.start();
+    let mut from = feature.start();
     for hit in hits {
         let (start, stop) = (hit.start(), hit.stop());
-        put_part(genome, row, from, start.min(row.stop()), sink)?;
+        put_part(genome, feature, from, start.min(feature.stop()), sink)?;
         from = from.max(stop);
-        if from >= row.stop() {
+        if from >= feature.stop() {
             return Ok(());
         }
     }
-    put_part(genome, row, from, row.stop(), sink)
+    put_part(genome, feature, from, feature.stop(), sink)
 }
 
 /// Puts the line of a part of a record, if it has a position.
 fn put_part<A: Allocator + Copy, R: BedRecord, S: Sink>(
     genome: &Genome<A>,
-    row: &R,
+    feature: &R,
     start: u64,
     stop: u64,
     sink: &mut S,
 ) -> Result<(), WriteFault>
-    requires { stop ≤ (R.as_record row.now).stop }
-    ensures { Puts (S.state sink.old) (S.state sink.new) result (part_line genome.now (R.as_record row.now) start stop) }
+    requires { stop ≤ (R.as_record feature.now).stop }
+    ensures { Puts (S.state sink.old) (S.state sink.new) result (part_line genome.now (R.as_record feature.now) start stop) }
 {
     if start < stop {
-        put_line(sink, genome, &row.to_ref().part(start, stop))
+        put_line(sink, genome, &feature.to_ref().part(start, stop))
     } else {
         Ok(())
     }

@@ -12,8 +12,8 @@ use Rattle.iv_session.specs.declared.script.RunFault.{RunFault}
 use Rattle.iv_session.specs.declared.script.Summary.{Summary}
 use Rattle.iv_args.specs.InfoRequests.{notice_of}
 use Rattle.iv_args.specs.Texts.{notice_text}
-use Rattle.iv_args.specs.Words.{RunPlan, IsPlan, is_session, run_of}
-use Rattle.iv_args.proofs.WordLemmas.{for-kind}
+use Rattle.iv_args.specs.Arguments.{RunPlan, IsPlan, is_session, run_of}
+use Rattle.iv_args.proofs.ArgumentLemmas.{for-kind}
 use Rattle.iv_args.specs.declared.subcommand.Subcommand.{Subcommand}
 use Rattle.iv_args.specs.declared.subcommand.Subcommand.TheVariants as kind
 use Rattle.std.specs.Option.{option_to_list}
@@ -141,9 +141,9 @@ plan-done plan before reached after ended line (inl read) is flushed = record {
 plan-done plan before reached after ended line (inr stopped) is flushed = absurd (not-read plan before reached ended line stopped (sym is))
 
 -- the output of a run with the status 0 was flushed, and what was asked for was done
-finished : (words : List (List ℕ)) (before after : World) (answer : Ended) (ran : Runs words before after answer) → status_of answer.exit_reason ≡ 0
+finished : (arguments : List (List ℕ)) (before after : World) (answer : Ended) (ran : Runs arguments before after answer) → status_of answer.exit_reason ≡ 0
     → (ran.ended ≡ exit_reason.Done) × Takes ran.reached.streams.output after.streams.output [] × (waiting after.streams.output ≡ [])
-finished words before after answer ran none =
+finished arguments before after answer ran none =
     let done = done-status answer.exit_reason (sym none) in
     elim ran.finishes.flushed [
       | inl flushed ↦ (sym flushed.2 ∙ done, flushed.0, flushed.1)
@@ -151,22 +151,22 @@ finished words before after answer ran none =
     ]
 
 -- nothing waits in the output after such a run
-pub none-waits : (words : List (List ℕ)) (before after : World) (answer : Ended) → Runs words before after answer → status_of answer.exit_reason ≡ 0
+pub none-waits : (arguments : List (List ℕ)) (before after : World) (answer : Ended) → Runs arguments before after answer → status_of answer.exit_reason ≡ 0
     → waiting after.streams.output ≡ []
-none-waits words before after answer ran zero = (finished words before after answer ran zero).2
+none-waits arguments before after answer ran zero = (finished arguments before after answer ran zero).2
 
-pub info_request-done : (words : List (List ℕ)) (before after : World) (info_request : InfoRequest) (answer : Ended) → notice_of words ≡ Some info_request → Runs words before after answer
+pub info_request-done : (arguments : List (List ℕ)) (before after : World) (info_request : InfoRequest) (answer : Ended) → notice_of arguments ≡ Some info_request → Runs arguments before after answer
     → status_of answer.exit_reason ≡ 0 → Takes before.streams.output after.streams.output (notice_text info_request)
-info_request-done words before after info_request answer is ran zero =
-    let ends = finished words before after answer ran zero in
-    let serves : Serves (Some info_request) words before ran.reached ran.ended ran.name answer.line =
-    subst (λ (o : Option InfoRequest). Serves o words before ran.reached ran.ended ran.name answer.line) is ran.serves in
+info_request-done arguments before after info_request answer is ran zero =
+    let ends = finished arguments before after answer ran zero in
+    let serves : Serves (Some info_request) arguments before ran.reached ran.ended ran.name answer.line =
+    subst (λ (o : Option InfoRequest). Serves o arguments before ran.reached ran.ended ran.name answer.line) is ran.serves in
     elim serves.0 [
       | inl took ↦ then-flushed before.streams.output ran.reached.streams.output after.streams.output (notice_text info_request) took.1 ends.1
       | inr lost ↦ absurd (cc (sym lost.0 ∙ ends.0))
     ]
 
--- ---- at most one plan fits words
+-- ---- at most one plan fits arguments
 
 same-option : (a b : Option (List ℕ)) → option_to_list a ≡ option_to_list b → a ≡ b
 same-option None None e = refl
@@ -177,13 +177,13 @@ same-option (Some x) (Some y) e = cc e
 plan-with : Subcommand → List ℕ → List ℕ → Option (List ℕ) → Option (List ℕ) → ℕ → ℕ → List (List ℕ) → RunPlan
 plan-with run sizes first other bases width limit view = record { run = run; sizes = sizes; first = first; other = other; bases = bases; width = width; limit = limit; view = view }
 
-pub one-plan : (words : List (List ℕ)) (p q : RunPlan) → IsPlan words p → IsPlan words q → p ≡ q
+pub one-plan : (arguments : List (List ℕ)) (p q : RunPlan) → IsPlan arguments p → IsPlan arguments q → p ≡ q
 unfolding plan-with
-one-plan words p q a b =
-    let are : a.word ∷ a.rest ≡ b.word ∷ b.rest = sym a.are ∙ b.are in
-    let word : a.word ≡ b.word = cc are in
+one-plan arguments p q a b =
+    let are : a.argument ∷ a.rest ≡ b.argument ∷ b.rest = sym a.are ∙ b.are in
+    let argument : a.argument ≡ b.argument = cc are in
     let rest : a.rest ≡ b.rest = cc are in
-    let some_run : Some p.run ≡ Some q.run = sym a.run ∙ ap run_of word ∙ b.run in
+    let some_run : Some p.run ≡ Some q.run = sym a.run ∙ ap run_of argument ∙ b.run in
     let run : p.run ≡ q.run = cc some_run in
     let some_parts : Some a.parts ≡ Some b.parts = cc (a.splitting, b.splitting, run, rest) in
     let parts : a.parts ≡ b.parts = cc some_parts in
@@ -197,23 +197,23 @@ one-plan words p q a b =
     let width : p.width ≡ q.width = cc some_width in
     let some_limit : Some p.limit ≡ Some q.limit = cc (a.limit, b.limit, parts) in
     let limit : p.limit ≡ q.limit = cc some_limit in
-    let one = (for-kind p.run a.word a.parts p.view p.other p.bases a.other a.bases a.kind).view_is in
-    let two = (for-kind q.run b.word b.parts q.view q.other q.bases b.other b.bases b.kind).view_is in
-    let view : p.view ≡ q.view = cc (one, two, run, word, parts) in
+    let one = (for-kind p.run a.argument a.parts p.view p.other p.bases a.other a.bases a.kind).view_is in
+    let two = (for-kind q.run b.argument b.parts q.view q.other q.bases b.other b.bases b.kind).view_is in
+    let view : p.view ≡ q.view = cc (one, two, run, argument, parts) in
     let same : plan-with p.run p.sizes p.first p.other p.bases p.width p.limit p.view ≡ plan-with q.run q.sizes q.first q.other q.bases q.width q.limit q.view =
     cc (run, sizes, first, other, bases, width, limit, view) in
     same
 
-pub plan-all-done : (words : List (List ℕ)) (before after : World) (plan : RunPlan) (answer : Ended) → notice_of words ≡ None → IsPlan words plan → Runs words before after answer
+pub plan-all-done : (arguments : List (List ℕ)) (before after : World) (plan : RunPlan) (answer : Ended) → notice_of arguments ≡ None → IsPlan arguments plan → Runs arguments before after answer
     → status_of answer.exit_reason ≡ 0 → DoesAll plan before after
-plan-all-done words before after plan answer none is ran zero =
-    by (subst (λ (o : Option InfoRequest). Serves o words before ran.reached ran.ended ran.name answer.line) none ran.serves)
+plan-all-done arguments before after plan answer none is ran zero =
+    by (subst (λ (o : Option InfoRequest). Serves o arguments before ran.reached ran.ended ran.name answer.line) none ran.serves)
   where
     ends : (ran.ended ≡ exit_reason.Done) × Takes ran.reached.streams.output after.streams.output [] × (waiting after.streams.output ≡ [])
-    ends = finished words before after answer ran zero
+    ends = finished arguments before after answer ran zero
 
-    by : Serves None words before ran.reached ran.ended ran.name answer.line → DoesAll plan before after
-    by (inl planned) = subst (λ (p : RunPlan). DoesAll p before after) (one-plan words planned.0 plan planned.1 is)
+    by : Serves None arguments before ran.reached ran.ended ran.name answer.line → DoesAll plan before after
+    by (inl planned) = subst (λ (p : RunPlan). DoesAll p before after) (one-plan arguments planned.0 plan planned.1 is)
         (plan-done planned.0 before ran.reached after ran.ended answer.line planned.3 ends.0 ends.1)
     by (inr (inl memory, same, no_line)) = absurd (cc (sym memory ∙ ends.0))
     by (inr (inr wrong, same, no_line)) = absurd (cc (sym wrong.0 ∙ ends.0))

@@ -19,7 +19,7 @@ use Rattle.iv_session.specs.declared.script.RunFault.{RunFault}
 use Rattle.iv_session.specs.declared.script.Summary.{Summary}
 use Rattle.iv_args.specs.InfoRequests.{notice_of}
 use Rattle.iv_args.specs.Texts.{notice_text}
-use Rattle.iv_args.specs.Words.{RunPlan, IsPlan, file_of, is_session}
+use Rattle.iv_args.specs.Arguments.{RunPlan, IsPlan, file_of, is_session}
 use Rattle.iv_args.specs.declared.info_request.InfoRequest.{InfoRequest}
 use Rattle.iv_args.specs.declared.subcommand.Subcommand.{Subcommand}
 use Rattle.iv_args.specs.declared.subcommand.Subcommand.TheVariants as kind
@@ -31,7 +31,7 @@ use Rattle.iv_run.specs.RunFiles.{AreOf, FilesRead, IsParsed}
 use Rattle.iv_run.specs.declared.fault.CliFault.{CliFault}
 use Rattle.iv_run.specs.declared.fault.FileFault.{FileFault}
 use Rattle.iv_run.specs.declared.fault.FileFault.TheVariants as file
-use Rattle.iv_cli.specs.ExitReasons.{ending_after, ending_of_cause, ending_of_file, ending_of_run, ending_of_words, is_through, name_meant}
+use Rattle.iv_cli.specs.ExitReasons.{ending_after, ending_of_cause, ending_of_file, ending_of_run, ending_of_arguments, is_through, name_meant}
 use Rattle.iv_cli.specs.declared.exit_reason.ExitReason.{ExitReason}
 use Rattle.iv_cli.specs.declared.exit_reason.ExitReason.TheVariants as exit_reason
 use Rattle.iv_program.specs.Files.{FilesState, IsText, after_one, after_reading}
@@ -227,30 +227,30 @@ finished ended name out0 out1 said0 said1 reported ends = record { flushed = by 
     by true flush is = inl (flush.0, flush.1, is ∙ same-both (is_through ended) ended)
     by false flush is = inr (flush, is)
 
-module _ (words : List (List ℕ)) (answer : Ended) where
-  pub gave-info_request : (info_request : InfoRequest) (files : FilesState) (input : SourceState) (o0 o1 o2 s0 s1 : SinkState) (ended : ExitReason) → notice_of words ≡ Some info_request
+module _ (arguments : List (List ℕ)) (answer : Ended) where
+  pub gave-info_request : (info_request : InfoRequest) (files : FilesState) (input : SourceState) (o0 o1 o2 s0 s1 : SinkState) (ended : ExitReason) → notice_of arguments ≡ Some info_request
       → ((ended ≡ exit_reason.Done) × Takes o0 o1 (notice_text info_request)) ⊎ ((ended ≡ exit_reason.Output) × FailsIn o0 o1 (notice_text info_request))
       → EndsRun ended [] o1 o2 s0 s1 answer.exit_reason → answer.line ≡ 0
-      → Runs words (world files input o0 s0) (world files input o2 s1) answer
+      → Runs arguments (world files input o0 s0) (world files input o2 s1) answer
   gave-info_request info_request files input o0 o1 o2 s0 s1 ended is gives finishes no_line = record {
     reached = world files input o1 s0;
     ended = ended;
     name = [];
-    serves = subst (λ (o : Option InfoRequest). Serves o words (world files input o0 s0) (world files input o1 s0) ended [] answer.line) (sym is) (gives, refl, no_line);
+    serves = subst (λ (o : Option InfoRequest). Serves o arguments (world files input o0 s0) (world files input o1 s0) ended [] answer.line) (sym is) (gives, refl, no_line);
     finishes = finished ended [] o1 o2 s0 s1 answer.exit_reason finishes;
     files = refl;
     input = refl;
   }
 
-  pub ran-plan : (plan : RunPlan) (f0 f1 : FilesState) (i0 i1 : SourceState) (o0 o1 o2 s0 s1 s2 : SinkState) (ended : ExitReason) (line : ℕ) (name : List ℕ) → notice_of words ≡ None
-      → IsPlan words plan → ReadsAll plan (world f0 i0 o0 s0) (world f1 i1 o1 s1) ended line ⊎ StopsPlan plan (world f0 i0 o0 s0) (world f1 i1 o1 s1) ended line
+  pub ran-plan : (plan : RunPlan) (f0 f1 : FilesState) (i0 i1 : SourceState) (o0 o1 o2 s0 s1 s2 : SinkState) (ended : ExitReason) (line : ℕ) (name : List ℕ) → notice_of arguments ≡ None
+      → IsPlan arguments plan → ReadsAll plan (world f0 i0 o0 s0) (world f1 i1 o1 s1) ended line ⊎ StopsPlan plan (world f0 i0 o0 s0) (world f1 i1 o1 s1) ended line
       → name ≡ name_meant plan ended → EndsRun ended name o1 o2 s1 s2 answer.exit_reason → answer.line ≡ line
-      → Runs words (world f0 i0 o0 s0) (world f1 i1 o2 s2) answer
+      → Runs arguments (world f0 i0 o0 s0) (world f1 i1 o2 s2) answer
   ran-plan plan f0 f1 i0 i1 o0 o1 o2 s0 s1 s2 ended line name none is runs named finishes same_line = record {
     reached = world f1 i1 o1 s1;
     ended = ended;
     name = name;
-    serves = subst (λ (o : Option InfoRequest). Serves o words (world f0 i0 o0 s0) (world f1 i1 o1 s1) ended name answer.line) (sym none)
+    serves = subst (λ (o : Option InfoRequest). Serves o arguments (world f0 i0 o0 s0) (world f1 i1 o1 s1) ended name answer.line) (sym none)
         (inl (plan, is, named, subst (λ (n : ℕ). RunsPlan plan (world f0 i0 o0 s0) (world f1 i1 o1 s1) ended n) (sym same_line) (by runs)));
     finishes = finished ended name o1 o2 s1 s2 answer.exit_reason finishes;
     files = refl;
@@ -262,20 +262,20 @@ module _ (words : List (List ℕ)) (answer : Ended) where
       by (inl read) = inl (read-plan plan (world f0 i0 o0 s0) (world f1 i1 o1 s1) ended line read)
       by (inr stopped) = inr (stopped-plan plan (world f0 i0 o0 s0) (world f1 i1 o1 s1) ended line stopped)
 
-  pub had-no-plan : (why : Fault) (files : FilesState) (input : SourceState) (o0 o1 s0 s1 : SinkState) (ended : ExitReason) → notice_of words ≡ None
-      → (why ≡ refused.NoMemory) ⊎ ((why ≡ refused.Words) × ((plan : RunPlan) → ¬ IsPlan words plan)) → ended ≡ ending_of_words why
-      → EndsRun ended [] o0 o1 s0 s1 answer.exit_reason → answer.line ≡ 0 → Runs words (world files input o0 s0) (world files input o1 s1) answer
+  pub had-no-plan : (why : Fault) (files : FilesState) (input : SourceState) (o0 o1 s0 s1 : SinkState) (ended : ExitReason) → notice_of arguments ≡ None
+      → (why ≡ refused.NoMemory) ⊎ ((why ≡ refused.Words) × ((plan : RunPlan) → ¬ IsPlan arguments plan)) → ended ≡ ending_of_arguments why
+      → EndsRun ended [] o0 o1 s0 s1 answer.exit_reason → answer.line ≡ 0 → Runs arguments (world files input o0 s0) (world files input o1 s1) answer
   had-no-plan why files input o0 o1 s0 s1 ended none is ended_is finishes no_line = record {
     reached = world files input o0 s0;
     ended = ended;
     name = [];
-    serves = subst (λ (o : Option InfoRequest). Serves o words (world files input o0 s0) (world files input o0 s0) ended [] answer.line) (sym none) (inr (by is, refl, no_line));
+    serves = subst (λ (o : Option InfoRequest). Serves o arguments (world files input o0 s0) (world files input o0 s0) ended [] answer.line) (sym none) (inr (by is, refl, no_line));
     finishes = finished ended [] o0 o1 s0 s1 answer.exit_reason finishes;
     files = refl;
     input = refl;
   }
     where
-      by : (why ≡ refused.NoMemory) ⊎ ((why ≡ refused.Words) × ((plan : RunPlan) → ¬ IsPlan words plan))
-          → (ended ≡ exit_reason.Memory) ⊎ ((ended ≡ exit_reason.Words refused.Words) × ((plan : RunPlan) → ¬ IsPlan words plan))
-      by (inl memory) = inl (ended_is ∙ ap ending_of_words memory)
-      by (inr wrong) = inr (ended_is ∙ ap ending_of_words wrong.0, wrong.1)
+      by : (why ≡ refused.NoMemory) ⊎ ((why ≡ refused.Words) × ((plan : RunPlan) → ¬ IsPlan arguments plan))
+          → (ended ≡ exit_reason.Memory) ⊎ ((ended ≡ exit_reason.Words refused.Words) × ((plan : RunPlan) → ¬ IsPlan arguments plan))
+      by (inl memory) = inl (ended_is ∙ ap ending_of_arguments memory)
+      by (inr wrong) = inr (ended_is ∙ ap ending_of_arguments wrong.0, wrong.1)

@@ -5,7 +5,7 @@ use Rattle.iv_bytes.specs.Sinks.{SinkState, Takes, FailsIn}
 use Rattle.iv_session.specs.Streams.{Streams}
 use Rattle.iv_args.specs.InfoRequests.{notice_of}
 use Rattle.iv_args.specs.declared.info_request.InfoRequest.{InfoRequest}
-use Rattle.iv_args.specs.Words.{RunPlan, IsPlan, file_of, is_session}
+use Rattle.iv_args.specs.Arguments.{RunPlan, IsPlan, file_of, is_session}
 use Rattle.iv_args.specs.declared.subcommand.Subcommand.{Subcommand}
 use Rattle.iv_args.specs.declared.subcommand.Subcommand.TheVariants as kind
 use Rattle.iv_args.specs.declared.plan.Slot.{Slot}
@@ -18,7 +18,7 @@ use Rattle.iv_cli.specs.declared.exit_reason.ExitReason.{ExitReason}
 use Rattle.iv_cli.specs.declared.exit_reason.ExitReason.TheVariants as exit_reason
 use Rattle.iv_program.specs.Files.{FilesState, after_one, after_reading}
 use Rattle.iv_program.specs.Limits.{most_file_bytes}
-use Rattle.iv_program.specs.Outcomes.{AreSound, HasBytes, Hold, PrintsJust}
+use Rattle.iv_program.specs.Outcomes.{IsSound, HasBytes, Hold, PrintsJust}
 use Rattle.iv_program.specs.Program.{Finishes, Runs, Serves}
 use Rattle.iv_program.specs.Runs.{DoesWith, World}
 use Rattle.iv_program.specs.Inside.Files.{IsWhy}
@@ -117,7 +117,7 @@ module _ (plan : RunPlan) (before reached after : Streams) (reported : ExitReaso
   is-quiet : ended ≡ exit_reason.Done → after.messages ≡ before.messages
   is-quiet is = quiet ended (name_meant plan ended) reached.output after.output reached.messages after.messages reported finishes sound heard is ∙ same-messages
 
-  -- the fault of files or of words is reported, and nothing was printed
+  -- the fault of files or of arguments is reported, and nothing was printed
   tells : (k : CliFault) → ended ≡ ending_of k → reached.output ≡ before.output → (said : Result (List ℕ) CliFault) → said ≡ Err k → PrintsJust plan said before after (status_of reported)
   tells k is same said e = subst (λ (r : Result (List ℕ) CliFault). PrintsJust plan r before after (status_of reported)) (sym e) (
     subst (λ (o : SinkState). Takes o after.output []) same out,
@@ -145,11 +145,11 @@ view-done : (run : Subcommand) (plan : RunPlan) (texts : Texts) (before after : 
 view-done kind.Session plan texts before after ended line view does = absurd (true≢false view)
 view-done run plan texts before after ended line view does = does
 
-pub prints-just : (words : List (List ℕ)) (before after : World) (plan : RunPlan) (texts : Texts) (answer : Ended) → notice_of words ≡ None → IsPlan words plan
-    → is_session plan.run ≡ false → Hold before.files plan texts → Runs words before after answer → AreSound after → (status_of answer.exit_reason ≡ 5 → ⊥)
+pub prints-just : (arguments : List (List ℕ)) (before after : World) (plan : RunPlan) (texts : Texts) (answer : Ended) → notice_of arguments ≡ None → IsPlan arguments plan
+    → is_session plan.run ≡ false → Hold before.files plan texts → Runs arguments before after answer → IsSound after → (status_of answer.exit_reason ≡ 5 → ⊥)
     → PrintsJust plan (shown plan texts.sizes texts.first texts.other texts.bases plan.limit) before.streams after.streams (status_of answer.exit_reason)
-prints-just words before after plan texts answer none is view hold ran sound had_memory = by
-    (subst (λ (o : Option InfoRequest). Serves o words before ran.reached ran.ended ran.name answer.line) none ran.serves)
+prints-just arguments before after plan texts answer none is view hold ran sound had_memory = by
+    (subst (λ (o : Option InfoRequest). Serves o arguments before ran.reached ran.ended ran.name answer.line) none ran.serves)
   where
     Goal : Type 0
     Goal = PrintsJust plan (shown plan texts.sizes texts.first texts.other texts.bases plan.limit) before.streams after.streams (status_of answer.exit_reason)
@@ -181,9 +181,9 @@ prints-just words before after plan texts answer none is view hold ran sound had
             let has = slot-known before.files plan texts stopped.slot stopped.name hold stopped.named in
             absurd (not-long before.files stopped.name has.0 has.1 long.1)
 
-    by : Serves None words before ran.reached ran.ended ran.name answer.line → Goal
+    by : Serves None arguments before ran.reached ran.ended ran.name answer.line → Goal
     by (inl planned) =
-        let same : planned.0 ≡ plan = one-plan words planned.0 plan planned.1 is in
+        let same : planned.0 ≡ plan = one-plan arguments planned.0 plan planned.1 is in
         of_plan (planned.2 ∙ ap (λ (p : RunPlan). name_meant p ran.ended) same) (subst (λ (p : RunPlan). RunsPlan p before ran.reached ran.ended answer.line) same planned.3)
     by (inr (inl memory, same, no_line)) = absurd (no-memory memory)
     by (inr (inr wrong, same, no_line)) = absurd (wrong.1 plan is)

@@ -18,7 +18,7 @@ pub record FilesState : Type 0 where
 
 -- the file of a name that was just opened
 abbrev pub opened : FilesState → List ℕ → SourceState
-opened files name = record { coming = files.contents name; failed = false; ends = 0 }
+opened files name = record { remaining = files.contents name; failed = false; ends = 0 }
 
 -- the files once the one of this name is opened
 abbrev pub after_opening : List ℕ → FilesState → FilesState

@@ -1,10 +1,10 @@
--- A run that has done all that its words ask for, and one that nothing hindered.
+-- A run that has done all that its arguments ask for, and one that nothing hindered.
 use Rattle.std.specs.Prelude.{◌≡◌, ◌≤◌, ℕ, List, [], Bool, true, false, Option, None, Some, Result, Ok, Err, length}
 use Rattle.iv_bytes.specs.Sinks.{Takes}
 use Rattle.iv_workspace.specs.States.{State}
 use Rattle.iv_session.specs.Scripts.{Done}
 use Rattle.iv_session.specs.Streams.{Streams}
-use Rattle.iv_args.specs.Words.{RunPlan, is_session}
+use Rattle.iv_args.specs.Arguments.{RunPlan, is_session}
 use Rattle.iv_cli.specs.Loading.{loaded}
 use Rattle.iv_run.specs.Shots.{shown}
 use Rattle.iv_run.specs.declared.fault.CliFault.{CliFault}
@@ -53,7 +53,7 @@ pub record Hold (files : FilesState) (plan : RunPlan) (texts : Texts) : Type 0 w
   pub bases : HasBytes files plan.bases texts.bases
 
 -- no file failed, nor the output, nor the messages
-pub record AreSound (after : World) : Type 0 where
+pub record IsSound (after : World) : Type 0 where
   pub files : after.files.failed ≡ false
   pub output : after.streams.output.failed ≡ false
   pub messages : after.streams.messages.failed ≡ false

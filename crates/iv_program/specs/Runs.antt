@@ -7,7 +7,7 @@ use Rattle.iv_session.specs.Endings.{Ran}
 use Rattle.iv_session.specs.Streams.{Streams}
 use Rattle.iv_session.specs.declared.script.RunFault.{RunFault}
 use Rattle.iv_session.specs.declared.script.Summary.{Summary}
-use Rattle.iv_args.specs.Words.{RunPlan, file_of}
+use Rattle.iv_args.specs.Arguments.{RunPlan, file_of}
 use Rattle.iv_args.specs.declared.subcommand.Subcommand.{Subcommand}
 use Rattle.iv_args.specs.declared.subcommand.Subcommand.TheVariants as kind
 use Rattle.iv_args.specs.declared.plan.Slot.{Slot}

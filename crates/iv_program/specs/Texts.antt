@@ -1,7 +1,7 @@
 -- The texts of the files of a plan.
 use Rattle.std.specs.Prelude.{◌≡◌, ℕ, List, [], ◌∷◌, Option, None, Some, IsSomeAnd}
 use Rattle.std.specs.Option.{option_to_list}
-use Rattle.iv_args.specs.Words.{RunPlan}
+use Rattle.iv_args.specs.Arguments.{RunPlan}
 use Rattle.iv_args.specs.declared.plan.Slot.{Slot}
 use Rattle.iv_args.specs.declared.plan.Slot.TheVariants.{Sizes, First, Other, Bases}
 use Rattle.iv_program.specs.Files.{FilesState, IsText}

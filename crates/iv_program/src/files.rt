@@ -1,7 +1,7 @@
 //! Files that are opened by their names, and reading those of a plan.
 ghost use Rattle.std.specs.Prelude.{◌≡◌, List, [], ◌∷◌, ℕ, Option, None, Some, IfOk, IfErr, OnOk, OnErr, true, IfSome};
 ghost use Rattle.std.specs.Option.{option_map, option_to_list};
-ghost use Rattle.iv_args.specs.Words.{file_of};
+ghost use Rattle.iv_args.specs.Arguments.{file_of};
 ghost use Rattle.iv_run.specs.RunFiles.{IsFasta, IsIfNamed};
 ghost use Rattle.iv_program.specs.Files.{FilesState, IsText, opened, after_opening, after_closing, after_one, after_reading};
 ghost use Rattle.iv_program.specs.Inside.Files.{StopsAt, StopsFile, names_of};
@@ -67,7 +67,7 @@ fn read_file<A: Allocator + Copy, F: InputFiles>(
 }
 
 /// What is held of the file of this name.
-fn read_bed<H: HoldsFile<A>, A: Allocator + Copy, F: InputFiles>(
+fn read_held<H: HoldsFile<A>, A: Allocator + Copy, F: InputFiles>(
     files: &mut F,
     name: &[u8],
     on: &RunGenome<A>,
@@ -96,7 +96,7 @@ fn read_second<H: HoldsFile<A>, A: Allocator + Copy, F: InputFiles>(
         × ((name : List ℕ) × (plan.now.other ≡ Some name) × StopsFile (F.state files.old) name why.1 (F.state files.new))) }
 {
     match plan.file(Slot::Other) {
-        Some(name) => Ok(Some(in_slot(Slot::Other, read_bed(files, name, on))?)),
+        Some(name) => Ok(Some(in_slot(Slot::Other, read_held(files, name, on))?)),
         None => Ok(None),
     }
 }
@@ -113,7 +113,7 @@ fn read_fasta<A: Allocator + Copy, F: InputFiles>(
         × ((name : List ℕ) × (plan.now.bases ≡ Some name) × StopsFile (F.state files.old) name why.1 (F.state files.new))) }
 {
     match plan.file(Slot::Bases) {
-        Some(name) => Ok(Some(in_slot(Slot::Bases, read_bed(files, name, on))?)),
+        Some(name) => Ok(Some(in_slot(Slot::Bases, read_held(files, name, on))?)),
         None => Ok(None),
     }
 }
@@ -130,7 +130,7 @@ pub(crate) fn read_files<H: HoldsFile<A>, A: Allocator + Copy, F: InputFiles>(
 {
     let sizes = in_slot(Slot::Sizes, read_file(alloc, files, plan.sizes_file()))?;
     let on = RunGenome::begin(alloc, plan, sizes.as_slice(), plan.limit());
-    let first = in_slot(Slot::First, read_bed(files, plan.first_file(), &on))?;
+    let first = in_slot(Slot::First, read_held(files, plan.first_file(), &on))?;
     let second = read_second(files, plan, &on)?;
     let fasta = read_fasta(files, plan, &on)?;
     Ok(RunFiles {

@@ -9,5 +9,5 @@ mod script_run;
 pub use files::InputFiles;
 pub use memory::{MemFiles, NamedBytes};
 pub use program::{
-    Ended, done_is_all, one_plan_at_most, run_program, tell, views_depend_on_bytes_alone,
+    Ended, done_is_all, one_plan_at_most, report, run_program, views_depend_on_bytes_alone,
 };

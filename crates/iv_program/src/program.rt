@@ -1,17 +1,17 @@
 //! The whole program: what the arguments ask for, the run of one subcommand, and how each run ends.
 ghost use Rattle.std.specs.Prelude.{◌≡◌, ◌≢◌, ◌⊎◌, ℕ, List, [], Some, None, IfOk, IfErr, IfSome, MatchResult, OnOk, OnErr, map, true, false};
 ghost use Rattle.iv_bytes.specs.Sinks.{FailsIn, Takes, waiting};
-ghost use Rattle.iv_index.specs.Locators.{bare};
+ghost use Rattle.iv_locators.specs.Locators.{bare};
 ghost use Rattle.iv_args.specs.InfoRequests.{notice_of};
 ghost use Rattle.iv_args.specs.Texts.{notice_text};
-ghost use Rattle.iv_args.specs.Words.{RunPlan, IsPlan, is_session};
+ghost use Rattle.iv_args.specs.Arguments.{RunPlan, IsPlan, is_session};
 ghost use Rattle.iv_args.specs.declared.info_request.InfoRequest.{InfoRequest};
 ghost use Rattle.iv_run.specs.IntervalsViews.{AskForIntervals};
 ghost use Rattle.iv_run.specs.Inside.IntervalsViews.{AskForColumns};
 ghost use Rattle.iv_run.specs.Shots.{shown};
 ghost use Rattle.iv_cli.specs.ExitReasons.{ending_of as ending_of_fault, is_through, line_of, status_of};
 ghost use Rattle.iv_program.specs.Files.{after_reading};
-ghost use Rattle.iv_program.specs.Outcomes.{AreSound, DoesAll, Hold, PrintsJust};
+ghost use Rattle.iv_program.specs.Outcomes.{IsSound, DoesAll, Hold, PrintsJust};
 ghost use Rattle.iv_program.specs.Program.{Runs, world};
 ghost use Rattle.iv_program.specs.Runs.{World};
 ghost use Rattle.iv_program.specs.Inside.Files.{StopsAt, names_of};
@@ -26,7 +26,7 @@ use crate::script_run::run_session;
 use iv_args::{InfoRequest, Plan};
 use iv_bytes::{Flush, Sink, Source, put_all};
 use iv_cli::ExitReason;
-use iv_index::Span;
+use iv_locators::Span;
 use iv_run::{CliFault, HeldBed, HeldRecords, IntervalsView, RunFiles, shot_of_held};
 use std::alloc::Allocator;
 
@@ -153,7 +153,7 @@ fn run_plan<A: Allocator + Copy, F: InputFiles, R: Source, W: Sink, E: Sink>(
 }
 
 /// Reports an ending, with the name of the file that is meant, and gives its status.
-pub fn tell<E: Sink>(exit_reason: ExitReason, name: &[u8], messages: &mut E) -> u8
+pub fn report<E: Sink>(exit_reason: ExitReason, name: &[u8], messages: &mut E) -> u8
     ensures told { Takes (E.state messages.old) (E.state messages.new) (line_of name.now exit_reason)
         ⊎ FailsIn (E.state messages.old) (E.state messages.new) (line_of name.now exit_reason) }
     ensures quiet { is_through exit_reason ≡ true → messages.new ≡ messages.old }
@@ -171,7 +171,7 @@ fn finish<W: Flush, E: Sink>(ended: Ended, name: &[u8], output: &mut W, messages
 {
     let flushed = output.flush().is_ok();
     let exit_reason = ended.exit_reason.after_flush(flushed);
-    tell(exit_reason, name, messages);
+    report(exit_reason, name, messages);
     Ended {
         exit_reason,
         line: ended.line,
@@ -182,21 +182,21 @@ fn finish<W: Flush, E: Sink>(ended: Ended, name: &[u8], output: &mut W, messages
 /// that ended.
 pub fn run_program<A: Allocator + Copy, F: InputFiles, R: Source, W: Flush, E: Sink>(
     alloc: A,
-    words: &[&[u8]],
+    arguments: &[&[u8]],
     files: &mut F,
     input: &mut R,
     output: &mut W,
     messages: &mut E,
 ) -> Ended
-    ensures { Runs (map (λ word. word.now) words.now)
+    ensures { Runs (map (λ argument. argument.now) arguments.now)
         (world (F.state files.old) (R.state input.old) (W.state output.old) (E.state messages.old))
         (world (F.state files.new) (R.state input.new) (W.state output.new) (E.state messages.new)) result }
 {
-    if let Some(info_request) = InfoRequest::of(words) {
+    if let Some(info_request) = InfoRequest::of(arguments) {
         let ended = Ended::at_no_line(print_notice(info_request, output));
         return finish(ended, b"", output, messages);
     }
-    match Plan::read(alloc, words) {
+    match Plan::read(alloc, arguments) {
         Ok(plan) => {
             let ended = run_plan(alloc, &plan, files, input, output, messages);
             finish(ended, ended.exit_reason.file_meant(&plan), output, messages)
@@ -211,20 +211,20 @@ pub fn run_program<A: Allocator + Copy, F: InputFiles, R: Source, W: Flush, E: S
 /// A run that gives the status 0 has done all that its arguments ask for: the output has taken the whole text of the notice or of the
 /// view for the files' bytes, or every line of the script was run and none refused. Nothing of it waits in the output.
 pub fn done_is_all()
-    ensures info_request { (words : List (List ℕ)) (before after : World) (info_request : InfoRequest) (ended : Ended) → notice_of words ≡ Some info_request → Runs words before after ended → status_of ended.exit_reason ≡ 0 → Takes before.streams.output after.streams.output (notice_text info_request) }
-    ensures plan { (words : List (List ℕ)) (before after : World) (plan : RunPlan) (ended : Ended) → notice_of words ≡ None → IsPlan words plan → Runs words before after ended → status_of ended.exit_reason ≡ 0 → DoesAll plan before after }
-    ensures flushed { (words : List (List ℕ)) (before after : World) (ended : Ended) → Runs words before after ended → status_of ended.exit_reason ≡ 0 → waiting after.streams.output ≡ [] }
+    ensures info_request { (arguments : List (List ℕ)) (before after : World) (info_request : InfoRequest) (ended : Ended) → notice_of arguments ≡ Some info_request → Runs arguments before after ended → status_of ended.exit_reason ≡ 0 → Takes before.streams.output after.streams.output (notice_text info_request) }
+    ensures plan { (arguments : List (List ℕ)) (before after : World) (plan : RunPlan) (ended : Ended) → notice_of arguments ≡ None → IsPlan arguments plan → Runs arguments before after ended → status_of ended.exit_reason ≡ 0 → DoesAll plan before after }
+    ensures flushed { (arguments : List (List ℕ)) (before after : World) (ended : Ended) → Runs arguments before after ended → status_of ended.exit_reason ≡ 0 → waiting after.streams.output ≡ [] }
 {}
 
 /// Arguments have at most one plan: they decide all of it.
 pub fn one_plan_at_most()
-    ensures { (words : List (List ℕ)) (one other : RunPlan) → IsPlan words one → IsPlan words other → one ≡ other }
+    ensures { (arguments : List (List ℕ)) (one other : RunPlan) → IsPlan arguments one → IsPlan arguments other → one ≡ other }
 {}
 
 /// What a run of one subcommand prints, puts among the messages and gives as its status depends on its arguments and on the bytes of its
 /// files alone, if no device fails, no file is too long and memory suffices: it is what the view's definition gives for these bytes.
 pub fn views_depend_on_bytes_alone()
-    ensures { (words : List (List ℕ)) (before after : World) (plan : RunPlan) (texts : Texts) (ended : Ended) → notice_of words ≡ None → IsPlan words plan → is_session plan.run ≡ false
-        → Hold before.files plan texts → Runs words before after ended → AreSound after → status_of ended.exit_reason ≢ 5
+    ensures { (arguments : List (List ℕ)) (before after : World) (plan : RunPlan) (texts : Texts) (ended : Ended) → notice_of arguments ≡ None → IsPlan arguments plan → is_session plan.run ≡ false
+        → Hold before.files plan texts → Runs arguments before after ended → IsSound after → status_of ended.exit_reason ≢ 5
         → PrintsJust plan (shown plan texts.sizes texts.first texts.other texts.bases plan.limit) before.streams after.streams (status_of ended.exit_reason) }
 {}

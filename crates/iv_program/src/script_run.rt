@@ -2,7 +2,7 @@
 ghost use Rattle.std.specs.Prelude.{◌≡◌, ◌≤◌, IfOk, IfErr, OnOk, OnErr};
 ghost use Rattle.iv_run.specs.RunFiles.{IsParsed};
 ghost use Rattle.iv_session.specs.Streams.{streams};
-ghost use Rattle.iv_args.specs.Words.{RunPlan, most_limit};
+ghost use Rattle.iv_args.specs.Arguments.{RunPlan, most_limit};
 ghost use Rattle.iv_program.specs.Files.{after_reading};
 ghost use Rattle.iv_program.specs.Inside.Files.{StopsAt, names_of};
 ghost use Rattle.iv_program.specs.Inside.Runs.{HasTexts, RunsScript, stopped_at};

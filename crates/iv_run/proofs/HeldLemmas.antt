@@ -16,10 +16,10 @@ use Rattle.iv_text.specs.declared.fault.LoadCause.{LoadCause}
 use Rattle.iv_text.specs.declared.fault.LoadCause.TheVariants as cause
 use Rattle.iv_text.specs.declared.fault.LoadFault.{LoadFault}
 use Rattle.iv_text.proofs.BedReadingLemmas.{turned, whole-file}
-use Rattle.iv_index.specs.Inside.Locators.{HasBase, locator_at, row_of}
-use Rattle.iv_index.specs.Locators.{bare}
-use Rattle.iv_index.specs.declared.locator.Locator.{Locator}
-use Rattle.iv_index.proofs.ReadingLemmas.{locator-row}
+use Rattle.iv_locators.specs.Inside.Locators.{HasBase, locator_at, row_of}
+use Rattle.iv_locators.specs.Locators.{bare}
+use Rattle.iv_locators.specs.declared.locator.Locator.{Locator}
+use Rattle.iv_locators.proofs.ReadingLemmas.{locator-row}
 use Rattle.iv_run.specs.Inside.Held.{AreIntervals, Held, HoldsFront, IsThreeWide}
 use Rattle.iv_run.specs.Pieces.{SaysSoFar}
 use Rattle.iv_run.specs.Loading.{IsAnswer}
@@ -30,7 +30,7 @@ use Rattle.iv_run.specs.declared.held_bed.Columns.TheVariants.{Unknown, Three, O
 module _ (g : Sequences) (limit : ℕ) where
   -- a line leaves what is known, or it has a record of the width that is known
   abbrev IsNext : Draft → List ℕ → Draft → Type 0
-  IsNext d line e = (e ≡ d) ⊎ ((r : RecordValue) × (read g (width_at d line) line ≡ Ok r) × (e ≡ record { width = Some (width_at d line); rows = d.rows ++ r ∷ [] }))
+  IsNext d line e = (e ≡ d) ⊎ ((r : RecordValue) × (read g (width_at d line) line ≡ Ok r) × (e ≡ record { width = Some (width_at d line); records = d.records ++ r ∷ [] }))
 
   row-next : (d e : Draft) (line : List ℕ) → after_record g limit d line ≡ Ok e → IsNext d line e
   unfolding after_record
@@ -39,19 +39,19 @@ module _ (g : Sequences) (limit : ℕ) where
       w : ℕ
       w = width_at d line
 
-      full : (t : Bool) (r : RecordValue) → read g w line ≡ Ok r → cond {A = Result Draft LoadCause} t (Err cause.TooMany) (Ok (record { width = Some w; rows = d.rows ++ r ∷ [] })) ≡ Ok e → IsNext d line e
+      full : (t : Bool) (r : RecordValue) → read g w line ≡ Ok r → cond {A = Result Draft LoadCause} t (Err cause.TooMany) (Ok (record { width = Some w; records = d.records ++ r ∷ [] })) ≡ Ok e → IsNext d line e
       full true r reads is = absurd (cc is)
       full false r reads is =
-          let same : record { width = Some w; rows = d.rows ++ r ∷ [] } ≡ e = cc is in
+          let same : record { width = Some w; records = d.records ++ r ∷ [] } ≡ e = cc is in
           inr (r, reads, sym same)
 
-      by : (t u : Bool) (r : Result RecordValue Fault) → read g w line ≡ r → cond {A = Result Draft LoadCause} t (Ok d) (cond u (with_row limit w d.rows r) (Err cause.Columns)) ≡ Ok e → IsNext d line e
+      by : (t u : Bool) (r : Result RecordValue Fault) → read g w line ≡ r → cond {A = Result Draft LoadCause} t (Ok d) (cond u (with_row limit w d.records r) (Err cause.Columns)) ≡ Ok e → IsNext d line e
       by true u r reads is =
           let same : d ≡ e = cc is in
           inl (sym same)
       by false false r reads is = absurd (cc is)
       by false true (Err f) reads is = absurd (cc is)
-      by false true (Ok r) reads is = full (nat_le limit (length d.rows)) r reads is
+      by false true (Ok r) reads is = full (nat_le limit (length d.records)) r reads is
 
   -- what each line leaves, all lines leave
   module _ (P : Draft → Type 0) (step : (d e : Draft) (line : List ℕ) → IsNext d line e → P d → P e) where
@@ -85,7 +85,7 @@ module _ (g : Sequences) (limit : ℕ) where
           → finished width (projected_draft bare x) ≡ Ok (projected_bed bare file) → file.width ≡ 3
       by (Err f) gives e = absurd (cc e)
       by (Ok d) gives e =
-          let same : record { width = unwrap_or d.width width; rows = map bare d.rows } ≡ projected_bed bare file = cc e in
+          let same : record { width = unwrap_or d.width width; records = map bare d.records } ≡ projected_bed bare file = cc e in
           let three : d.width ≡ Some 3 = lines-leave (λ (x : Draft). x.width ≡ Some 3) three-left (lines (r.tail ++ more)) r.read.number (known r.read) d gives is in
           sym (ap (λ (b : Bed). b.width) same) ∙ ap (λ (o : Option ℕ). unwrap_or o width) three
 
@@ -103,14 +103,14 @@ module _ (g : Sequences) (limit : ℕ) where
 
   -- so are the records of a file of three columns
   record IsBare (d : Draft) : Type 0 where
-    none : d.width ≡ None → d.rows ≡ []
-    three : d.width ≡ Some 3 → map bare d.rows ≡ d.rows
+    none : d.width ≡ None → d.records ≡ []
+    three : d.width ≡ Some 3 → map bare d.records ≡ d.records
 
-  bare-row : (o : Option ℕ) (w : ℕ) (count : ℕ) (rows : List RecordValue) → (o ≡ None → rows ≡ []) → (o ≡ Some 3 → map bare rows ≡ rows) → w ≡ unwrap_or o count → w ≡ 3 → map bare rows ≡ rows
-  bare-row None w count rows none three is wide =
-      let empty : rows ≡ [] = none refl in
+  bare-row : (o : Option ℕ) (w : ℕ) (count : ℕ) (records : List RecordValue) → (o ≡ None → records ≡ []) → (o ≡ Some 3 → map bare records ≡ records) → w ≡ unwrap_or o count → w ≡ 3 → map bare records ≡ records
+  bare-row None w count records none three is wide =
+      let empty : records ≡ [] = none refl in
       subst (λ (l : List RecordValue). map bare l ≡ l) (sym empty) refl
-  bare-row (Some k) w count rows none three is wide = three (ap Some (sym is ∙ wide))
+  bare-row (Some k) w count records none three is wide = three (ap Some (sym is ∙ wide))
 
   bare-left : (d e : Draft) (line : List ℕ) → IsNext d line e → IsBare d → IsBare e
   bare-left d e line (inl same) old = subst IsBare (sym same) old
@@ -120,22 +120,22 @@ module _ (g : Sequences) (limit : ℕ) where
         let w : ℕ = width_at d line in
         let r = more.0 in
         let wide : w ≡ 3 = cc is in
-        let before : map bare d.rows ≡ d.rows = bare-row d.width w (length (columns line)) d.rows old.none old.three refl wide in
+        let before : map bare d.records ≡ d.records = bare-row d.width w (length (columns line)) d.records old.none old.three refl wide in
         let one : r ≡ bare r = record-bare line r (subst (λ (n : ℕ). read g n line ≡ Ok r) wide more.1) in
-        map-append bare d.rows (r ∷ []) ∙ (λ i. before i ++ (sym one i ∷ []));
+        map-append bare d.records (r ∷ []) ∙ (λ i. before i ++ (sym one i ∷ []));
   })
 
-  file-bare : (width : ℕ) (text : List ℕ) (bed : Bed) → bed_of g width limit text ≡ Ok bed → bed.width ≡ 3 → map bare bed.rows ≡ bed.rows
-  file-bare width text bed is three = by (after_records g limit 1 (record { width = None; rows = [] }) (lines text)) refl is
+  file-bare : (width : ℕ) (text : List ℕ) (bed : Bed) → bed_of g width limit text ≡ Ok bed → bed.width ≡ 3 → map bare bed.records ≡ bed.records
+  file-bare width text bed is three = by (after_records g limit 1 (record { width = None; records = [] }) (lines text)) refl is
     where
-      by : (x : Result Draft LoadFault) → after_records g limit 1 (record { width = None; rows = [] }) (lines text) ≡ x → finished width x ≡ Ok bed → map bare bed.rows ≡ bed.rows
+      by : (x : Result Draft LoadFault) → after_records g limit 1 (record { width = None; records = [] }) (lines text) ≡ x → finished width x ≡ Ok bed → map bare bed.records ≡ bed.records
       by (Err f) gives e = absurd (cc e)
       by (Ok d) gives e =
-          let same : record { width = unwrap_or d.width width; rows = d.rows } ≡ bed = cc e in
+          let same : record { width = unwrap_or d.width width; records = d.records } ≡ bed = cc e in
           let wide : unwrap_or d.width width ≡ bed.width = ap (λ (b : Bed). b.width) same in
-          let rows : d.rows ≡ bed.rows = ap (λ (b : Bed). b.rows) same in
-          let last : IsBare d = lines-leave IsBare bare-left (lines text) 1 (record { width = None; rows = [] }) d gives (record { none = λ _. refl; three = λ wrong. absurd (cc wrong) }) in
-          subst (λ (l : List RecordValue). map bare l ≡ l) rows (bare-row d.width (unwrap_or d.width width) width d.rows last.none last.three refl (wide ∙ three))
+          let records : d.records ≡ bed.records = ap (λ (b : Bed). b.records) same in
+          let last : IsBare d = lines-leave IsBare bare-left (lines text) 1 (record { width = None; records = [] }) d gives (record { none = λ _. refl; three = λ wrong. absurd (cc wrong) }) in
+          subst (λ (l : List RecordValue). map bare l ≡ l) records (bare-row d.width (unwrap_or d.width width) width d.records last.none last.three refl (wide ∙ three))
 
   -- a whole file has three columns if its front shows it
   answer-three : (width : ℕ) (text : List ℕ) (file : Bed) → bed_of g width limit text ≡ Ok file → IsThreeWide g limit text → file.width ≡ 3
@@ -150,8 +150,8 @@ module _ (g : Sequences) (limit : ℕ) where
       by (Ok file) (Err f) is e = absurd (cc e)
       by (Ok file) (Ok bed) is e =
           let same : projected_bed bare bed ≡ file = cc e in
-          let rows : map bare bed.rows ≡ bed.rows = file-bare width text bed is (answer-three width text bed is wide) in
-          let whole : bed ≡ projected_bed bare bed = λ i. record { width = bed.width; rows = sym rows i } in
+          let records : map bare bed.records ≡ bed.records = file-bare width text bed is (answer-three width text bed is wide) in
+          let whole : bed ≡ projected_bed bare bed = λ i. record { width = bed.width; records = sym records i } in
           is ∙ ap Ok (whole ∙ same)
       by (Err f) r is (inl memory) = inl memory
       by (Err f) (Ok bed) is (inr e) = absurd (cc e)
@@ -165,18 +165,18 @@ module _ (g : Sequences) (limit : ℕ) where
     beside = record { name_good = λ low. absurd (omega (arith, low)); score_good = λ low. absurd (omega (arith, low)); strand_good = λ low. absurd (omega (arith, low)) };
   }
 
-  all-fit : (rows : List RecordValue) → All (IsProjected bare g 3) rows → All (Fits g 3) rows
+  all-fit : (records : List RecordValue) → All (IsProjected bare g 3) records → All (Fits g 3) records
   all-fit [] all = All-nil (Fits g 3)
-  all-fit (k ∷ rows) all =
-      let first : IsProjected bare g 3 k = All-head (IsProjected bare g 3) k rows all in
-      All-cons (Fits g 3) k rows (subst (Fits g 3) (sym first.2) (fits-bare first.0 first.1)) (all-fit rows (All-tail (IsProjected bare g 3) k rows all))
+  all-fit (k ∷ records) all =
+      let first : IsProjected bare g 3 k = All-head (IsProjected bare g 3) k records all in
+      All-cons (Fits g 3) k records (subst (Fits g 3) (sym first.2) (fits-bare first.0 first.1)) (all-fit records (All-tail (IsProjected bare g 3) k records all))
 
   pub answers-intervals : (width : ℕ) (text : List ℕ) (said : Result Bed LoadFault) → IsAnswer said (bed_of g width limit text) → IsThreeWide g limit text
-      → IfOk said (AreProjected bare g limit) → IfOk said (λ file. (file.width ≡ 3) × All (Fits g 3) file.rows)
+      → IfOk said (AreProjected bare g limit) → IfOk said (λ file. (file.width ≡ 3) × All (Fits g 3) file.records)
   answers-intervals width text (Err f) answer wide kept = tt
   answers-intervals width text (Ok file) answer wide kept =
       let three : file.width ≡ 3 = answer-three width text file answer wide in
-      (three, all-fit file.rows (subst (λ (w : ℕ). All (IsProjected bare g w) file.rows) three kept.kept_all))
+      (three, all-fit file.records (subst (λ (w : ℕ). All (IsProjected bare g w) file.records) three kept.kept_all))
 
 -- the locators of records that fit have a base
 pub bases-fit : (g : Sequences) (ps : List Locator) → All (Fits g 3) (map (row_of 3 []) ps) → All HasBase ps
@@ -193,7 +193,7 @@ held-text g limit front Three text so_far (inl is) holds = absurd (cc is)
 held-text g limit front Three text so_far (inr is) holds = absurd (cc is)
 
 -- what is held instead of a text
-pub intervals-fit : (g : Sequences) (held : Held) (said : Result Bed LoadFault) (file : Bed) → AreIntervals g held → held.intervals ≡ Some said → said ≡ Ok file → All (Fits g 3) file.rows
+pub intervals-fit : (g : Sequences) (held : Held) (said : Result Bed LoadFault) (file : Bed) → AreIntervals g held → held.intervals ≡ Some said → said ≡ Ok file → All (Fits g 3) file.records
 intervals-fit g held said file are is sound =
-    (subst (λ (r : Result Bed LoadFault). IfOk r (λ f. (f.width ≡ 3) × All (Fits g 3) f.rows)) sound
-    (subst (λ (o : Option (Result Bed LoadFault)). IfSome o (λ r. IfOk r (λ f. (f.width ≡ 3) × All (Fits g 3) f.rows))) is are)).1
+    (subst (λ (r : Result Bed LoadFault). IfOk r (λ f. (f.width ≡ 3) × All (Fits g 3) f.records)) sound
+    (subst (λ (o : Option (Result Bed LoadFault)). IfSome o (λ r. IfOk r (λ f. (f.width ≡ 3) × All (Fits g 3) f.records))) is are)).1

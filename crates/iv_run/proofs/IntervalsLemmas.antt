@@ -7,23 +7,23 @@ use Rattle.iv_bytes.specs.Sinks.{SinkState}
 use Rattle.iv_text.specs.Ordered.{ordered}
 use Rattle.iv_text.specs.declared.fault.Fault.{Fault}
 use Rattle.iv_text.specs.declared.fault.Fault.TheVariants as refused
-use Rattle.iv_index.proofs.BareLemmas.{ordered-bare}
-use Rattle.iv_index.specs.Locators.{bare}
+use Rattle.iv_locators.proofs.BareLemmas.{ordered-bare}
+use Rattle.iv_locators.specs.Locators.{bare}
 use Rattle.iv_blocks.specs.Groups.{listed}
 use Rattle.iv_blocks.specs.IntervalOptions.{IsByIntervals}
 use Rattle.iv_blocks.specs.declared.options.BlockOptions.{BlockOptions}
 use Rattle.iv_view.specs.NarrowedViews.{as_merge, narrowed, has_columns}
-use Rattle.iv_view.specs.Views.{beside_second, kept_text, read_words}
+use Rattle.iv_view.specs.Views.{beside_second, kept_text, read_arguments}
 use Rattle.iv_view.proofs.NarrowingLemmas.{fault-narrowed, view-narrowed}
 use Rattle.iv_view.specs.declared.view.View.{View}
 use Rattle.iv_view.specs.declared.view.View.TheVariants as view
 use Rattle.iv_view.specs.declared.view.KeptView.{KeptView}
 use Rattle.iv_view.specs.declared.view.KeptView.TheVariants as projected
 use Rattle.iv_view.specs.declared.written_view.WrittenView.TheVariants as written
-use Rattle.iv_depth.specs.declared.depth_rows.DepthRows.{DepthRows}
-use Rattle.iv_pair.specs.declared.pair_rows.PairRows.{PairRows}
-use Rattle.iv_fasta.specs.declared.rows.FastaRows.{FastaRows}
-use Rattle.iv_args.specs.Words.{RunPlan}
+use Rattle.iv_depth.specs.declared.depth_rows.DepthOutput.{DepthOutput}
+use Rattle.iv_pair.specs.declared.pair_rows.PairOutput.{PairOutput}
+use Rattle.iv_fasta.specs.declared.rows.FastaOutput.{FastaOutput}
+use Rattle.iv_args.specs.Arguments.{RunPlan}
 use Rattle.iv_run.specs.Loading.{Parsed, parsed}
 use Rattle.iv_run.specs.Inside.Intervals.{NeedsIntervalsAlone}
 use Rattle.iv_run.specs.IntervalsViews.{AskForIntervals, IsViewOf}
@@ -44,26 +44,26 @@ pub of-merge : (distance : ℕ) (P : KeptView → Type 0) → ((o : BlockOptions
 of-merge distance P each (projected.Merge options) is = each options is
 of-merge distance P each (projected.Cluster d) is = absurd is
 of-merge distance P each (projected.Complement limited) is = absurd is
-of-merge distance P each (projected.Genomecov rows) is = absurd is
+of-merge distance P each (projected.Genomecov output) is = absurd is
 
 pub of-complement : (limited : Bool) (P : KeptView → Type 0) → P (projected.Complement limited) → (asked : KeptView) → IsViewOf (places.Complement limited) asked → P asked
 of-complement limited P one (projected.Merge options) is = absurd is
 of-complement limited P one (projected.Cluster d) is = absurd is
 of-complement limited P one (projected.Complement asked) is = subst (λ (b : Bool). P (projected.Complement b)) (sym is) one
-of-complement limited P one (projected.Genomecov rows) is = absurd is
+of-complement limited P one (projected.Genomecov output) is = absurd is
 
-pub of-genomecov : (rows : DepthRows) (P : KeptView → Type 0) → P (projected.Genomecov rows) → (asked : KeptView) → IsViewOf (places.Genomecov rows) asked → P asked
-of-genomecov rows P one (projected.Merge options) is = absurd is
-of-genomecov rows P one (projected.Cluster d) is = absurd is
-of-genomecov rows P one (projected.Complement limited) is = absurd is
-of-genomecov rows P one (projected.Genomecov asked) is = subst (λ (d : DepthRows). P (projected.Genomecov d)) (sym is) one
+pub of-genomecov : (output : DepthOutput) (P : KeptView → Type 0) → P (projected.Genomecov output) → (asked : KeptView) → IsViewOf (places.Genomecov output) asked → P asked
+of-genomecov output P one (projected.Merge options) is = absurd is
+of-genomecov output P one (projected.Cluster d) is = absurd is
+of-genomecov output P one (projected.Complement limited) is = absurd is
+of-genomecov output P one (projected.Genomecov asked) is = subst (λ (d : DepthOutput). P (projected.Genomecov d)) (sym is) one
 
 -- nothing except the intervals of records counts
 needs-places : (v : IntervalsView) (asked : KeptView) → IsViewOf v asked → NeedsIntervalsAlone asked
-needs-places (places.Merge distance) = of-merge distance NeedsIntervalsAlone (λ o plain g rows. merge-bare distance o g rows plain)
-needs-places (places.Complement limited) = of-complement limited NeedsIntervalsAlone (λ g rows. complement-bare limited g rows)
-needs-places (places.Genomecov asked) = of-genomecov asked NeedsIntervalsAlone (λ g rows.
-    sym (genomecov-text asked g (map bare rows)) ∙ genomecov-bare asked g rows ∙ genomecov-text asked g rows)
+needs-places (places.Merge distance) = of-merge distance NeedsIntervalsAlone (λ o plain g records. merge-bare distance o g records plain)
+needs-places (places.Complement limited) = of-complement limited NeedsIntervalsAlone (λ g records. complement-bare limited g records)
+needs-places (places.Genomecov asked) = of-genomecov asked NeedsIntervalsAlone (λ g records.
+    sym (genomecov-text asked g (map bare records)) ∙ genomecov-bare asked g records ∙ genomecov-text asked g records)
 
 -- a merge is a view of intervals if it is plain
 module _ (b : Bool) (o : BlockOptions) (plain : (b ≡ true) ↔ IsByIntervals o.distance o) where
@@ -81,75 +81,75 @@ module _ (b : Bool) (o : BlockOptions) (plain : (b ≡ true) ↔ IsByIntervals o
       by true t e = cc
       by false t e = true≢false (sym t)
   merge-columns none (places.Complement limited) is = is
-  merge-columns none (places.Genomecov rows) is = is
+  merge-columns none (places.Genomecov output) is = is
 
 -- a cluster is none
 pub cluster-columns : (distance : ℕ) → NeedsColumns (projected.Cluster distance)
 cluster-columns distance (places.Merge d) is = is
 cluster-columns distance (places.Complement limited) is = is
-cluster-columns distance (places.Genomecov rows) is = is
+cluster-columns distance (places.Genomecov output) is = is
 
--- ---- the words of a view
+-- ---- the arguments of a view
 
 -- a view of intervals is the same on fewer columns and without files
 narrowed-same : (width : ℕ) (b c : Bool) (v : IntervalsView) (asked : KeptView) → IsViewOf v asked → narrowed width b c (view.Kept asked) ≡ Ok (view.Kept asked)
 narrowed-same width b c (places.Merge distance) = of-merge distance (λ (k : KeptView). narrowed width b c (view.Kept k) ≡ Ok (view.Kept k))
     (λ o plain i. as_merge (if not (has_columns width (plain.nothing i)) then Err refused.Column else if plain.together i && nat_lt width 6 then Err refused.NoStrand else Ok o))
 narrowed-same width b c (places.Complement limited) = of-complement limited (λ (k : KeptView). narrowed width b c (view.Kept k) ≡ Ok (view.Kept k)) refl
-narrowed-same width b c (places.Genomecov rows) = of-genomecov rows (λ (k : KeptView). narrowed width b c (view.Kept k) ≡ Ok (view.Kept k)) refl
+narrowed-same width b c (places.Genomecov output) = of-genomecov output (λ (k : KeptView). narrowed width b c (view.Kept k) ≡ Ok (view.Kept k)) refl
 
 merge-kept : (t u : Bool) (o : BlockOptions) (asked : KeptView) → as_merge (if t then Err refused.Column else if u then Err refused.NoStrand else Ok o) ≡ Ok (view.Kept asked) → view.Kept (projected.Merge o) ≡ view.Kept asked
 merge-kept true u o asked is = cc
 merge-kept false true o asked is = cc
 merge-kept false false o asked is = cc
 
-second-never : (t : Bool) (rows : PairRows) (asked : KeptView) → beside_second t (Some rows) ≡ Ok (view.Kept asked) → ⊥
-second-never true rows asked is = cc
-second-never false rows asked is = cc
+second-never : (t : Bool) (output : PairOutput) (asked : KeptView) → beside_second t (Some output) ≡ Ok (view.Kept asked) → ⊥
+second-never true output asked is = cc
+second-never false output asked is = cc
 
-fasta-never : (t u : Bool) (rows : FastaRows) (asked : KeptView)
-    → (if t then Err refused.NoStrand else if u then Ok (view.Written (written.Getfasta rows)) else Err refused.NoFasta) ≡ Ok (view.Kept asked) → ⊥
-fasta-never true u rows asked is = cc
-fasta-never false true rows asked is = cc
-fasta-never false false rows asked is = cc
+fasta-never : (t u : Bool) (output : FastaOutput) (asked : KeptView)
+    → (if t then Err refused.NoStrand else if u then Ok (view.Written (written.Getfasta output)) else Err refused.NoFasta) ≡ Ok (view.Kept asked) → ⊥
+fasta-never true u output asked is = cc
+fasta-never false true output asked is = cc
+fasta-never false false output asked is = cc
 
 -- a kept view is what it was on six columns and beside both files
 narrowed-kept : (width : ℕ) (b c : Bool) (v : View) (asked : KeptView) → narrowed width b c v ≡ Ok (view.Kept asked) → v ≡ view.Kept asked
 narrowed-kept width b c (view.Kept (projected.Merge o)) asked is = merge-kept (not (has_columns width (listed o.summaries))) (o.stranded && nat_lt width 6) o asked is
 narrowed-kept width b c (view.Kept (projected.Cluster distance)) asked is = cc
 narrowed-kept width b c (view.Kept (projected.Complement limited)) asked is = cc
-narrowed-kept width b c (view.Kept (projected.Genomecov rows)) asked is = cc
-narrowed-kept width b c (view.Written (written.Paired rows)) asked is = absurd (second-never b rows asked is)
+narrowed-kept width b c (view.Kept (projected.Genomecov output)) asked is = cc
+narrowed-kept width b c (view.Written (written.Paired output)) asked is = absurd (second-never b output asked is)
 narrowed-kept width b c (view.Written written.Records) asked is = cc
-narrowed-kept width b c (view.Written (written.Getfasta rows)) asked is = absurd (fasta-never (rows.stranded && nat_lt width 6) c rows asked is)
+narrowed-kept width b c (view.Written (written.Getfasta output)) asked is = absurd (fasta-never (output.stranded && nat_lt width 6) c output asked is)
 
-module _ (words : List (List ℕ)) where
+module _ (arguments : List (List ℕ)) where
   -- if no view of intervals is asked for on six columns, none is on fewer
-  asks-none : ((k : KeptView) → read_words 6 true true words ≡ Ok (view.Kept k) → NeedsColumns k) → AskForColumns words
-  asks-none none asked width b c is = by (read_words 6 true true words) refl
+  asks-none : ((k : KeptView) → read_arguments 6 true true arguments ≡ Ok (view.Kept k) → NeedsColumns k) → AskForColumns arguments
+  asks-none none asked width b c is = by (read_arguments 6 true true arguments) refl
     where
       never : (why : Fault) → Err why ≡ Ok (view.Kept asked) → NeedsColumns asked
       never why e = cc
 
-      by : (r : Result View Fault) → read_words 6 true true words ≡ r → NeedsColumns asked
-      by (Ok v) e = none asked (e ∙ ap Ok (narrowed-kept width b c v asked (view-narrowed width b c words v e ∙ is)))
-      by (Err why) e = never why (sym (fault-narrowed width b c words why e) ∙ is)
+      by : (r : Result View Fault) → read_arguments 6 true true arguments ≡ r → NeedsColumns asked
+      by (Ok v) e = none asked (e ∙ ap Ok (narrowed-kept width b c v asked (view-narrowed width b c arguments v e ∙ is)))
+      by (Err why) e = never why (sym (fault-narrowed width b c arguments why e) ∙ is)
 
   -- a written view, or a fault
-  pub asks-other : (r : Result View Fault) → read_words 6 true true words ≡ r → ((k : KeptView) → r ≡ Ok (view.Kept k) → ⊥) → AskForColumns words
+  pub asks-other : (r : Result View Fault) → read_arguments 6 true true arguments ≡ r → ((k : KeptView) → r ≡ Ok (view.Kept k) → ⊥) → AskForColumns arguments
   asks-other r is other = asks-none (λ k e. absurd (other k (sym is ∙ e)))
 
   -- a kept view
-  module _ (asked : KeptView) (is : read_words 6 true true words ≡ Ok (view.Kept asked)) where
-    pub asks-places : (o : Option IntervalsView) → IfSome o (λ v. IsViewOf v asked) → IfSome o (λ v. AskForIntervals words v)
+  module _ (asked : KeptView) (is : read_arguments 6 true true arguments ≡ Ok (view.Kept asked)) where
+    pub asks-places : (o : Option IntervalsView) → IfSome o (λ v. IsViewOf v asked) → IfSome o (λ v. AskForIntervals arguments v)
     asks-places None some = tt
     asks-places (Some v) some = record {
       asked = asked;
       is_view = some;
-      reads = λ width b c. sym (view-narrowed width b c words (view.Kept asked) is) ∙ narrowed-same width b c v asked some;
+      reads = λ width b c. sym (view-narrowed width b c arguments (view.Kept asked) is) ∙ narrowed-same width b c v asked some;
     }
 
-    pub asks-columns : NeedsColumns asked → AskForColumns words
+    pub asks-columns : NeedsColumns asked → AskForColumns arguments
     asks-columns needs = asks-none (λ k e. let same : asked ≡ k = cc (sym is ∙ e) in subst NeedsColumns same needs)
 
 -- ---- what is shown
@@ -158,12 +158,12 @@ module _ (words : List (List ℕ)) where
 pub shows-places : (plan : RunPlan) (sizes text : List ℕ) (other bases : Option (List ℕ)) (limit : ℕ) (files : Parsed)
     → ReportsProjected bare (Ok files) (parsed plan.width sizes text other bases limit)
     → (v : IntervalsView) (ask : AskForIntervals plan.view v) (old new : SinkState) (result : Result (Unit {0}) CliFault)
-    → Prints old new result (kept_text None ask.asked files.genome (ordered files.first.rows)) → Shows old new result (shown plan sizes text other bases limit)
+    → Prints old new result (kept_text None ask.asked files.genome (ordered files.first.records)) → Shows old new result (shown plan sizes text other bases limit)
 shows-places plan sizes text other bases limit files said v ask old new result prints =
     let whole = said.0 in
-    let text_is : kept_text None ask.asked files.genome (ordered files.first.rows) ≡ kept_text None ask.asked whole.genome (ordered whole.first.rows) =
-    ap (λ (f : Parsed). kept_text None ask.asked f.genome (ordered f.first.rows)) said.2
-    ∙ ap (kept_text None ask.asked whole.genome) (ordered-bare whole.first.rows)
-    ∙ needs-places v ask.asked ask.is_view whole.genome (ordered whole.first.rows) in
+    let text_is : kept_text None ask.asked files.genome (ordered files.first.records) ≡ kept_text None ask.asked whole.genome (ordered whole.first.records) =
+    ap (λ (f : Parsed). kept_text None ask.asked f.genome (ordered f.first.records)) said.2
+    ∙ ap (kept_text None ask.asked whole.genome) (ordered-bare whole.first.records)
+    ∙ needs-places v ask.asked ask.is_view whole.genome (ordered whole.first.records) in
     shows-text (parsed plan.width sizes text other bases limit) whole said.1 plan.view (view.Kept ask.asked) (ask.reads whole.first.width (is_some whole.second) (is_some whole.bases)) old new result
     (subst (Prints old new result) text_is prints)

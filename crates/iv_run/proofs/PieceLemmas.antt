@@ -2,7 +2,7 @@
 use Rattle.std.proofs.Common.{◌≡◌, ◌∙◌, ◌⊎◌, inl, inr, ℕ, ◌+◌, ◌<◌, ◌≤◌, ◌++◌, List, [], Result, Ok, Err, IfOk, length, sym, ap, subst, append_assoc, append-nil, length-append, arith}
 use Rattle.iv_text.specs.BedFile.{Bed, Draft}
 use Rattle.iv_text.specs.Genome.{Sequences}
-use Rattle.iv_text.specs.BedReading.{AreSound, Reading, begun, coming, projected_bed_of, size_of, finished}
+use Rattle.iv_text.specs.BedReading.{AreSound, Reading, begun, read_on, projected_bed_of, size_of, finished}
 use Rattle.iv_text.specs.RecordValue.{RecordValue}
 use Rattle.iv_text.specs.declared.fault.LoadFault.{LoadFault}
 use Rattle.iv_text.specs.declared.fault.LoadCause.TheVariants as cause
@@ -16,16 +16,16 @@ module _ (projected : RecordValue → RecordValue) (g : Sequences) (limit : ℕ)
   says-begun r is = (
     subst (λ (s : Reading). AreSound projected g limit s.read) (sym is) (begun-sound projected g limit),
     omega (arith, ap size_of is),
-    λ more. ap (λ (s : Reading). coming projected g limit s more) (sym is),
+    λ more. ap (λ (s : Reading). read_on projected g limit s more) (sym is),
   )
 
   -- a piece more has come
   module _ (front piece : List ℕ) where
-    joined : (more : List ℕ) → coming projected g limit begun ((front ++ piece) ++ more) ≡ coming projected g limit begun (front ++ (piece ++ more))
-    joined more = ap (coming projected g limit begun) (append_assoc front piece more)
+    joined : (more : List ℕ) → read_on projected g limit begun ((front ++ piece) ++ more) ≡ read_on projected g limit begun (front ++ (piece ++ more))
+    joined more = ap (read_on projected g limit begun) (append_assoc front piece more)
 
     pub says-more : (r next : Reading) → SaysSoFar projected g limit front (Ok r) → AreSound projected g limit next.read → size_of next ≤ size_of r + length piece
-        → ((more : List ℕ) → coming projected g limit r (piece ++ more) ≡ coming projected g limit next more) → SaysSoFar projected g limit (front ++ piece) (Ok next)
+        → ((more : List ℕ) → read_on projected g limit r (piece ++ more) ≡ read_on projected g limit next more) → SaysSoFar projected g limit (front ++ piece) (Ok next)
     says-more r next says sound few took = (
       sound,
       omega (arith, says.1, few, length-append front piece),
@@ -33,7 +33,7 @@ module _ (projected : RecordValue → RecordValue) (g : Sequences) (limit : ℕ)
     )
 
     pub says-fault : (r : Reading) (f : LoadFault) → SaysSoFar projected g limit front (Ok r)
-        → (f ≡ record { line = 0; cause = cause.Memory }) ⊎ ((more : List ℕ) → coming projected g limit r (piece ++ more) ≡ Err f) → SaysSoFar projected g limit (front ++ piece) (Err f)
+        → (f ≡ record { line = 0; cause = cause.Memory }) ⊎ ((more : List ℕ) → read_on projected g limit r (piece ++ more) ≡ Err f) → SaysSoFar projected g limit (front ++ piece) (Err f)
     says-fault r f says (inl memory) = inl memory
     says-fault r f says (inr refused) = inr (λ more. joined more ∙ says.2 (piece ++ more) ∙ refused more)
 
@@ -60,20 +60,20 @@ module _ (projected : RecordValue → RecordValue) (g : Sequences) (limit : ℕ)
 
   -- all has come
   module _ (width : ℕ) (text : List ℕ) where
-    whole : (r : Result Draft LoadFault) → coming projected g limit begun (text ++ []) ≡ r → projected_bed_of projected g width limit text ≡ finished width r
+    whole : (r : Result Draft LoadFault) → read_on projected g limit begun (text ++ []) ≡ r → projected_bed_of projected g width limit text ≡ finished width r
     whole r is =
         sym (whole-file projected g limit width text)
-        ∙ ap (λ (t : List ℕ). finished width (coming projected g limit begun t)) (sym (append-nil text))
+        ∙ ap (λ (t : List ℕ). finished width (read_on projected g limit begun t)) (sym (append-nil text))
         ∙ ap (finished width) is
 
-    pub keeps-file : (r : Reading) (file : Bed) → SaysSoFar projected g limit text (Ok r) → finished width (coming projected g limit r []) ≡ Ok file → IsAnswer (Ok file) (projected_bed_of projected g width limit text)
-    keeps-file r file says is = whole (coming projected g limit r []) (says.2 []) ∙ is
+    pub keeps-file : (r : Reading) (file : Bed) → SaysSoFar projected g limit text (Ok r) → finished width (read_on projected g limit r []) ≡ Ok file → IsAnswer (Ok file) (projected_bed_of projected g width limit text)
+    keeps-file r file says is = whole (read_on projected g limit r []) (says.2 []) ∙ is
 
     pub keeps-fault : (f : LoadFault) → SaysSoFar projected g limit text (Err f) → IsAnswer {T = Bed} (Err f) (projected_bed_of projected g width limit text)
     keeps-fault f (inl memory) = inl memory
     keeps-fault f (inr refused) = inr (whole (Err f) (refused []))
 
     pub keeps-end_fault : (r : Reading) (f : LoadFault) → SaysSoFar projected g limit text (Ok r)
-        → (f ≡ record { line = 0; cause = cause.Memory }) ⊎ (coming projected g limit r [] ≡ Err f) → IsAnswer {T = Bed} (Err f) (projected_bed_of projected g width limit text)
+        → (f ≡ record { line = 0; cause = cause.Memory }) ⊎ (read_on projected g limit r [] ≡ Err f) → IsAnswer {T = Bed} (Err f) (projected_bed_of projected g width limit text)
     keeps-end_fault r f says (inl memory) = inl memory
     keeps-end_fault r f says (inr refused) = inr (whole (Err f) (says.2 [] ∙ refused))

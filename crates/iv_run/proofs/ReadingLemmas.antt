@@ -10,26 +10,26 @@ use Rattle.iv_run.specs.declared.fault.FileFault.TheVariants.{Input, TooLong, Me
 
 -- the source has given these bytes, and is no more failed than before
 pub record HasGiven (old new : SourceState) (bytes : List ℕ) : Type 0 where
-  pub from : Consumes old.coming new.coming bytes
+  pub from : Consumes old.remaining new.remaining bytes
   pub failed : new.failed ≡ old.failed
 
 pub HasGiven-begin : (s : SourceState) → HasGiven s s []
-HasGiven-begin s = record { from = Consumes-nil s.coming; failed = refl }
+HasGiven-begin s = record { from = Consumes-nil s.remaining; failed = refl }
 
 pub HasGiven-more : (a b c : SourceState) (front piece : List ℕ) (n : ℕ) → HasGiven a b front → Gives (answered n b) c piece → HasGiven a c (front ++ piece)
 HasGiven-more a b c front piece n before after = record {
-  from = Consumes-trans a.coming b.coming c.coming front piece before.from after.from;
+  from = Consumes-trans a.remaining b.remaining c.remaining front piece before.from after.from;
   failed = after.failed ∙ before.failed;
 }
 
 -- the last pull gave nothing
 pub ReadsWhole-end : (a b c : SourceState) (limit : ℕ) (front piece : List ℕ) (n : ℕ) → HasGiven a b front → length front ≤ limit
-    → Gives (answered n b) c piece → piece ≡ [] → IsAtEnd c.coming → ReadsWhole a c limit front
+    → Gives (answered n b) c piece → piece ≡ [] → IsAtEnd c.remaining → ReadsWhole a c limit front
 ReadsWhole-end a b c limit front piece n before few last none ended =
     let empty = subst (λ (l : List ℕ). Gives (answered n b) c l) none last in
     let all = subst (λ (l : List ℕ). HasGiven a c l) (append-nil front) (HasGiven-more a b c front [] n before empty) in
     record {
-      input = Consumes-whole a.coming c.coming front (λ xs. xs ≡ front) all.from ended refl;
+      input = Consumes-whole a.remaining c.remaining front (λ xs. xs ≡ front) all.from ended refl;
       few = few;
       ended = ended;
       failed = all.failed;
@@ -40,8 +40,8 @@ pub StopsReading-input : (a b c : SourceState) (limit : ℕ) (front : List ℕ) 
     → Gives (record b { failed = true }) c [] → StopsReading a c limit Input
 StopsReading-input a b c limit front before few fails = record {
   front = front;
-  given = subst (λ (l : List ℕ). Consumes a.coming c.coming l) (append-nil front)
-      (Consumes-trans a.coming b.coming c.coming front [] before.from fails.from);
+  given = subst (λ (l : List ℕ). Consumes a.remaining c.remaining l) (append-nil front)
+      (Consumes-trans a.remaining b.remaining c.remaining front [] before.from fails.from);
   cause = (fails.failed, few);
 }
 
@@ -73,7 +73,7 @@ front-few old new front text known given = by new (subst (λ (o : Option (List �
         omega (arith, size)
 
 -- a file whose bytes are known is too long exactly if it has more bytes than the limit, if nothing else ended it
-pub too_long-exact : (old new : SourceState) (limit : ℕ) (text : List ℕ) (ended : Result (List ℕ) FileFault) → old.coming ≡ Some text
+pub too_long-exact : (old new : SourceState) (limit : ℕ) (text : List ℕ) (ended : Result (List ℕ) FileFault) → old.remaining ≡ Some text
     → EndsReading old new limit ended → new.failed ≡ false → HadMemory ended → IsTooLong ended ↔ (limit < length text)
 too_long-exact old new limit text (Ok bytes) known came sound memory =
     let same : text ≡ bytes = subst (λ (o : Option (List ℕ)). IfSome o (λ whole. whole ≡ bytes)) known came.input in
@@ -83,7 +83,7 @@ too_long-exact old new limit text (Err fault) known came sound memory = go fault
   where
     go : (fault : FileFault) → StopsReading old new limit fault → fault ≢ Memory → (fault ≡ TooLong) ↔ (limit < length text)
     go TooLong u memory =
-        let few : length u.front ≤ length text = front-few old.coming new.coming u.front text known u.given in
+        let few : length u.front ≤ length text = front-few old.remaining new.remaining u.front text known u.given in
         (λ _. omega (arith, u.cause.1, few), λ _. refl)
     go Input u memory = absurd (true≢false (sym u.cause.0 ∙ sound))
     go Memory u memory = absurd (memory refl)

@@ -12,19 +12,19 @@ use Rattle.iv_view.specs.declared.view.View.{View}
 use Rattle.iv_run.specs.Inside.Prints.{Prints}
 use Rattle.iv_run.specs.declared.fault.CliFault.{CliFault}
 use Rattle.iv_run.specs.declared.fault.CliFault.TheVariants as fault
-use Rattle.iv_run.specs.Loading.{Parsed, parsed, fault_of_words}
+use Rattle.iv_run.specs.Loading.{Parsed, parsed, fault_of_arguments}
 use Rattle.iv_run.specs.Inside.Shots.{bases_said, second_of, text_beside, view_beside}
 use Rattle.iv_run.specs.Shots.{Shows}
 use Rattle.iv_run.proofs.LoadLemmas.{with_bases, with_second, with_first, with_genome}
 use Rattle.iv_text.specs.Chains.{if_ok, map_fault}
 
--- the text of the view that was asked for, or the fault of its words
+-- the text of the view that was asked for, or the fault of its arguments
 abbrev pub text_or_fault : Parsed → Result View Fault → Result (List ℕ) CliFault
 text_or_fault files read = if_ok (map_fault fault.Words read) (λ view. Ok (text_beside files view))
 
--- the text of the view that words ask for, unless the files are damaged, or else the fault of the words
+-- the text of the view that arguments ask for, unless the files are damaged, or else the fault of the arguments
 abbrev pub shown_of : List (List ℕ) → Result Parsed CliFault → Result (List ℕ) CliFault
-shown_of words read = if_ok read (λ files. text_or_fault files (view_beside files words))
+shown_of arguments read = if_ok read (λ files. text_or_fault files (view_beside files arguments))
 
 -- ---- damaged files
 
@@ -47,30 +47,30 @@ module _ (width : ℕ) (first : List ℕ) (other bases : Option (List ℕ)) (lim
   genome-reported (Ok g) e = first-reported g (bed_of g width limit first) e
 
 -- a damaged file is reported, and nothing is printed
-pub shows-damage : (width : ℕ) (sizes first : List ℕ) (other bases : Option (List ℕ)) (limit : ℕ) (words : List (List ℕ)) (reported : CliFault) (old : SinkState)
-    → (reported ≡ fault.Memory) ⊎ (parsed width sizes first other bases limit ≡ Err reported) → Shows old old (Err reported) (shown_of words (parsed width sizes first other bases limit))
-shows-damage width sizes first other bases limit words fault.Memory old why = refl
-shows-damage width sizes first other bases limit words fault.Output old (inl e) = cc
-shows-damage width sizes first other bases limit words fault.Output old (inr e) = absurd (genome-reported width first other bases limit (genome_of sizes) e)
-shows-damage width sizes first other bases limit words (fault.Words code) old (inl e) = cc
-shows-damage width sizes first other bases limit words (fault.Words code) old (inr e) = (ap (shown_of words) e, refl)
-shows-damage width sizes first other bases limit words (fault.Damaged slot damage) old (inl e) = cc
-shows-damage width sizes first other bases limit words (fault.Damaged slot damage) old (inr e) = (ap (shown_of words) e, refl)
+pub shows-damage : (width : ℕ) (sizes first : List ℕ) (other bases : Option (List ℕ)) (limit : ℕ) (arguments : List (List ℕ)) (reported : CliFault) (old : SinkState)
+    → (reported ≡ fault.Memory) ⊎ (parsed width sizes first other bases limit ≡ Err reported) → Shows old old (Err reported) (shown_of arguments (parsed width sizes first other bases limit))
+shows-damage width sizes first other bases limit arguments fault.Memory old why = refl
+shows-damage width sizes first other bases limit arguments fault.Output old (inl e) = cc
+shows-damage width sizes first other bases limit arguments fault.Output old (inr e) = absurd (genome-reported width first other bases limit (genome_of sizes) e)
+shows-damage width sizes first other bases limit arguments (fault.Words code) old (inl e) = cc
+shows-damage width sizes first other bases limit arguments (fault.Words code) old (inr e) = (ap (shown_of arguments) e, refl)
+shows-damage width sizes first other bases limit arguments (fault.Damaged slot damage) old (inl e) = cc
+shows-damage width sizes first other bases limit arguments (fault.Damaged slot damage) old (inr e) = (ap (shown_of arguments) e, refl)
 
 -- ---- sound files
 
-module _ (said : Result Parsed CliFault) (files : Parsed) (is : said ≡ Ok files) (words : List (List ℕ)) where
-  asked-is : (r : Result View Fault) → view_beside files words ≡ r → shown_of words said ≡ text_or_fault files r
-  asked-is r asked = ap (shown_of words) is ∙ ap (text_or_fault files) asked
+module _ (said : Result Parsed CliFault) (files : Parsed) (is : said ≡ Ok files) (arguments : List (List ℕ)) where
+  asked-is : (r : Result View Fault) → view_beside files arguments ≡ r → shown_of arguments said ≡ text_or_fault files r
+  asked-is r asked = ap (shown_of arguments) is ∙ ap (text_or_fault files) asked
 
-  -- a fault of the words is reported, and nothing is printed
-  pub shows-words : (why : Fault) (old : SinkState) → view_beside files words ≡ Err why → Shows old old (Err (fault_of_words why)) (shown_of words said)
+  -- a fault of the arguments is reported, and nothing is printed
+  pub shows-words : (why : Fault) (old : SinkState) → view_beside files arguments ≡ Err why → Shows old old (Err (fault_of_arguments why)) (shown_of arguments said)
   shows-words refused.NoMemory old asked = refl
   shows-words why old asked = (asked-is (Err why) asked, refl)
 
   -- the text of the view is printed; or a prefix of it is, and the output failed; or nothing is, for out of memory
-  pub shows-text : (view : View) → view_beside files words ≡ Ok view → (old new : SinkState) (result : Result (Unit {0}) CliFault)
-      → Prints old new result (text_beside files view) → Shows old new result (shown_of words said)
+  pub shows-text : (view : View) → view_beside files arguments ≡ Ok view → (old new : SinkState) (result : Result (Unit {0}) CliFault)
+      → Prints old new result (text_beside files view) → Shows old new result (shown_of arguments said)
   shows-text view asked old new (Ok done) takes = (text_beside files view, asked-is (Ok view) asked, takes)
   shows-text view asked old new (Err fault.Output) fails = (text_beside files view, asked-is (Ok view) asked, fails)
   shows-text view asked old new (Err fault.Memory) same = same

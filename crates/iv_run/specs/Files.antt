@@ -9,7 +9,7 @@ use Rattle.iv_run.specs.declared.fault.FileFault.TheVariants.{Input, TooLong, Me
 pub record ReadsWhole (old new : SourceState) (limit : ℕ) (bytes : List ℕ) : Type 0 where
   pub input : IsInput old bytes
   pub few : length bytes ≤ limit
-  pub ended : IsAtEnd new.coming
+  pub ended : IsAtEnd new.remaining
   pub failed : new.failed ≡ old.failed
 
 -- what each fault means for the source and for the number of bytes that it has given
@@ -21,5 +21,5 @@ IsFaultOf Memory old new limit count = (new.failed ≡ old.failed) × (count ≤
 -- the source gave this front of the input, and then there was a fault
 pub record StopsReading (old new : SourceState) (limit : ℕ) (fault : FileFault) : Type 0 where
   pub front : List ℕ
-  pub given : Consumes old.coming new.coming front
+  pub given : Consumes old.remaining new.remaining front
   pub cause : IsFaultOf fault old new limit (length front)

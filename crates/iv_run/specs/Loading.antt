@@ -34,10 +34,10 @@ abbrev pub IsReport : {T : Type 0} → Result T CliFault → Result T CliFault �
 IsReport (Ok value) said = said ≡ Ok value
 IsReport (Err fault) said = (fault ≡ Memory) ⊎ (said ≡ Err fault)
 
--- how a fault of words is reported: out of memory as that
-abbrev pub fault_of_words : Fault → CliFault
-fault_of_words refused.NoMemory = Memory
-fault_of_words why = Words why
+-- how a fault of arguments is reported: out of memory as that
+abbrev pub fault_of_arguments : Fault → CliFault
+fault_of_arguments refused.NoMemory = Memory
+fault_of_arguments why = Words why
 
 -- the files of a run, and how many records each track of them may hold
 pub record Parsed : Type 0 where

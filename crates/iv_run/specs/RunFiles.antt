@@ -56,8 +56,8 @@ AreOf is_of sizes first second fasta_text files =
 
 -- the records are projections of records of the file's width on the genome, and they are not more than the limit
 pub record AreProjected (projected : RecordValue → RecordValue) (g : Sequences) (limit : ℕ) (file : Bed) : Type 0 where
-  pub kept_all : All (IsProjected projected g file.width) file.rows
-  pub few : length file.rows ≤ limit
+  pub kept_all : All (IsProjected projected g file.width) file.records
+  pub few : length file.records ≤ limit
 
 -- so are those of a file, unless it is damaged
 abbrev pub IsOn : (RecordValue → RecordValue) → Sequences → ℕ → Result Bed LoadFault → Type 0

@@ -4,20 +4,20 @@ use Rattle.std.specs.Option.{is_some, option_map, unwrap_or}
 use Rattle.iv_bytes.specs.Sinks.{SinkState, Takes, FailsIn}
 use Rattle.iv_text.specs.Ordered.{ordered}
 use Rattle.iv_text.specs.Chains.{if_ok, map_fault}
-use Rattle.iv_view.specs.Views.{read_words, shown_text}
+use Rattle.iv_view.specs.Views.{read_arguments, shown_text}
 use Rattle.iv_run.specs.declared.fault.CliFault.{CliFault}
 use Rattle.iv_run.specs.declared.fault.CliFault.TheVariants as fault
 use Rattle.iv_run.specs.Loading.{parsed}
-use Rattle.iv_args.specs.Words.{RunPlan}
+use Rattle.iv_args.specs.Arguments.{RunPlan}
 
 -- what a run of the plan prints for the bytes of the genome file, of the first file, and of the second and the FASTA file, if
 -- there are any: the text of its view for their records in track order; or its first fault: that of a damaged file, and then that of
--- the words of the view, at the width of the records and beside these files
+-- the arguments of the view, at the width of the records and beside these files
 abbrev pub shown : RunPlan → List ℕ → List ℕ → Option (List ℕ) → Option (List ℕ) → ℕ → Result (List ℕ) CliFault
 shown plan sizes first other bases limit =
     if_ok (parsed plan.width sizes first other bases limit) (λ files.
-    if_ok (map_fault fault.Words (read_words files.first.width (is_some files.second) (is_some files.bases) plan.view)) (λ view.
-    Ok (shown_text None view files.genome (ordered files.first.rows) (unwrap_or (option_map (λ file. ordered file.rows) files.second) []) (unwrap_or files.bases []))))
+    if_ok (map_fault fault.Words (read_arguments files.first.width (is_some files.second) (is_some files.bases) plan.view)) (λ view.
+    Ok (shown_text None view files.genome (ordered files.first.records) (unwrap_or (option_map (λ file. ordered file.records) files.second) []) (unwrap_or files.bases []))))
 
 -- what a run leaves of its output, if this is what it is to print: all of the text; or a prefix of it, the output failed;
 -- or nothing, for out of memory, or for a fault that it is to report

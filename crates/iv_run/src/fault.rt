@@ -86,9 +86,9 @@ impl From<(Slot, LoadFault)> for CliFault {
 /// Out of memory, or a fault of arguments.
 impl From<Fault> for CliFault {
     ghost use Rattle.std.specs.Prelude.{◌≡◌};
-    ghost use Rattle.iv_run.specs.Loading.{fault_of_words};
+    ghost use Rattle.iv_run.specs.Loading.{fault_of_arguments};
 
-    ghost from_gives = { λ why fault. fault ≡ fault_of_words why };
+    ghost from_gives = { λ why fault. fault ≡ fault_of_arguments why };
 
     fn from(why: Fault) -> CliFault {
         match why {

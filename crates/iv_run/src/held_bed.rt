@@ -5,7 +5,7 @@ ghost use Rattle.iv_text.specs.BedFile.{bed_of};
 ghost use Rattle.iv_text.specs.Genome.{Sequences};
 ghost use Rattle.iv_text.specs.Read.{Fits};
 ghost use Rattle.iv_text.specs.Widths.{IsWidth};
-ghost use Rattle.iv_index.specs.Locators.{bare};
+ghost use Rattle.iv_locators.specs.Locators.{bare};
 ghost use Rattle.iv_run.specs.Loading.{IsAnswer};
 ghost use Rattle.iv_run.specs.declared.fault.FileFault.TheVariants as fault;
 ghost use Rattle.iv_run.specs.Inside.Held.{AreIntervals, HoldsFront, IsHeld};
@@ -13,7 +13,7 @@ ghost use Rattle.iv_run.specs.Pieces.{SaysSoFar};
 
 use crate::fault::FileFault;
 use crate::input_files::{HoldsFile, ParsedFile, finish, take_next};
-use iv_index::{BedText, Locator};
+use iv_locators::{BedText, Locator};
 use iv_text::{BedReader, Genome, LoadFault};
 use std::alloc::{Allocator, Global};
 use std::marker::Model;
@@ -102,7 +102,7 @@ impl<'t, A: Allocator + Copy> LentBed<'t, A> {
         requires width { IsWidth empty_width }
         requires intervals { AreIntervals genome.now self }
         ensures says { (text : List ℕ) → IsHeld genome.now empty_width limit text self.entry → IsAnswer result (bed_of genome.now empty_width limit text) }
-        ensures fit { IfOk result (λ b. All (Fits genome.now b.width) b.rows) }
+        ensures fit { IfOk result (λ b. All (Fits genome.now b.width) b.records) }
     {
         match self.intervals {
             None => BedText::parse(alloc, genome, empty_width, limit, self.text),

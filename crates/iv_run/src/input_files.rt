@@ -5,8 +5,8 @@ ghost use Rattle.iv_bytes.specs.Sources.{SourceState};
 ghost use Rattle.iv_text.specs.BedReading.{AreSound, size_of};
 ghost use Rattle.iv_text.specs.Genome.{Sequences};
 ghost use Rattle.iv_text.specs.Widths.{IsWidth};
-ghost use Rattle.iv_index.specs.Inside.Locators.{row_of};
-ghost use Rattle.iv_index.specs.Inside.Spans.{span_records};
+ghost use Rattle.iv_locators.specs.Inside.Locators.{row_of};
+ghost use Rattle.iv_locators.specs.Inside.Spans.{span_records};
 ghost use Rattle.iv_run.specs.Files.{ReadsWhole, StopsReading};
 ghost use Rattle.iv_run.specs.Inside.Files.{EndsReading, HadMemory, IsPieceFault, IsTooLong};
 ghost use Rattle.iv_run.specs.Pieces.{SaysSoFar};
@@ -16,7 +16,7 @@ ghost use Rattle.iv_run.specs.declared.fault.FileFault.TheVariants as fault;
 
 use crate::fault::FileFault;
 use iv_bytes::Source;
-use iv_index::{Locator, Span};
+use iv_locators::{Locator, Span};
 use iv_text::{Batches, BedBatches, BedReader, FromRecord, Genome, LoadFault, Record};
 use std::alloc::{AllocError, Allocator, Global};
 use std::marker::Model;
@@ -63,7 +63,7 @@ pub fn read_all<A: Allocator + Copy, R: Source>(
 
 /// A file whose read ended neither by a read fault nor out of memory is reported as too long exactly if it has more bytes than the limit.
 pub fn too_long_above_the_limit()
-    ensures { (old new : SourceState) (limit : ℕ) (text : List ℕ) (ended : Result (List ℕ) FileFault) → old.coming ≡ Some text → EndsReading old new limit ended → new.failed ≡ false → HadMemory ended → IsTooLong ended ↔ (limit < length text) }
+    ensures { (old new : SourceState) (limit : ℕ) (text : List ℕ) (ended : Result (List ℕ) FileFault) → old.remaining ≡ Some text → EndsReading old new limit ended → new.failed ≡ false → HadMemory ended → IsTooLong ended ↔ (limit < length text) }
 {}
 
 /// What is held of a file that is read in pieces: of a BED file its records or its text, of a FASTA file its bases.
@@ -109,7 +109,7 @@ pub trait HoldsFile<A: Allocator + Copy>: Sized + Drop {
 /// A file on this genome, read from a source to its end, at most `most` bytes. A BED file may have at most `limit` records.
 ///
 /// After a fault of the file no more of it is looked at, but it is read to its end.
-pub(crate) fn read_bed<H: HoldsFile<A>, A: Allocator + Copy, R: Source>(
+pub(crate) fn read_held<H: HoldsFile<A>, A: Allocator + Copy, R: Source>(
     alloc: A,
     genome: &Genome<A>,
     empty_width: u8,
@@ -156,7 +156,7 @@ impl<K: FromRecord<A>, A: Allocator + Copy> Model for ParsedFile<K, A> {
 
     ghost Value = { Bed };
 
-    ghost view = { λ f. record { width = f.width; rows = map K.as_record f.kept } };
+    ghost view = { λ f. record { width = f.width; records = map K.as_record f.kept } };
 
     ghost invariant = { λ f. IsWidth f.width };
 }
@@ -178,7 +178,7 @@ impl<A: Allocator + Copy> ParsedFile<Span, A> {
     ///
     /// An allocation failed.
     pub(crate) fn into_spans(self) -> Result<Vec<Span, A>, AllocError>
-        ensures { IfOk result (λ spans. span_records spans.items ≡ self.rows) }
+        ensures { IfOk result (λ spans. span_records spans.items ≡ self.records) }
     {
         self.kept.into_vec()
     }
@@ -191,7 +191,7 @@ impl<A: Allocator + Copy> ParsedFile<Locator, A> {
     ///
     /// An allocation failed.
     pub(crate) fn into_locators(self) -> Result<Vec<Locator, A>, AllocError>
-        ensures { IfOk result (λ locators. map (row_of 3 []) locators.items ≡ self.rows) }
+        ensures { IfOk result (λ locators. map (row_of 3 []) locators.items ≡ self.records) }
     {
         self.kept.into_vec()
     }

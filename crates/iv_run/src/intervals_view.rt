@@ -2,9 +2,9 @@
 ghost use Rattle.std.specs.Prelude.{◌≡◌, ℕ, All, List, Option, Err, None, IfSome};
 ghost use Rattle.iv_text.specs.Ordered.{AreInOrder, ordered};
 ghost use Rattle.iv_text.specs.Read.{IsOnGenome};
-ghost use Rattle.iv_index.specs.Locators.{bare};
-ghost use Rattle.iv_index.specs.Inside.Spans.{span_records};
-ghost use Rattle.iv_args.specs.Words.{RunPlan};
+ghost use Rattle.iv_locators.specs.Locators.{bare};
+ghost use Rattle.iv_locators.specs.Inside.Spans.{span_records};
+ghost use Rattle.iv_args.specs.Arguments.{RunPlan};
 ghost use Rattle.iv_run.specs.IntervalsViews.{AskForIntervals, IsViewOf};
 ghost use Rattle.iv_run.specs.Inside.IntervalsViews.{AskForColumns, NeedsColumns};
 ghost use Rattle.iv_run.specs.Inside.Prints.{Prints};
@@ -19,8 +19,8 @@ use crate::run_files::{LoadedFiles, RunFiles};
 use iv_args::Plan;
 use iv_blocks::{put_complement, put_merge};
 use iv_bytes::{Buffered, Sink};
-use iv_depth::{DepthRows, DepthSweep};
-use iv_index::{Span, sort_spans};
+use iv_depth::{DepthOutput, DepthSweep};
+use iv_locators::{Span, sort_spans};
 use iv_text::Genome;
 use iv_view::{KeptView, View};
 use std::alloc::Allocator;
@@ -33,7 +33,7 @@ pub enum IntervalsView {
     /// `complement`; if `limited`, only of sequences with a record.
     Complement { limited: bool },
     /// `genomecov`.
-    Genomecov(DepthRows),
+    Genomecov(DepthOutput),
 }
 
 impl IntervalsView {
@@ -121,7 +121,7 @@ fn print_files<A: Allocator + Copy, S: Sink>(
     files: LoadedFiles<Span, A>,
     sink: &mut S,
 ) -> Result<(), CliFault>
-    ensures { (asked : KeptView) → IsViewOf view asked → Prints (S.state sink.old) (S.state sink.new) result (kept_text None asked files.genome (ordered files.first.rows)) }
+    ensures { (asked : KeptView) → IsViewOf view asked → Prints (S.state sink.old) (S.state sink.new) result (kept_text None asked files.genome (ordered files.first.records)) }
 {
     let LoadedFiles {
         alloc,

@@ -31,11 +31,11 @@ use crate::run_files::{Inputs, RunFiles, RunGenome, in_slot};
 use iv_args::{Plan, Slot};
 use iv_blocks::{MergeSweep, put_cluster};
 use iv_bytes::{Buffered, Sink, WriteFault};
-use iv_fasta::{Fasta, FastaRows, put_fasta};
-use iv_index::{BedText, Locator, Span, TextRecords};
-use iv_pair::{CountSweep, IntersectRows, PairRows, PairSweep, needs_cover_alone};
+use iv_fasta::{Fasta, FastaOutput, put_fasta};
+use iv_locators::{BedText, Locator, Span, TextRecords};
+use iv_pair::{CountSweep, IntersectOutput, PairOutput, PairSweep, needs_cover_alone};
 use iv_text::{Fault, Genome, LoadFault, put_line};
-use iv_view::{Beside, KeptView, View, ViewFault, WrittenView};
+use iv_view::{Available, KeptView, View, ViewFault, WrittenView};
 use std::alloc::{AllocError, Allocator, Global};
 use std::marker::Model;
 
@@ -59,7 +59,7 @@ impl<'t, A: Allocator + Copy> Model for TextFiles<'t, A> {
 
     ghost view = { λ files. record { genome = files.genome; first = files.first; second = files.second; bases = files.fasta; limit = files.limit } };
 
-    ghost invariant = { λ files. All (IsOnGenome files.genome) files.first.rows };
+    ghost invariant = { λ files. All (IsOnGenome files.genome) files.first.records };
 }
 
 /// The records of the second file, if there is one, or its first fault.
@@ -134,7 +134,7 @@ impl<'t, A: Allocator + Copy> TextFiles<'t, A> {
     fn view(&self, plan: &Plan<'_, A>) -> Result<View, ViewFault>
         ensures { result ≡ view_beside self.now plan.now.view }
     {
-        plan.view_beside(Beside {
+        plan.view_beside(Available {
             width: self.first.width(),
             second: self.second.is_some(),
             fasta: self.fasta.is_some(),
@@ -147,13 +147,13 @@ impl<'t, A: Allocator + Copy> TextFiles<'t, A> {
     ///
     /// `Memory`, and then nothing was put. `Output`, and then a prefix of the text was.
     fn put<S: Sink>(self, alloc: A, view: View, sink: &mut S) -> Result<(), CliFault>
-        requires { (words : List (List ℕ)) × AskForColumns words × (view_beside self words ≡ Ok view) }
+        requires { (arguments : List (List ℕ)) × AskForColumns arguments × (view_beside self arguments ≡ Ok view) }
         ensures text { Prints (S.state sink.old) (S.state sink.new) result (text_beside self.entry view) }
         ensures alone { result ≡ Err CliFault.Memory → sink.new ≡ sink.old }
     {
         match view {
             View::Kept(view) => self.put_kept_view(alloc, view, sink),
-            View::Written(WrittenView::Paired(rows)) => self.put_pairs(alloc, rows, sink),
+            View::Written(WrittenView::Paired(output)) => self.put_pairs(alloc, output, sink),
             View::Written(WrittenView::Getfasta(shown)) => self.put_fasta(alloc, shown, sink),
             View::Written(WrittenView::Records) => self.put_records(alloc, sink),
         }
@@ -162,7 +162,7 @@ impl<'t, A: Allocator + Copy> TextFiles<'t, A> {
     /// Puts the text of a view of the first file, for its records in the order of a track.
     fn put_kept_view<S: Sink>(self, alloc: A, view: KeptView, sink: &mut S) -> Result<(), CliFault>
         requires { NeedsColumns view }
-        ensures text { Prints (S.state sink.old) (S.state sink.new) result (kept_text None view self.entry.genome (ordered self.entry.first.rows)) }
+        ensures text { Prints (S.state sink.old) (S.state sink.new) result (kept_text None view self.entry.genome (ordered self.entry.first.records)) }
         ensures alone { result ≡ Err CliFault.Memory → sink.new ≡ sink.old }
     {
         let TextFiles {
@@ -177,9 +177,9 @@ impl<'t, A: Allocator + Copy> TextFiles<'t, A> {
     }
 
     /// Puts these rows of both files, for their records in the order of a track. There is a second file.
-    fn put_pairs<S: Sink>(self, alloc: A, rows: PairRows, sink: &mut S) -> Result<(), CliFault>
+    fn put_pairs<S: Sink>(self, alloc: A, output: PairOutput, sink: &mut S) -> Result<(), CliFault>
         requires { IsSome self.second }
-        ensures text { Prints (S.state sink.old) (S.state sink.new) result (pair_text rows self.entry.genome (ordered self.entry.first.rows) (ordered_other self.entry.second)) }
+        ensures text { Prints (S.state sink.old) (S.state sink.new) result (pair_text output self.entry.genome (ordered self.entry.first.records) (ordered_other self.entry.second)) }
         ensures alone { result ≡ Err CliFault.Memory → sink.new ≡ sink.old }
     {
         let TextFiles {
@@ -194,15 +194,15 @@ impl<'t, A: Allocator + Copy> TextFiles<'t, A> {
         };
         first.sort(alloc)?;
         first.lemma_of_bases();
-        sort_beside(alloc, rows, &mut second)?;
+        sort_beside(alloc, output, &mut second)?;
         let (first, second) = (first.records(), second.records());
-        sweep_pairs(alloc, rows, &first, &second, &genome, sink)
+        sweep_pairs(alloc, output, &first, &second, &genome, sink)
     }
 
     /// Puts the bases of the records of the first file, in the order of a track. There is a FASTA file.
-    fn put_fasta<S: Sink>(self, alloc: A, shown: FastaRows, sink: &mut S) -> Result<(), CliFault>
+    fn put_fasta<S: Sink>(self, alloc: A, shown: FastaOutput, sink: &mut S) -> Result<(), CliFault>
         requires { IsSome self.bases }
-        ensures text { Prints (S.state sink.old) (S.state sink.new) result (fasta_text shown self.entry.genome (unwrap_or self.entry.bases []) (ordered self.entry.first.rows)) }
+        ensures text { Prints (S.state sink.old) (S.state sink.new) result (fasta_text shown self.entry.genome (unwrap_or self.entry.bases []) (ordered self.entry.first.records)) }
         ensures alone { result ≡ Err CliFault.Memory → sink.new ≡ sink.old }
     {
         let TextFiles {
@@ -222,7 +222,7 @@ impl<'t, A: Allocator + Copy> TextFiles<'t, A> {
 
     /// Puts the records of the first file, in the order of a track.
     fn put_records<S: Sink>(self, alloc: A, sink: &mut S) -> Result<(), CliFault>
-        ensures text { Prints (S.state sink.old) (S.state sink.new) result (records_text self.entry.genome (ordered self.entry.first.rows)) }
+        ensures text { Prints (S.state sink.old) (S.state sink.new) result (records_text self.entry.genome (ordered self.entry.first.records)) }
         ensures alone { result ≡ Err CliFault.Memory → sink.new ≡ sink.old }
     {
         let TextFiles {
@@ -269,26 +269,26 @@ fn sweep<'t, A: Allocator + Copy, S: Sink>(
 /// positions that it covers, overlapping records are joined first, so that many records at one position cost little.
 fn sort_beside<'t, A: Allocator + Copy>(
     alloc: A,
-    rows: PairRows,
+    output: PairOutput,
     file: &mut BedText<'t, A>,
 ) -> Result<(), AllocError>
-    ensures text { OnOk result ((genome : Sequences) (first : List RecordValue) → HaveBases first → pair_text rows genome first file.new.rows ≡ pair_text rows genome first (ordered file.old.rows)) }
-    ensures order { OnOk result (AreInOrder file.new.rows) }
+    ensures text { OnOk result ((genome : Sequences) (first : List RecordValue) → HaveBases first → pair_text output genome first file.new.records ≡ pair_text output genome first (ordered file.old.records)) }
+    ensures order { OnOk result (AreInOrder file.new.records) }
 {
     file.sort(alloc)?;
-    if !needs_cover_alone(rows) {
+    if !needs_cover_alone(output) {
         return Ok(());
     }
-    join_sorted(rows, file);
+    join_sorted(output, file);
     Ok(())
 }
 
 /// Joins the records of a sorted second file, for rows that depend only on the positions that it covers.
-fn join_sorted<'t, A: Allocator + Copy>(rows: PairRows, file: &mut BedText<'t, A>)
-    requires order { AreInOrder file.old.rows }
-    requires alone { DependsOnCoverAlone rows }
-    ensures text { (genome : Sequences) (first : List RecordValue) → HaveBases first → pair_text rows genome first file.new.rows ≡ pair_text rows genome first file.old.rows }
-    ensures order { AreInOrder file.new.rows }
+fn join_sorted<'t, A: Allocator + Copy>(output: PairOutput, file: &mut BedText<'t, A>)
+    requires order { AreInOrder file.old.records }
+    requires alone { DependsOnCoverAlone output }
+    ensures text { (genome : Sequences) (first : List RecordValue) → HaveBases first → pair_text output genome first file.new.records ≡ pair_text output genome first file.old.records }
+    ensures order { AreInOrder file.new.records }
 {
     file.lemma_of_bases();
     file.join();
@@ -300,7 +300,7 @@ fn join_sorted<'t, A: Allocator + Copy>(rows: PairRows, file: &mut BedText<'t, A
 /// If only the number of hits is wanted, no hit is looked at.
 fn sweep_pairs<'t, A: Allocator + Copy, S: Sink>(
     alloc: A,
-    rows: PairRows,
+    output: PairOutput,
     first: &TextRecords<'t>,
     second: &TextRecords<'t>,
     genome: &Genome<A>,
@@ -308,15 +308,15 @@ fn sweep_pairs<'t, A: Allocator + Copy, S: Sink>(
 ) -> Result<(), CliFault>
     requires first { AreInOrder first.now }
     requires second { AreInOrder second.now }
-    ensures text { Prints (S.state sink.old) (S.state sink.new) result (pair_text rows genome.now first.now second.now) }
+    ensures text { Prints (S.state sink.old) (S.state sink.new) result (pair_text output genome.now first.now second.now) }
     ensures alone { result ≡ Err CliFault.Memory → sink.new ≡ sink.old }
 {
-    match rows {
-        PairRows::Intersect(IntersectRows::Count) => {
+    match output {
+        PairOutput::Intersect(IntersectOutput::Count) => {
             CountSweep::new(alloc, first, second)?.print(genome, sink)?;
         }
         _ => {
-            PairSweep::new(alloc, first, second)?.print(rows, genome, sink)?;
+            PairSweep::new(alloc, first, second)?.print(output, genome, sink)?;
         }
     }
     Ok(())
@@ -324,7 +324,7 @@ fn sweep_pairs<'t, A: Allocator + Copy, S: Sink>(
 
 /// Puts the row of each record: its bases. It takes no memory.
 fn put_each<A: Allocator + Copy, S: Sink>(
-    shown: FastaRows,
+    shown: FastaOutput,
     records: &TextRecords<'_>,
     fasta: &Fasta<A>,
     genome: &Genome<A>,
@@ -332,8 +332,8 @@ fn put_each<A: Allocator + Copy, S: Sink>(
 ) -> Result<(), WriteFault>
     ensures { Puts (S.state sink.old) (S.state sink.new) result (fasta_text shown genome.now fasta.now records.now) }
 {
-    for row in records.again() {
-        put_fasta(shown, genome, &row, fasta, sink)?;
+    for feature in records.again() {
+        put_fasta(shown, genome, &feature, fasta, sink)?;
     }
     Ok(())
 }

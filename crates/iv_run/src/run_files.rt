@@ -9,7 +9,7 @@ ghost use Rattle.iv_run.specs.RunFiles.{AreOf, IsFasta, IsIfNamed, IsOn, IsParse
 
 use crate::fault::{CliFault, FileFault};
 use crate::held_fasta::HeldFasta;
-use crate::input_files::{HeldRecords, HoldsFile, ParsedFile, parse_bed, read_bed};
+use crate::input_files::{HeldRecords, HoldsFile, ParsedFile, parse_bed, read_held};
 use iv_args::{Plan, Slot};
 use iv_bytes::Source;
 use iv_fasta::Fasta;
@@ -121,7 +121,7 @@ impl<A: Allocator + Copy> RunGenome<A> {
         ensures is_on { IfOk result (H.is_on self.now.genome self.now.limit) }
         ensures err { IfErr result (λ fault. StopsReading (R.state source.old) (R.state source.new) most fault) }
     {
-        read_bed(
+        read_held(
             self.alloc,
             &self.genome,
             self.empty_width,

@@ -2,7 +2,7 @@
 use Rattle.std.proofs.Common.{◌≡◌, ◌≢◌, ℕ, ◌+◌, ◌≤◌, ◌<◌, ◌++◌, ◌⊎◌, inl, inr, List, length, Option, Some, None, Result, Ok, Err, IfSome, ◌↔◌, refl, sym, ap, ◌∙◌, subst, arith, true≢false}
 use Rattle.iv_bytes.specs.Sources.{SourceState, IsInput}
 use Rattle.iv_text.specs.Lines.{lines}
-use Rattle.iv_session.specs.Endings.{Ran, AreSound, HadMemory, IsTooLongAt}
+use Rattle.iv_session.specs.Endings.{Ran, AreSoundStreams, HadMemory, IsTooLongAt}
 use Rattle.iv_session.specs.Limits.{line_sizes, Keeps, first_over}
 use Rattle.iv_session.specs.Stops.{Stopped}
 use Rattle.iv_session.specs.Streams.{Streams}
@@ -14,11 +14,11 @@ use Rattle.iv_workspace.specs.States.{State}
 use Rattle.iv_session.proofs.SizeLemmas.{length-sizes, whole-sizes, over-after, over-none, over-first, over-low, over-past, passes-more, some-inj}
 
 -- the input that is known is the text
-known_text : (s : SourceState) (text whole : List ℕ) → s.coming ≡ Some text → IsInput s whole → text ≡ whole
+known_text : (s : SourceState) (text whole : List ℕ) → s.remaining ≡ Some text → IsInput s whole → text ≡ whole
 known_text s text whole known input = subst (λ (o : Option (List ℕ)). IfSome o (λ bytes. bytes ≡ whole)) known input
 
 pub done-none : (old new : State) (before after : Streams) (most_lines most : ℕ) (text : List ℕ) (summary : Summary)
-    → before.input.coming ≡ Some text → Ran old new before after most_lines most (Ok summary)
+    → before.input.remaining ≡ Some text → Ran old new before after most_lines most (Ok summary)
     → first_over most_lines most 1 (line_sizes text) ≡ None
 done-none old new before after most_lines most text summary known ran =
     let is : text ≡ ran.whole = known_text before.input text ran.whole known ran.input in
@@ -27,7 +27,7 @@ done-none old new before after most_lines most text summary known ran =
 
 -- the first line that passes a limit is not before the one that the run ended at
 from-line : (old new : State) (before after : Streams) (most_lines most n : ℕ) (cause : RunCause) (text : List ℕ)
-    → before.input.coming ≡ Some text → (u : Stopped old new before after most_lines most n cause)
+    → before.input.remaining ≡ Some text → (u : Stopped old new before after most_lines most n cause)
     → first_over most_lines most 1 (line_sizes text) ≡ first_over most_lines most n (line_sizes (u.at.given ++ u.at.more))
 from-line old new before after most_lines most n cause text known u =
     let rest : List ℕ = u.at.given ++ u.at.more in
@@ -41,7 +41,7 @@ from-line old new before after most_lines most n cause text known u =
     ∙ ap (λ (k : ℕ). first_over most_lines most k (line_sizes rest)) number
 
 pub stopped-noticed : (old new : State) (before after : Streams) (most_lines most n : ℕ) (text : List ℕ) (fault : RunFault)
-    → before.input.coming ≡ Some text → Ran old new before after most_lines most (Err fault)
+    → before.input.remaining ≡ Some text → Ran old new before after most_lines most (Err fault)
     → first_over most_lines most 1 (line_sizes text) ≡ Some n → fault.line ≤ n
 stopped-noticed old new before after most_lines most n text fault known ran is =
     let rest : List ℕ = ran.at.given ++ ran.at.more in
@@ -50,7 +50,7 @@ stopped-noticed old new before after most_lines most n text fault known ran is =
 
 -- a line that was run passes no limit
 pub stopped-ran : (old new : State) (before after : Streams) (most_lines most n : ℕ) (text : List ℕ) (fault : RunFault)
-    → before.input.coming ≡ Some text → Ran old new before after most_lines most (Err fault)
+    → before.input.remaining ≡ Some text → Ran old new before after most_lines most (Err fault)
     → (fault.cause ≡ Output) ⊎ (fault.cause ≡ Messages)
     → first_over most_lines most 1 (line_sizes text) ≡ Some n → fault.line < n
 stopped-ran old new before after most_lines most n text fault known ran sink is = go fault.cause ran sink
@@ -74,7 +74,7 @@ stopped-ran old new before after most_lines most n text fault known ran sink is 
 
 -- a run that ended neither by a stream nor out of memory
 pub too_long-exact : (old new : State) (before after : Streams) (most_lines most n : ℕ) (text : List ℕ) (ended : Result Summary RunFault)
-    → before.input.coming ≡ Some text → Ran old new before after most_lines most ended → AreSound after → HadMemory ended
+    → before.input.remaining ≡ Some text → Ran old new before after most_lines most ended → AreSoundStreams after → HadMemory ended
     → IsTooLongAt n ended ↔ (first_over most_lines most 1 (line_sizes text) ≡ Some n)
 too_long-exact old new before after most_lines most n text (Ok summary) known ran sound memory = (
   λ never. absurd never,

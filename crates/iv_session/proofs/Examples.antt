@@ -12,7 +12,7 @@ use Rattle.iv_workspace.specs.OpenViews.{Shown}
 use Rattle.iv_track.specs.Edits.{with_record}
 use Rattle.iv_workspace.specs.States.{State}
 use Rattle.iv_workspace.specs.Views.{view_asked, all_text, text_in}
-use Rattle.iv_view.specs.Views.{read_words}
+use Rattle.iv_view.specs.Views.{read_arguments}
 use Rattle.iv_session.specs.Written.{Written, refused_by}
 use Rattle.iv_session.specs.declared.request.Request.TheVariants as request
 use Rattle.iv_workspace.specs.declared.session.edits.Edit.TheVariants as edit
@@ -23,8 +23,8 @@ use Rattle.iv_view.specs.declared.view.View.TheVariants as view
 use Rattle.iv_view.specs.declared.view.KeptView.TheVariants as kept
 use Rattle.iv_view.specs.declared.written_view.WrittenView.TheVariants as written
 use Rattle.iv_pair.specs.Hits.{hits_of}
-use Rattle.iv_pair.specs.declared.intersect.IntersectRows.TheVariants as rows
-use Rattle.iv_pair.specs.declared.pair_rows.PairRows.TheVariants as pair
+use Rattle.iv_pair.specs.declared.intersect.IntersectOutput.TheVariants as records
+use Rattle.iv_pair.specs.declared.pair_rows.PairOutput.TheVariants as pair
 use Rattle.iv_track.specs.Tracked.{Tracked}
 
 abbrev g : Sequences
@@ -35,7 +35,7 @@ tab = 9 ∷ []
 
 -- an empty track of width 3
 abbrev empty : State
-empty = record { genome = g; track = record { rows = []; width = 3; limit = 2 }; second = None; bases = None; views = [] }
+empty = record { genome = g; track = record { records = []; width = 3; limit = 2 }; second = None; bases = None; views = [] }
 
 abbrev first_row : RecordValue
 first_row = record { seq = 0; start = 10; stop = 20; name = []; score = []; strand = None; width = 3 }
@@ -82,10 +82,10 @@ lengths-come_after_names = refl
 pub bad_lengths-come_before_names : asked empty (codes "resize" ++ tab ++ codes "chr9" ++ tab ++ codes "x") ≡ Err fault.StopNumber
 bad_lengths-come_before_names = refl
 
-pub spaces-are_no_words : read_words 3 false false (words (codes "  merge ")) ≡ Ok plain_merge
+pub spaces-are_no_words : read_arguments 3 false false (words (codes "  merge ")) ≡ Ok plain_merge
 spaces-are_no_words = refl
 
-pub no_words-are_no_view : read_words 3 false false (words []) ≡ Err fault.Words
+pub no_words-are_no_view : read_arguments 3 false false (words []) ≡ Err fault.Words
 no_words-are_no_view = refl
 
 pub names-are_not_empty : view_asked empty [] (codes "merge" ∷ []) ≡ Err fault.BadName
@@ -121,10 +121,10 @@ script-steps = (
   inl (((plain_merge, refl, refl), refl), refl),
   (
     with_one,
-    inl (((omega arith, refl, ((refl, refl, (λ stale. stale), (λ rows is. refl)), tt)), refl), refl),
+    inl (((omega arith, refl, ((refl, refl, (λ stale. stale), (λ records is. refl)), tt)), refl), refl),
     (
       with_two,
-      inl (((omega arith, refl, ((refl, refl, (λ stale. stale), (λ rows is. refl)), tt)), refl), refl),
+      inl (((omega arith, refl, ((refl, refl, (λ stale. stale), (λ records is. refl)), tt)), refl), refl),
       (
         with_two,
         inl ((merging, refl, refl, refl), refl),
@@ -139,7 +139,7 @@ abbrev with_stale : State
 with_stale = record with_one { views = (codes "m", record { view = plain_merge; stale = true }) ∷ [] }
 
 pub edits-may_leave_a_view_stale : RunsLine with_a_view (codes "add" ++ tab ++ codes "chr1" ++ tab ++ codes "10" ++ tab ++ codes "20") with_stale silent
-edits-may_leave_a_view_stale = inl (((omega arith, refl, ((refl, refl, (λ stale. refl), (λ rows is. absurd (cc is))), tt)), refl), refl)
+edits-may_leave_a_view_stale = inl (((omega arith, refl, ((refl, refl, (λ stale. refl), (λ records is. absurd (cc is))), tt)), refl), refl)
 
 pub prints-may_want_memory : RunsLine with_stale (codes "print" ++ tab ++ codes "m") with_stale (refused_by fault.NoMemory)
 prints-may_want_memory = inr (fault.NoMemory, (record { view = plain_merge; stale = true }, refl, refl), refl, refl)
@@ -152,13 +152,13 @@ prints-make_a_view_current = inl ((record { view = plain_merge; stale = true }, 
 -- three records, two of them copies
 abbrev other : Tracked
 other = record {
-  rows = record first_row { start = 15; stop = 18 } ∷ record first_row { start = 15; stop = 18 } ∷ record first_row { start = 20; stop = 30 } ∷ [];
+  records = record first_row { start = 15; stop = 18 } ∷ record first_row { start = 15; stop = 18 } ∷ record first_row { start = 20; stop = 30 } ∷ [];
   width = 3;
   limit = 9;
 }
 
 abbrev beside : State
-beside = record with_one { second = Some other; views = (codes "v", record { view = view.Written (written.Paired (pair.Intersect rows.IfNoHit)); stale = false }) ∷ [] }
+beside = record with_one { second = Some other; views = (codes "v", record { view = view.Written (written.Paired (pair.Intersect records.IfNoHit)); stale = false }) ∷ [] }
 
 pub bad_words-come_before_the_file : view_asked empty (codes "i") (codes "intersect" ∷ codes "-u" ∷ codes "-v" ∷ []) ≡ Err fault.Words
 bad_words-come_before_the_file = refl
@@ -166,7 +166,7 @@ bad_words-come_before_the_file = refl
 pub no_second-is_reported : view_asked empty (codes "i") (codes "intersect" ∷ codes "-c" ∷ codes "-wa" ∷ []) ≡ Err fault.NoSecond
 no_second-is_reported = refl
 
-pub options-go_in_any_order : view_asked (record empty { second = Some other }) (codes "i") (codes "intersect" ∷ codes "-wb" ∷ codes "-wa" ∷ []) ≡ Ok (view.Written (written.Paired (pair.Intersect rows.WholeAndHit)))
+pub options-go_in_any_order : view_asked (record empty { second = Some other }) (codes "i") (codes "intersect" ∷ codes "-wb" ∷ codes "-wa" ∷ []) ≡ Ok (view.Written (written.Paired (pair.Intersect records.WholeAndHit)))
 options-go_in_any_order = refl
 
 pub records_with_a_hit-are_left_out : all_text None beside ≡ codes "#v\n"
@@ -183,14 +183,14 @@ pub records-come_after_addb : asked beside (codes "addb" ++ tab ++ codes "chr1" 
 records-come_after_addb = refl
 
 -- a record that only touches is no hit
-pub hits-are_no_neighbours : hits_of other.rows (record first_row { start = 18; stop = 20 }) ≡ []
+pub hits-are_no_neighbours : hits_of other.records (record first_row { start = 18; stop = 20 }) ≡ []
 hits-are_no_neighbours = refl
 
 -- ---- a FASTA file
 
 -- a track of six columns, and bases of the first sequence alone
 abbrev with_bases : State
-with_bases = record empty { track = record { rows = record second_row { seq = 1; width = 6 } ∷ []; width = 6; limit = 2 }; bases = Some (Some (codes "ACGT") ∷ None ∷ None ∷ []) }
+with_bases = record empty { track = record { records = record second_row { seq = 1; width = 6 } ∷ []; width = 6; limit = 2 }; bases = Some (Some (codes "ACGT") ∷ None ∷ None ∷ []) }
 
 pub strands-come_before_the_file : view_asked empty (codes "f") (codes "getfasta" ∷ codes "-s" ∷ []) ≡ Err fault.NoStrand
 strands-come_before_the_file = refl

@@ -9,7 +9,7 @@ use Rattle.iv_text.specs.declared.fault.Fault.{Fault}
 use Rattle.iv_text.specs.declared.fault.Fault.TheVariants as fault
 use Rattle.iv_track.specs.declared.region.Region.{Region}
 use Rattle.iv_view.specs.declared.view.View.{View}
-use Rattle.iv_view.proofs.WordLemmas.{words-cut}
+use Rattle.iv_view.proofs.ArgumentLemmas.{words-cut}
 use Rattle.iv_workspace.specs.OpenViews.{Shown}
 use Rattle.iv_workspace.specs.Prints.{PrintedNamed, PrintedView, PrintedAll, IsButCurrent}
 use Rattle.iv_workspace.specs.States.{State}

@@ -22,4 +22,4 @@ read_two g width cs =
 abbrev pub edit_said : Sequences → ℕ → EditKind → List (List ℕ) → Result Edit Fault
 edit_said g width kind.Add cs = if_ok (read_columns g width cs) (λ r. Ok (edit.Add r))
 edit_said g width kind.Remove cs = if_ok (read_columns g width cs) (λ r. Ok (edit.Remove r))
-edit_said g width kind.Replace cs = if_ok (read_two g width cs) (λ rows. Ok (edit.Replace rows.0 rows.1))
+edit_said g width kind.Replace cs = if_ok (read_two g width cs) (λ records. Ok (edit.Replace records.0 records.1))

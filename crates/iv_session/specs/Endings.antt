@@ -14,8 +14,8 @@ Ran old new before after most_lines most (Ok summary) = Done old new before afte
 Ran old new before after most_lines most (Err fault) = Stopped old new before after most_lines most fault.line fault.cause
 
 -- none of the streams is failed
-abbrev pub AreSound : Streams → Type 0
-AreSound s = (s.input.failed ≡ false) × (s.output.failed ≡ false) × (s.messages.failed ≡ false)
+abbrev pub AreSoundStreams : Streams → Type 0
+AreSoundStreams s = (s.input.failed ≡ false) × (s.output.failed ≡ false) × (s.messages.failed ≡ false)
 
 -- the run did not end out of memory
 abbrev pub HadMemory : Result Summary RunFault → Type 0

@@ -56,20 +56,20 @@ show_all_asked s other = Err fault.Command
 
 -- what a command asks for with these fields, in a session
 abbrev pub asked_by : State → List ℕ → List (List ℕ) → Result Request Fault
-asked_by s word fields =
-    if bytes_eq word (codes "add") then edit_asked s target.First kind.Add fields
-    else if bytes_eq word (codes "remove") then edit_asked s target.First kind.Remove fields
-    else if bytes_eq word (codes "replace") then edit_asked s target.First kind.Replace fields
-    else if bytes_eq word (codes "addb") then edit_asked s target.Second kind.Add fields
-    else if bytes_eq word (codes "removeb") then edit_asked s target.Second kind.Remove fields
-    else if bytes_eq word (codes "replaceb") then edit_asked s target.Second kind.Replace fields
-    else if bytes_eq word (codes "open") then if_ok (two_fields fields) (λ pair. Ok (request.Open pair.0 pair.1))
-    else if bytes_eq word (codes "close") then if_ok (only_field fields) (λ name. Ok (request.Close name))
-    else if bytes_eq word (codes "print") then if_ok (only_field fields) (λ name. Ok (request.Print name None))
-    else if bytes_eq word (codes "printall") then (if length fields == 0 then Ok (request.PrintAll None) else Err fault.Command)
-    else if bytes_eq word (codes "show") then show_asked s fields
-    else if bytes_eq word (codes "showall") then show_all_asked s fields
-    else if bytes_eq word (codes "resize") then
+asked_by s command fields =
+    if bytes_eq command (codes "add") then edit_asked s target.First kind.Add fields
+    else if bytes_eq command (codes "remove") then edit_asked s target.First kind.Remove fields
+    else if bytes_eq command (codes "replace") then edit_asked s target.First kind.Replace fields
+    else if bytes_eq command (codes "addb") then edit_asked s target.Second kind.Add fields
+    else if bytes_eq command (codes "removeb") then edit_asked s target.Second kind.Remove fields
+    else if bytes_eq command (codes "replaceb") then edit_asked s target.Second kind.Replace fields
+    else if bytes_eq command (codes "open") then if_ok (two_fields fields) (λ pair. Ok (request.Open pair.0 pair.1))
+    else if bytes_eq command (codes "close") then if_ok (only_field fields) (λ name. Ok (request.Close name))
+    else if bytes_eq command (codes "print") then if_ok (only_field fields) (λ name. Ok (request.Print name None))
+    else if bytes_eq command (codes "printall") then (if length fields == 0 then Ok (request.PrintAll None) else Err fault.Command)
+    else if bytes_eq command (codes "show") then show_asked s fields
+    else if bytes_eq command (codes "showall") then show_all_asked s fields
+    else if bytes_eq command (codes "resize") then
     if_ok (two_fields fields) (λ pair. if_ok (length_said pair.1) (λ n. Ok (request.Resize pair.0 n)))
     else Err fault.Command
 

@@ -5,7 +5,7 @@ ghost use Rattle.std.specs.List.{flat_map};
 ghost use Rattle.iv_text.specs.Bytes.{line_feed};
 ghost use Rattle.iv_text.specs.Lines.{lines, HasNoFeed};
 ghost use Rattle.iv_workspace.specs.States.{State};
-ghost use Rattle.iv_session.specs.Endings.{Ran, AreSound, HadMemory, IsTooLongAt};
+ghost use Rattle.iv_session.specs.Endings.{Ran, AreSoundStreams, HadMemory, IsTooLongAt};
 ghost use Rattle.iv_session.specs.Limits.{line_sizes, AreWithin, Passes, first_over};
 ghost use Rattle.iv_session.specs.Stops.{Stopped};
 ghost use Rattle.iv_session.specs.Streams.{Streams};
@@ -33,10 +33,10 @@ pub fn first_over_is_first()
 ///
 /// A run that is done has no such line, and no run goes on after one, whatever ends it.
 pub fn too_long_is_exact()
-    ensures exact { (old new : State) (before after : Streams) (most_lines most n : ℕ) (text : List ℕ) (ended : Result Summary RunFault) → before.input.coming ≡ Some text → Ran old new before after most_lines most ended → AreSound after → HadMemory ended → IsTooLongAt n ended ↔ (first_over most_lines most 1 (line_sizes text) ≡ Some n) }
-    ensures done { (old new : State) (before after : Streams) (most_lines most : ℕ) (text : List ℕ) (summary : Summary) → before.input.coming ≡ Some text → Ran old new before after most_lines most (Ok summary) → first_over most_lines most 1 (line_sizes text) ≡ None }
-    ensures noticed { (old new : State) (before after : Streams) (most_lines most n : ℕ) (text : List ℕ) (fault : RunFault) → before.input.coming ≡ Some text → Ran old new before after most_lines most (Err fault) → first_over most_lines most 1 (line_sizes text) ≡ Some n → fault.line ≤ n }
-    ensures ran { (old new : State) (before after : Streams) (most_lines most n : ℕ) (text : List ℕ) (fault : RunFault) → before.input.coming ≡ Some text → Ran old new before after most_lines most (Err fault) → (fault.cause ≡ Output) ⊎ (fault.cause ≡ Messages) → first_over most_lines most 1 (line_sizes text) ≡ Some n → fault.line < n }
+    ensures exact { (old new : State) (before after : Streams) (most_lines most n : ℕ) (text : List ℕ) (ended : Result Summary RunFault) → before.input.remaining ≡ Some text → Ran old new before after most_lines most ended → AreSoundStreams after → HadMemory ended → IsTooLongAt n ended ↔ (first_over most_lines most 1 (line_sizes text) ≡ Some n) }
+    ensures done { (old new : State) (before after : Streams) (most_lines most : ℕ) (text : List ℕ) (summary : Summary) → before.input.remaining ≡ Some text → Ran old new before after most_lines most (Ok summary) → first_over most_lines most 1 (line_sizes text) ≡ None }
+    ensures noticed { (old new : State) (before after : Streams) (most_lines most n : ℕ) (text : List ℕ) (fault : RunFault) → before.input.remaining ≡ Some text → Ran old new before after most_lines most (Err fault) → first_over most_lines most 1 (line_sizes text) ≡ Some n → fault.line ≤ n }
+    ensures ran { (old new : State) (before after : Streams) (most_lines most n : ℕ) (text : List ℕ) (fault : RunFault) → before.input.remaining ≡ Some text → Ran old new before after most_lines most (Err fault) → (fault.cause ≡ Output) ⊎ (fault.cause ≡ Messages) → first_over most_lines most 1 (line_sizes text) ≡ Some n → fault.line < n }
 {}
 
 /// A script that ends early has handed on all that the lines before wrote, if the output or the messages hold nothing back.

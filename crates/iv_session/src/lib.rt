@@ -6,9 +6,9 @@ mod line;
 mod request;
 mod script;
 
-pub use iv_depth::DepthRows;
-pub use iv_fasta::FastaRows;
-pub use iv_pair::{IntersectRows, PairRows};
+pub use iv_depth::DepthOutput;
+pub use iv_fasta::FastaOutput;
+pub use iv_pair::{IntersectOutput, PairOutput};
 pub use iv_text::Fault;
 pub use iv_track::EditFault;
 pub use iv_view::{KeptView, View as ViewWords, ViewFault, WrittenView};

@@ -88,44 +88,44 @@ impl<'a> Request<'a> {
         if line.is_empty() || line[0] == b'#' {
             return Ok(Request::Nothing);
         }
-        let (word, fields) = split_first_column(line);
-        Request::of_command(session, word, fields)
+        let (command, fields) = split_first_column(line);
+        Request::of_command(session, command, fields)
     }
 
     /// What a command asks for with what is after its TAB, if it has one.
     fn of_command<A: Allocator + Copy>(
         session: &Session<A>,
-        word: &'a [u8],
+        command: &'a [u8],
         fields: Option<&'a [u8]>,
     ) -> Result<Request<'a>, Fault>
-        ensures value { result ≡ asked_by session.now word.now (fields_left tab fields.entry) }
+        ensures value { result ≡ asked_by session.now command.now (fields_left tab fields.entry) }
         ensures fits { IfOk result (RequestFits session.now) }
     {
-        if word == b"add".as_slice() {
+        if command == b"add".as_slice() {
             Request::edit(session, Target::First, EditKind::Add, fields)
-        } else if word == b"remove".as_slice() {
+        } else if command == b"remove".as_slice() {
             Request::edit(session, Target::First, EditKind::Remove, fields)
-        } else if word == b"replace".as_slice() {
+        } else if command == b"replace".as_slice() {
             Request::edit(session, Target::First, EditKind::Replace, fields)
-        } else if word == b"addb".as_slice() {
+        } else if command == b"addb".as_slice() {
             Request::edit(session, Target::Second, EditKind::Add, fields)
-        } else if word == b"removeb".as_slice() {
+        } else if command == b"removeb".as_slice() {
             Request::edit(session, Target::Second, EditKind::Remove, fields)
-        } else if word == b"replaceb".as_slice() {
+        } else if command == b"replaceb".as_slice() {
             Request::edit(session, Target::Second, EditKind::Replace, fields)
-        } else if word == b"open".as_slice() {
+        } else if command == b"open".as_slice() {
             Request::open(fields)
-        } else if word == b"close".as_slice() {
+        } else if command == b"close".as_slice() {
             Request::close(fields)
-        } else if word == b"print".as_slice() {
+        } else if command == b"print".as_slice() {
             Request::print(fields)
-        } else if word == b"printall".as_slice() {
+        } else if command == b"printall".as_slice() {
             Request::print_all(fields)
-        } else if word == b"show".as_slice() {
+        } else if command == b"show".as_slice() {
             Request::show(session, fields)
-        } else if word == b"showall".as_slice() {
+        } else if command == b"showall".as_slice() {
             Request::show_all(session, fields)
-        } else if word == b"resize".as_slice() {
+        } else if command == b"resize".as_slice() {
             Request::resize(fields)
         } else {
             Err(Fault::Command)
@@ -161,8 +161,8 @@ impl<'a> Request<'a> {
     fn open(fields: Option<&'a [u8]>) -> Result<Request<'a>, Fault>
         ensures { result ≡ if_ok (two_of (fields_left tab fields.entry)) (λ pair. Ok (request.Open pair.0 pair.1)) }
     {
-        let (name, words) = two_fields(fields)?;
-        Ok(Request::Open(name, words))
+        let (name, arguments) = two_fields(fields)?;
+        Ok(Request::Open(name, arguments))
     }
 
     /// To close the view of the one field.
@@ -329,8 +329,8 @@ fn two_rows<'a, A: Allocator + Copy>(
 ) -> Result<(RecordRef<'a>, RecordRef<'a>), Fault>
     requires { IsWidth width }
     ensures value { result ≡ read_two genome.now width (fields_left tab fields.entry) }
-    ensures first { IfOk result (λ rows. Fits genome.now width rows.0) }
-    ensures second { IfOk result (λ rows. Fits genome.now width rows.1) }
+    ensures first { IfOk result (λ records. Fits genome.now width records.0) }
+    ensures second { IfOk result (λ records. Fits genome.now width records.1) }
 {
     match split_columns(fields.unwrap_or(b""), width) {
         Some((old, new)) => both_rows(

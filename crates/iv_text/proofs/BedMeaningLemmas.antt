@@ -8,7 +8,7 @@ use Rattle.std.proofs.lemmas.Option.{none-some}
 use Rattle.iv_text.specs.Fields.{columns}
 use Rattle.iv_text.specs.Lines.{lines}
 use Rattle.iv_text.specs.Genome.{Sequences}
-use Rattle.iv_text.specs.Read.{has_fault, faults, row}
+use Rattle.iv_text.specs.Read.{has_fault, faults, feature}
 use Rattle.iv_text.specs.Chains.{unless_fault}
 use Rattle.iv_text.specs.RecordValue.{RecordValue}
 use Rattle.iv_text.specs.BedFile.{is_unread, is_width, Bed, Draft, after_record, bed_of}
@@ -28,21 +28,21 @@ use Rattle.iv_text.proofs.FileMeaningLemmas.{same-ok, same-err, ok-err, IsRun, r
 abbrev draft_of : Sequences → List (List ℕ) → Draft
 draft_of g said = record {
   width = option_map (λ line. length (columns line)) (slice_get said 0);
-  rows = map (λ line. row g (unwrap_or (option_map (λ line. length (columns line)) (slice_get said 0)) 0) (columns line)) said;
+  records = map (λ line. feature g (unwrap_or (option_map (λ line. length (columns line)) (slice_get said 0)) 0) (columns line)) said;
 }
 
 abbrev draft : Sequences → List (List ℕ) → Draft
-draft g before = record { width = first_width before; rows = records_of g before }
+draft g before = record { width = first_width before; records = records_of g before }
 
 -- with the record of one more line
 abbrev with_line : Sequences → Draft → List ℕ → Draft
-with_line g d line = record { width = Some (width_at d line); rows = d.rows ++ row g (width_at d line) (columns line) ∷ [] }
+with_line g d line = record { width = Some (width_at d line); records = d.records ++ feature g (width_at d line) (columns line) ∷ [] }
 
 draft-push : (g : Sequences) (said : List (List ℕ)) (line : List ℕ) → draft_of g (said ++ line ∷ []) ≡ with_line g (draft_of g said) line
 draft-push g [] line = refl
 draft-push g (l ∷ said) line =
-    ap {B = Draft} (λ (rows : List RecordValue). record { width = Some (length (columns l)); rows = row g (length (columns l)) (columns l) ∷ rows })
-    (map-append (λ (m : List ℕ). row g (length (columns l)) (columns m)) said (line ∷ []))
+    ap {B = Draft} (λ (records : List RecordValue). record { width = Some (length (columns l)); records = feature g (length (columns l)) (columns l) ∷ records })
+    (map-append (λ (m : List ℕ). feature g (length (columns l)) (columns m)) said (line ∷ []))
 
 draft-unread : (g : Sequences) (before : List (List ℕ)) (line : List ℕ) → is_unread line ≡ true → draft g (before ++ line ∷ []) ≡ draft g before
 draft-unread g before line unread = ap (draft_of g) (kept-not (λ l. not (is_unread l)) before line (not_from_true (is_unread line) unread))
@@ -84,13 +84,13 @@ abbrev outcome : Draft → Option LoadCause → Result Draft LoadCause
 outcome more None = Ok more
 outcome more (Some c) = Err c
 
-row-by : (limit w : ℕ) (rows : List RecordValue) (r : RecordValue) (fits : Bool) (f : Option Fault)
-    → cond fits (with_row limit w rows (unless_fault f (Ok r))) (Err cause.Columns) ≡ outcome (record { width = Some w; rows = rows ++ r ∷ [] }) (cause_by fits f (nat_le limit (length rows)))
-row-by limit w rows r false f = refl
-row-by limit w rows r true (Some f) = refl
-row-by limit w rows r true None = by (nat_le limit (length rows))
+row-by : (limit w : ℕ) (records : List RecordValue) (r : RecordValue) (fits : Bool) (f : Option Fault)
+    → cond fits (with_row limit w records (unless_fault f (Ok r))) (Err cause.Columns) ≡ outcome (record { width = Some w; records = records ++ r ∷ [] }) (cause_by fits f (nat_le limit (length records)))
+row-by limit w records r false f = refl
+row-by limit w records r true (Some f) = refl
+row-by limit w records r true None = by (nat_le limit (length records))
   where
-    by : (full : Bool) → cond full (Err cause.TooMany) (Ok (record { width = Some w; rows = rows ++ r ∷ [] })) ≡ outcome (record { width = Some w; rows = rows ++ r ∷ [] }) (cond full (Some cause.TooMany) None)
+    by : (full : Bool) → cond full (Err cause.TooMany) (Ok (record { width = Some w; records = records ++ r ∷ [] })) ≡ outcome (record { width = Some w; records = records ++ r ∷ [] }) (cond full (Some cause.TooMany) None)
     by true = refl
     by false = refl
 
@@ -99,7 +99,7 @@ row-outcome : (g : Sequences) (limit : ℕ) (before : List (List ℕ)) (line : L
 unfolding after_record
 row-outcome g limit before line read =
     cond-false _ _ _ read
-    ∙ row-by limit (width_after before line) (records_of g before) (row g (width_after before line) (columns line))
+    ∙ row-by limit (width_after before line) (records_of g before) (feature g (width_after before line) (columns line))
     (is_width (width_after before line)) (find (has_fault g (width_after before line) (columns line)) faults)
     ∙ ap (outcome (with_line g (draft g before) line)) (sym (cause-read g limit before line read))
 
@@ -138,7 +138,7 @@ bed-run g limit = record {
 }
 
 abbrev bed_at : ℕ → Draft → Bed
-bed_at empty d = record { width = unwrap_or d.width empty; rows = d.rows }
+bed_at empty d = record { width = unwrap_or d.width empty; records = d.records }
 
 pub bed-value : (g : Sequences) (empty limit : ℕ) (text : List ℕ) (b : Bed)
     → (bed_of g empty limit text ≡ Ok b) ↔ (HaveNoCause (record_cause g limit) (lines text) × (b ≡ bed_from g empty (lines text)))

@@ -22,7 +22,7 @@ use Rattle.iv_text.specs.declared.fault.LoadFault.{LoadFault}
 use Rattle.iv_text.specs.FastLine.{IsFastLine}
 use Rattle.iv_text.specs.Inside.OnePass.{IsFirstLine}
 use Rattle.iv_text.specs.declared.record_reader.FastLine.{FastLine}
-use Rattle.iv_text.specs.BedReading.{LinesRead, known, projected_draft, after, IsReadAt, IsProjected, AreSound, Held, shown, byte_after, BeginsAfter, Shows, TakesLines, RefusesLines, Reading, begun, coming, projected_or_fault, projected_bed_of, after_records, finished}
+use Rattle.iv_text.specs.BedReading.{LinesRead, known, projected_draft, after, IsReadAt, IsProjected, AreSound, Held, shown, byte_after, BeginsAfter, Shows, TakesLines, RefusesLines, Reading, begun, read_on, projected_or_fault, projected_bed_of, after_records, finished}
 use Rattle.iv_text.specs.Inside.BedReading.{Takes, Refuses, TakesLine, RefusesLine, EndsAtFeed, IsEnded}
 use Rattle.iv_text.proofs.BedLemmas.{row-unread, row-columns, row-taken}
 
@@ -88,13 +88,13 @@ abbrev pub turned : Sequences → ℕ → ℕ → List (List ℕ) → Result Dra
 turned g limit n rest (Ok more) = after_records g limit (n + 1) more rest
 turned g limit n rest (Err c) = Err (record { line = n; cause = c })
 
-pub full-row : (limit w : ℕ) (rows : List RecordValue) (r : RecordValue) → limit ≤ length rows → with_row limit w rows (Ok r) ≡ Err cause.TooMany
-full-row limit w rows r full = cond-true _ _ _ (le-leb limit (length rows) full)
+pub full-row : (limit w : ℕ) (records : List RecordValue) (r : RecordValue) → limit ≤ length records → with_row limit w records (Ok r) ≡ Err cause.TooMany
+full-row limit w records r full = cond-true _ _ _ (le-leb limit (length records) full)
 
-pub free-row : (limit w : ℕ) (rows : List RecordValue) (r : RecordValue) → length rows < limit → with_row limit w rows (Ok r) ≡ Ok (record { width = Some w; rows = rows ++ r ∷ [] })
-free-row limit w rows r free = by (nat_le limit (length rows)) refl
+pub free-row : (limit w : ℕ) (records : List RecordValue) (r : RecordValue) → length records < limit → with_row limit w records (Ok r) ≡ Ok (record { width = Some w; records = records ++ r ∷ [] })
+free-row limit w records r free = by (nat_le limit (length records)) refl
   where
-    by : (t : Bool) → nat_le limit (length rows) ≡ t → cond {A = Result Draft LoadCause} t (Err cause.TooMany) (Ok (record { width = Some w; rows = rows ++ r ∷ [] })) ≡ Ok (record { width = Some w; rows = rows ++ r ∷ [] })
+    by : (t : Bool) → nat_le limit (length records) ≡ t → cond {A = Result Draft LoadCause} t (Err cause.TooMany) (Ok (record { width = Some w; records = records ++ r ∷ [] })) ≡ Ok (record { width = Some w; records = records ++ r ∷ [] })
     by true e = absurd (grind (arith, nat_tests, e))
     by false e = refl
 
@@ -103,7 +103,7 @@ free-row limit w rows r free = by (nat_le limit (length rows)) refl
 module _ (projected : RecordValue → RecordValue) where
   -- both are known, and the same with records projected; or both are the same fault
   abbrev AreAlike : Result Draft LoadCause → Result Draft LoadCause → Type 0
-  AreAlike (Ok d) (Ok e) = (d.width ≡ e.width) × (map projected d.rows ≡ map projected e.rows)
+  AreAlike (Ok d) (Ok e) = (d.width ≡ e.width) × (map projected d.records ≡ map projected e.records)
   AreAlike (Ok d) (Err c) = ⊥
   AreAlike (Err c) (Ok d) = ⊥
   AreAlike (Err c) (Err f) = c ≡ f
@@ -119,20 +119,20 @@ module _ (projected : RecordValue → RecordValue) (g : Sequences) (limit : ℕ)
       long : length xs ≡ length ys
       long = omega (arith, length-map xs projected, length-map ys projected, ap (λ (l : List RecordValue). length l) same)
 
-      by : (s t : Bool) → s ≡ t → AreAlike projected (cond s (Err cause.TooMany) (Ok (record { width = Some w; rows = xs ++ r ∷ [] }))) (cond t (Err cause.TooMany) (Ok (record { width = Some w; rows = ys ++ r ∷ [] })))
+      by : (s t : Bool) → s ≡ t → AreAlike projected (cond s (Err cause.TooMany) (Ok (record { width = Some w; records = xs ++ r ∷ [] }))) (cond t (Err cause.TooMany) (Ok (record { width = Some w; records = ys ++ r ∷ [] })))
       by true true e = refl
       by false false e = (refl, kept-more projected xs ys r same)
       by true false e = cc
       by false true e = cc
 
   alike-cases : (w : Option ℕ) (xs ys : List RecordValue) (t u : Bool) (a b : Result Draft LoadCause) → map projected xs ≡ map projected ys → AreAlike projected a b
-      → AreAlike projected (cond t (Ok (record { width = w; rows = xs })) (cond u a (Err cause.Columns))) (cond t (Ok (record { width = w; rows = ys })) (cond u b (Err cause.Columns)))
+      → AreAlike projected (cond t (Ok (record { width = w; records = xs })) (cond u a (Err cause.Columns))) (cond t (Ok (record { width = w; records = ys })) (cond u b (Err cause.Columns)))
   alike-cases w xs ys true u a b same h = (refl, same)
   alike-cases w xs ys false true a b same h = h
   alike-cases w xs ys false false a b same h = refl
 
   alike-row : (w : Option ℕ) (xs ys : List RecordValue) (line : List ℕ) → map projected xs ≡ map projected ys
-      → AreAlike projected (after_record g limit (record { width = w; rows = xs }) line) (after_record g limit (record { width = w; rows = ys }) line)
+      → AreAlike projected (after_record g limit (record { width = w; records = xs }) line) (after_record g limit (record { width = w; records = ys }) line)
   unfolding after_record
   alike-row w xs ys line same =
       let n : ℕ = unwrap_or w (length (columns line)) in
@@ -141,31 +141,31 @@ module _ (projected : RecordValue → RecordValue) (g : Sequences) (limit : ℕ)
 
   alike-turned : (n : ℕ) (ls : List (List ℕ))
       → ((w : Option ℕ) (xs ys : List RecordValue) → map projected xs ≡ map projected ys
-      → projected_draft projected (after_records g limit (n + 1) (record { width = w; rows = xs }) ls) ≡ projected_draft projected (after_records g limit (n + 1) (record { width = w; rows = ys }) ls))
+      → projected_draft projected (after_records g limit (n + 1) (record { width = w; records = xs }) ls) ≡ projected_draft projected (after_records g limit (n + 1) (record { width = w; records = ys }) ls))
       → (r s : Result Draft LoadCause) → AreAlike projected r s → projected_draft projected (turned g limit n ls r) ≡ projected_draft projected (turned g limit n ls s)
   alike-turned n ls rest (Ok d) (Ok e) h =
-      rest d.width d.rows e.rows h.1 ∙ ap (λ (o : Option ℕ). projected_draft projected (after_records g limit (n + 1) (record { width = o; rows = e.rows }) ls)) h.0
+      rest d.width d.records e.records h.1 ∙ ap (λ (o : Option ℕ). projected_draft projected (after_records g limit (n + 1) (record { width = o; records = e.records }) ls)) h.0
   alike-turned n ls rest (Ok d) (Err c) h = absurd h
   alike-turned n ls rest (Err c) (Ok d) h = absurd h
   alike-turned n ls rest (Err c) (Err f) h = ap (λ (k : LoadCause). Err (record { line = n; cause = k })) h
 
   -- of the records that are known before lines only what is held of them counts
   alike-rows : (ls : List (List ℕ)) (n : ℕ) (w : Option ℕ) (xs ys : List RecordValue) → map projected xs ≡ map projected ys
-      → projected_draft projected (after_records g limit n (record { width = w; rows = xs }) ls) ≡ projected_draft projected (after_records g limit n (record { width = w; rows = ys }) ls)
-  alike-rows [] n w xs ys same = ap (λ (l : List RecordValue). Ok (record { width = w; rows = l })) same
+      → projected_draft projected (after_records g limit n (record { width = w; records = xs }) ls) ≡ projected_draft projected (after_records g limit n (record { width = w; records = ys }) ls)
+  alike-rows [] n w xs ys same = ap (λ (l : List RecordValue). Ok (record { width = w; records = l })) same
   alike-rows (line ∷ ls) n w xs ys same =
-      alike-turned n ls (λ v us vs e. alike-rows ls (n + 1) v us vs e) (after_record g limit (record { width = w; rows = xs }) line) (after_record g limit (record { width = w; rows = ys }) line)
+      alike-turned n ls (λ v us vs e. alike-rows ls (n + 1) v us vs e) (after_record g limit (record { width = w; records = xs }) line) (after_record g limit (record { width = w; records = ys }) line)
       (alike-row w xs ys line same)
 
   -- ---- one more line
 
   pub line-taken : (old new : LinesRead) (all left : List (List ℕ)) (line : List ℕ) (next : Draft) → all ≡ line ∷ left → after_record g limit (known old) line ≡ Ok next
-      → next.width ≡ new.width → map projected next.rows ≡ map projected new.rows → Takes projected g limit old new all left
-  line-taken old new all left line next is says wide rows = λ n rest.
+      → next.width ≡ new.width → map projected next.records ≡ map projected new.records → Takes projected g limit old new all left
+  line-taken old new all left line next is says wide records = λ n rest.
       ap (λ (ls : List (List ℕ)). projected_draft projected (after_records g limit n (known old) (ls ++ rest))) is
       ∙ ap (λ (r : Result Draft LoadCause). projected_draft projected (turned g limit n (left ++ rest) r)) says
-      ∙ alike-rows (left ++ rest) (n + 1) next.width next.rows new.rows rows
-      ∙ ap (λ (o : Option ℕ). projected_draft projected (after_records g limit (n + 1) (record { width = o; rows = new.rows }) (left ++ rest))) wide
+      ∙ alike-rows (left ++ rest) (n + 1) next.width next.records new.records records
+      ∙ ap (λ (o : Option ℕ). projected_draft projected (after_records g limit (n + 1) (record { width = o; records = new.records }) (left ++ rest))) wide
 
   pub line-refused : (old : LinesRead) (all left : List (List ℕ)) (line : List ℕ) (c : LoadCause) → all ≡ line ∷ left → after_record g limit (known old) line ≡ Err c
       → Refuses projected g limit old all c
@@ -184,32 +184,32 @@ module _ (projected : RecordValue → RecordValue) (g : Sequences) (limit : ℕ)
       → w ≡ unwrap_or old.width (length (columns line)) → 3 ≤ w → w ≤ 6 → read g w line ≡ Err f → Refuses projected g limit old all (cause.Record f)
   record-refused old all left line w f is unread wide low high says =
       line-refused old all left line (cause.Record f) is
-      (row-taken g limit (known old) line w (Err (cause.Record f)) unread wide low high (ap (with_row limit w old.rows) says))
+      (row-taken g limit (known old) line w (Err (cause.Record f)) unread wide low high (ap (with_row limit w old.records) says))
 
   pub full-refused : (old : LinesRead) (all left : List (List ℕ)) (line : List ℕ) (w : ℕ) (r : RecordValue) → all ≡ line ∷ left → is_unread line ≡ false
-      → w ≡ unwrap_or old.width (length (columns line)) → 3 ≤ w → w ≤ 6 → read g w line ≡ Ok r → limit ≤ length old.rows → Refuses projected g limit old all cause.TooMany
+      → w ≡ unwrap_or old.width (length (columns line)) → 3 ≤ w → w ≤ 6 → read g w line ≡ Ok r → limit ≤ length old.records → Refuses projected g limit old all cause.TooMany
   full-refused old all left line w r is unread wide low high says full =
       line-refused old all left line cause.TooMany is
-      (row-taken g limit (known old) line w (Err cause.TooMany) unread wide low high (ap (with_row limit w old.rows) says ∙ full-row limit w old.rows r full))
+      (row-taken g limit (known old) line w (Err cause.TooMany) unread wide low high (ap (with_row limit w old.records) says ∙ full-row limit w old.records r full))
 
   -- what is held of the records before, at the width that is found
-  rows-before : (old : LinesRead) (w other : ℕ) → AreSound projected g limit old → w ≡ unwrap_or old.width other → All (IsProjected projected g w) old.rows
+  rows-before : (old : LinesRead) (w other : ℕ) → AreSound projected g limit old → w ≡ unwrap_or old.width other → All (IsProjected projected g w) old.records
   rows-before old w other sound is = by old.width sound.fit is
     where
-      by : (o : Option ℕ) → MatchOption o (old.rows ≡ []) (λ k. (3 ≤ k) × (k ≤ 6) × All (IsProjected projected g k) old.rows) → w ≡ unwrap_or o other → All (IsProjected projected g w) old.rows
+      by : (o : Option ℕ) → MatchOption o (old.records ≡ []) (λ k. (3 ≤ k) × (k ≤ 6) × All (IsProjected projected g k) old.records) → w ≡ unwrap_or o other → All (IsProjected projected g w) old.records
       by None none same = subst (λ (l : List RecordValue). All (IsProjected projected g w) l) (sym none) (All-nil (IsProjected projected g w))
-      by (Some k) some same = subst (λ (n : ℕ). All (IsProjected projected g n) old.rows) (sym same) some.2
+      by (Some k) some same = subst (λ (n : ℕ). All (IsProjected projected g n) old.records) (sym same) some.2
 
   -- a record was taken: what was read is sound
   pub record-sound : (old new : LinesRead) (line : List ℕ) (w : ℕ) (r k : RecordValue) → AreSound projected g limit old → w ≡ unwrap_or old.width (length (columns line)) → 3 ≤ w → w ≤ 6
-      → Fits g w r → k ≡ projected r → length old.rows < limit → new.rows ≡ old.rows ++ k ∷ [] → new.width ≡ Some w → AreSound projected g limit new
+      → Fits g w r → k ≡ projected r → length old.records < limit → new.records ≡ old.records ++ k ∷ [] → new.width ≡ Some w → AreSound projected g limit new
   record-sound old new line w r k sound wide low high fits kept_is free grown width =
       let one : All (IsProjected projected g w) (k ∷ []) = All-cons (IsProjected projected g w) k [] (r, fits, kept_is) (All-nil (IsProjected projected g w)) in
-      let before : All (IsProjected projected g w) old.rows = rows-before old w (length (columns line)) sound wide in
-      let fit : All (IsProjected projected g w) new.rows = subst (λ (l : List RecordValue). All (IsProjected projected g w) l) (sym grown) (All-append (IsProjected projected g w) old.rows (k ∷ []) before one) in
+      let before : All (IsProjected projected g w) old.records = rows-before old w (length (columns line)) sound wide in
+      let fit : All (IsProjected projected g w) new.records = subst (λ (l : List RecordValue). All (IsProjected projected g w) l) (sym grown) (All-append (IsProjected projected g w) old.records (k ∷ []) before one) in
       record {
-        fit = subst (λ (o : Option ℕ). MatchOption o (new.rows ≡ []) (λ n. (3 ≤ n) × (n ≤ 6) × All (IsProjected projected g n) new.rows)) (sym width) (low, high, fit);
-        few = omega (arith, free, ap (λ (l : List RecordValue). length l) grown, long old.rows k);
+        fit = subst (λ (o : Option ℕ). MatchOption o (new.records ≡ []) (λ n. (3 ≤ n) × (n ≤ 6) × All (IsProjected projected g n) new.records)) (sym width) (low, high, fit);
+        few = omega (arith, free, ap (λ (l : List RecordValue). length l) grown, long old.records k);
       }
     where
       long : (xs : List RecordValue) (x : RecordValue) → length (xs ++ x ∷ []) ≡ length xs + 1
@@ -219,19 +219,19 @@ module _ (projected : RecordValue → RecordValue) (g : Sequences) (limit : ℕ)
   -- and its line is the first of those that were left
   pub record-taken : ((r : RecordValue) → projected (projected r) ≡ projected r) → (old new : LinesRead) (all left : List (List ℕ)) (line : List ℕ) (w : ℕ) (r k : RecordValue)
       → all ≡ line ∷ left → is_unread line ≡ false → w ≡ unwrap_or old.width (length (columns line)) → 3 ≤ w → w ≤ 6
-      → read g w line ≡ Ok r → k ≡ projected r → length old.rows < limit → new.rows ≡ old.rows ++ k ∷ [] → new.width ≡ Some w → Takes projected g limit old new all left
+      → read g w line ≡ Ok r → k ≡ projected r → length old.records < limit → new.records ≡ old.records ++ k ∷ [] → new.width ≡ Some w → Takes projected g limit old new all left
   record-taken again old new all left line w r k is unread wide low high says kept_is free grown width =
-      let next : Draft = record { width = Some w; rows = old.rows ++ r ∷ [] } in
-      let gives : with_row limit w old.rows (read g w line) ≡ Ok next = ap (with_row limit w old.rows) says ∙ free-row limit w old.rows r free in
+      let next : Draft = record { width = Some w; records = old.records ++ r ∷ [] } in
+      let gives : with_row limit w old.records (read g w line) ≡ Ok next = ap (with_row limit w old.records) says ∙ free-row limit w old.records r free in
       let same : projected r ≡ projected k = sym (ap projected kept_is ∙ again r) in
-      let rows : map projected (old.rows ++ r ∷ []) ≡ map projected new.rows =
-      map-append projected old.rows (r ∷ []) ∙ ap (λ (b : RecordValue). map projected old.rows ++ b ∷ []) same ∙ sym (map-append projected old.rows (k ∷ [])) ∙ ap (map projected) (sym grown) in
-      line-taken old new all left line next is (row-taken g limit (known old) line w (Ok next) unread wide low high gives) (sym width) rows
+      let records : map projected (old.records ++ r ∷ []) ≡ map projected new.records =
+      map-append projected old.records (r ∷ []) ∙ ap (λ (b : RecordValue). map projected old.records ++ b ∷ []) same ∙ sym (map-append projected old.records (k ∷ [])) ∙ ap (map projected) (sym grown) in
+      line-taken old new all left line next is (row-taken g limit (known old) line w (Ok next) unread wide low high gives) (sym width) records
 
   -- a width that is known is one of 3 to 6
   pub known-wide : (old : LinesRead) (w : ℕ) → AreSound projected g limit old → old.width ≡ Some w → (3 ≤ w) × (w ≤ 6)
   known-wide old w sound is =
-      let fit : (3 ≤ w) × (w ≤ 6) × All (IsProjected projected g w) old.rows = subst (λ (o : Option ℕ). MatchOption o (old.rows ≡ []) (λ n. (3 ≤ n) × (n ≤ 6) × All (IsProjected projected g n) old.rows)) is sound.fit in
+      let fit : (3 ≤ w) × (w ≤ 6) × All (IsProjected projected g w) old.records = subst (λ (o : Option ℕ). MatchOption o (old.records ≡ []) (λ n. (3 ≤ n) × (n ≤ 6) × All (IsProjected projected g n) old.records)) is sound.fit in
       (fit.0, fit.1)
 
   -- ---- pieces
@@ -246,11 +246,11 @@ module _ (projected : RecordValue → RecordValue) (g : Sequences) (limit : ℕ)
 
   -- the lines of a piece, once no line is carried on
   pub piece-lines : (old on : Reading) (piece all left back : List ℕ) → piece ≡ all ++ back
-      → ((m : List ℕ) → coming projected g limit old (all ++ m) ≡ coming projected g limit on (left ++ m)) → on.tail ≡ [] → IsEnded left
-      → (more : List ℕ) → coming projected g limit old (piece ++ more) ≡ after projected g limit on.read (lines left ++ lines (back ++ more))
+      → ((m : List ℕ) → read_on projected g limit old (all ++ m) ≡ read_on projected g limit on (left ++ m)) → on.tail ≡ [] → IsEnded left
+      → (more : List ℕ) → read_on projected g limit old (piece ++ more) ≡ after projected g limit on.read (lines left ++ lines (back ++ more))
   piece-lines old on piece all left back is carried none ended more =
-      ap (λ (t : List ℕ). coming projected g limit old (t ++ more)) is
-      ∙ ap (coming projected g limit old) (append_assoc all back more)
+      ap (λ (t : List ℕ). read_on projected g limit old (t ++ more)) is
+      ∙ ap (read_on projected g limit old) (append_assoc all back more)
       ∙ carried (back ++ more)
       ∙ ap (λ (t : List ℕ). after projected g limit on.read (lines (t ++ (left ++ (back ++ more))))) none
       ∙ ap (after projected g limit on.read) (lines-ended left (back ++ more) ended)
@@ -261,28 +261,28 @@ module _ (projected : RecordValue → RecordValue) (g : Sequences) (limit : ℕ)
   begun-sound = record { fit = refl; few = omega arith }
 
   -- what is known of a file before its first byte, if its text remains, is what is known of the text
-  pub whole-file : (empty : ℕ) (text : List ℕ) → finished empty (coming projected g limit begun text) ≡ projected_bed_of projected g empty limit text
-  whole-file empty text = by (after_records g limit 1 (record { width = None; rows = [] }) (lines text))
+  pub whole-file : (empty : ℕ) (text : List ℕ) → finished empty (read_on projected g limit begun text) ≡ projected_bed_of projected g empty limit text
+  whole-file empty text = by (after_records g limit 1 (record { width = None; records = [] }) (lines text))
     where
       by : (r : Result Draft LoadFault) → finished empty (projected_draft projected r) ≡ projected_or_fault projected (finished empty r)
       by (Ok d) = refl
       by (Err f) = refl
 
   -- what is projected stays so
-  pub projected-again : ((r : RecordValue) → projected (projected r) ≡ projected r) → (w : ℕ) (rows : List RecordValue) → All (IsProjected projected g w) rows → map projected rows ≡ rows
+  pub projected-again : ((r : RecordValue) → projected (projected r) ≡ projected r) → (w : ℕ) (records : List RecordValue) → All (IsProjected projected g w) records → map projected records ≡ records
   projected-again again w [] all = refl
-  projected-again again w (k ∷ rows) all =
-      let first : IsProjected projected g w k = All-head (IsProjected projected g w) k rows all in
-      (λ i. (ap projected first.2 ∙ again first.0 ∙ sym first.2) i ∷ projected-again again w rows (All-tail (IsProjected projected g w) k rows all) i)
+  projected-again again w (k ∷ records) all =
+      let first : IsProjected projected g w k = All-head (IsProjected projected g w) k records all in
+      (λ i. (ap projected first.2 ∙ again first.0 ∙ sym first.2) i ∷ projected-again again w records (All-tail (IsProjected projected g w) k records all) i)
 
   -- the width of a file that was read, and what is held of its records
   pub sound-kept : (l : LinesRead) (empty : ℕ) → AreSound projected g limit l → 3 ≤ empty → empty ≤ 6
-      → (3 ≤ unwrap_or l.width empty) × (unwrap_or l.width empty ≤ 6) × All (IsProjected projected g (unwrap_or l.width empty)) l.rows
+      → (3 ≤ unwrap_or l.width empty) × (unwrap_or l.width empty ≤ 6) × All (IsProjected projected g (unwrap_or l.width empty)) l.records
   sound-kept l empty sound low high = by l.width sound.fit
     where
-      by : (o : Option ℕ) → MatchOption o (l.rows ≡ []) (λ k. (3 ≤ k) × (k ≤ 6) × All (IsProjected projected g k) l.rows)
-          → (3 ≤ unwrap_or o empty) × (unwrap_or o empty ≤ 6) × All (IsProjected projected g (unwrap_or o empty)) l.rows
-      by None none = (low, high, subst (λ (rows : List RecordValue). All (IsProjected projected g empty) rows) (sym none) (All-nil (IsProjected projected g empty)))
+      by : (o : Option ℕ) → MatchOption o (l.records ≡ []) (λ k. (3 ≤ k) × (k ≤ 6) × All (IsProjected projected g k) l.records)
+          → (3 ≤ unwrap_or o empty) × (unwrap_or o empty ≤ 6) × All (IsProjected projected g (unwrap_or o empty)) l.records
+      by None none = (low, high, subst (λ (records : List RecordValue). All (IsProjected projected g empty) records) (sym none) (All-nil (IsProjected projected g empty)))
       by (Some k) some = some
 
 -- ---- lines, and what is held of them
@@ -308,7 +308,7 @@ known-at : (width : Option ℕ) (w : ℕ) (line : List ℕ) → width ≡ Some w
 known-at width w line is = sym (ap (λ (o : Option ℕ). unwrap_or o (length (columns line))) is)
 
 -- the record of a line in one pass has the line's interval
-pub short-read : (g : Sequences) (w : ℕ) (text : List ℕ) (l : FastLine) (short : IsFastLine g w text l) → IsReadAt w l short.row
+pub short-read : (g : Sequences) (w : ℕ) (text : List ℕ) (l : FastLine) (short : IsFastLine g w text l) → IsReadAt w l short.feature
 short-read g w text l short = record { genome = g; line = short.line; reads = short.reads; seq_is = short.seq_is; start_is = short.start_is; stop_is = short.stop_is }
 
 module _ {K : Type 0} (held_of : RecordValue → ℕ → K) (g : Sequences) (limit : ℕ) where
@@ -334,11 +334,11 @@ module _ {K : Type 0} (held_of : RecordValue → ℕ → K) (g : Sequences) (lim
   held-taken old new text line size w r one are unread wide low high says fits one_is small free new_is = λ projected row_of s.
       let left = lines (drop size text) in
       let is : row_of one ≡ projected r = ap row_of one_is ∙ ap (λ (n : ℕ). row_of (held_of r n)) (sym (byte-here old.at small)) ∙ s.shows 0 w line left r are says in
-      let rows : map row_of new.kept ≡ map row_of old.kept ++ row_of one ∷ [] = ap (λ (h : Held K). map row_of h.kept) new_is ∙ map-append row_of old.kept (one ∷ []) in
+      let records : map row_of new.kept ≡ map row_of old.kept ++ row_of one ∷ [] = ap (λ (h : Held K). map row_of h.kept) new_is ∙ map-append row_of old.kept (one ∷ []) in
       let width : new.width ≡ Some w = ap (λ (h : Held K). h.width) new_is in
       let few : length (map row_of old.kept) < limit = omega (arith, free, length-map old.kept row_of) in (
-        λ sound. record-sound projected g limit (shown row_of old) (shown row_of new) line w r (row_of one) sound wide low high fits is few rows width,
-        record-taken projected g limit s.again (shown row_of old) (shown row_of new) (lines text) left line w r (row_of one) are unread wide low high says is few rows width,
+        λ sound. record-sound projected g limit (shown row_of old) (shown row_of new) line w r (row_of one) sound wide low high fits is few records width,
+        record-taken projected g limit s.again (shown row_of old) (shown row_of new) (lines text) left line w r (row_of one) are unread wide low high says is few records width,
       )
 
   -- a record is one too many
@@ -349,10 +349,10 @@ module _ {K : Type 0} (held_of : RecordValue → ℕ → K) (g : Sequences) (lim
 
   -- the record of a line that is read in one pass was taken, and the width is as it was
   pub short-taken : (old new : Held K) (w : ℕ) (text : List ℕ) (l : FastLine) (one : K) (short : IsFastLine g w text l) → (3 ≤ w) × (w ≤ 6) → old.width ≡ Some w
-      → one ≡ held_of short.row old.at → old.at < 2 ^ 32 → length old.kept < limit → new ≡ record old { width = Some w; kept = old.kept ++ one ∷ [] }
+      → one ≡ held_of short.feature old.at → old.at < 2 ^ 32 → length old.kept < limit → new ≡ record old { width = Some w; kept = old.kept ++ one ∷ [] }
       → TakesLine held_of g limit old new text l.size
   short-taken old new w text l one short wide is one_is small free new_is =
-      held-taken old new text short.line l.size w short.row one short.lines_are short.unread (known-at old.width w short.line is) wide.0 wide.1 short.reads short.fits one_is small free new_is
+      held-taken old new text short.line l.size w short.feature one short.lines_are short.unread (known-at old.width w short.line is) wide.0 wide.1 short.reads short.fits one_is small free new_is
 
   -- the same, if all its columns were read
   pub first-taken : (old new : Held K) (w : ℕ) (text : List ℕ) (r : RecordValue) (size : ℕ) (one : K) → IsFirstLine g w text r size → (3 ≤ w) × (w ≤ 6) → old.width ≡ Some w
@@ -364,14 +364,14 @@ module _ {K : Type 0} (held_of : RecordValue → ℕ → K) (g : Sequences) (lim
       subst (λ n. (0 < n) × (n ≤ length text) × TakesLine held_of g limit old new text n) first.3 (
         short.some,
         short.within,
-        short-taken old new w text l one short wide is (one_is ∙ ap (λ (row : RecordValue). held_of row old.at) (sym first.2)) small free new_is,
+        short-taken old new w text l one short wide is (one_is ∙ ap (λ (feature : RecordValue). held_of feature old.at) (sym first.2)) small free new_is,
       )
 
   -- it is one too many
   pub short-full : (old : Held K) (w : ℕ) (text : List ℕ) (l : FastLine) → IsFastLine g w text l → (3 ≤ w) × (w ≤ 6) → old.width ≡ Some w → limit ≤ length old.kept
       → RefusesLine held_of g limit old text cause.TooMany
   short-full old w text l short wide is full =
-      held-full old text short.line l.size w short.row short.lines_are short.unread (known-at old.width w short.line is) wide.0 wide.1 short.reads full
+      held-full old text short.line l.size w short.feature short.lines_are short.unread (known-at old.width w short.line is) wide.0 wide.1 short.reads full
 
   -- ---- line after line
 
@@ -431,21 +431,21 @@ module _ {K : Type 0} (held_of : RecordValue → ℕ → K) (g : Sequences) (lim
     refused-so old text f refuses = refuses projected as_record (stands-so old.at text)
 
 -- if all columns are held, records are as they were
-pub rows-all : (rows : List RecordValue) → map (λ r. r) rows ≡ rows
+pub rows-all : (records : List RecordValue) → map (λ r. r) records ≡ records
 rows-all [] = refl
-rows-all (r ∷ rows) = ap (λ (rest : List RecordValue). r ∷ rest) (rows-all rows)
+rows-all (r ∷ records) = ap (λ (rest : List RecordValue). r ∷ rest) (rows-all records)
 
 -- and so is a file
 pub kept-all : (file : Result Bed LoadFault) → projected_or_fault (λ r. r) file ≡ file
-kept-all (Ok b) = ap (λ (rows : List RecordValue). Ok (record { width = b.width; rows = rows })) (rows-all b.rows)
+kept-all (Ok b) = ap (λ (records : List RecordValue). Ok (record { width = b.width; records = records })) (rows-all b.records)
 kept-all (Err f) = refl
 
 -- so they fit the genome
-pub fit-all : (g : Sequences) (w : ℕ) (rows : List RecordValue) → All (IsProjected (λ r. r) g w) rows → All (Fits g w) rows
+pub fit-all : (g : Sequences) (w : ℕ) (records : List RecordValue) → All (IsProjected (λ r. r) g w) records → All (Fits g w) records
 fit-all g w [] all = All-nil (Fits g w)
-fit-all g w (k ∷ rows) all =
-    let first : IsProjected (λ r. r) g w k = All-head (IsProjected (λ r. r) g w) k rows all in
-    All-cons (Fits g w) k rows (subst (Fits g w) (sym first.2) first.1) (fit-all g w rows (All-tail (IsProjected (λ r. r) g w) k rows all))
+fit-all g w (k ∷ records) all =
+    let first : IsProjected (λ r. r) g w k = All-head (IsProjected (λ r. r) g w) k records all in
+    All-cons (Fits g w) k records (subst (Fits g w) (sym first.2) first.1) (fit-all g w records (All-tail (IsProjected (λ r. r) g w) k records all))
 
 -- what follows from an error follows if it is handed on
 pub handed-on : {T E : Type 0} (r : Result T E) (f : E) (P : E → Type 0) → IsErrAnd r (λ e. e ≡ f) → P f → IfErr r P

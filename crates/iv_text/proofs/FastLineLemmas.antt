@@ -290,7 +290,7 @@ first-alone text some = grind (arith, common_steps)
 
 pub short-line : (g : Sequences) (w : ℕ) (text next : List ℕ) (l : FastLine) (rest name score strand end : List ℕ) → BeginsWithInterval g text l.seq l.start l.stop rest → BeginsWithCells w rest name score strand end
     → (end ≡ 10 ∷ next) ⊎ (end ≡ 13 ∷ 10 ∷ next) → l.size ≡ length text - length next
-    → (short : IsFastLine g w text l) × (short.row ≡ record_of l.seq l.start l.stop name score (strand_of strand) w)
+    → (short : IsFastLine g w text l) × (short.feature ≡ record_of l.seq l.start l.stop name score (strand_of strand) w)
 short-line g w text next l rest name score strand end place after feed size_is =
     let cells : List (List ℕ) = after.cells in
     let tail : List ℕ = place.stops ++ laid cells in
@@ -319,7 +319,7 @@ short-line g w text next l rest name score strand end place after feed size_is =
     } in
     let short : IsFastLine g w text l = record {
       line = line;
-      row = record_of l.seq l.start l.stop name score (strand_of strand) w;
+      feature = record_of l.seq l.start l.stop name score (strand_of strand) w;
       lines_are = ap lines text_is ∙ ends.3 ∙ ap (λ (t : List ℕ). line ∷ lines t) (sym (ap (drop l.size) (text_is ∙ ends.2) ∙ sized.1));
       some = omega (arith, ends.1, sized.0);
       within = omega arith;

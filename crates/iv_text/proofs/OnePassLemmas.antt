@@ -23,7 +23,7 @@ use Rattle.iv_text.specs.declared.fault.Fault.TheVariants as fault
 use Rattle.std.specs.Cmp.Lexicographic.{same_text, pointwise}
 use Rattle.iv_text.specs.Genome.{Sequences, length_at}
 use Rattle.iv_text.specs.Named.{name_index}
-use Rattle.iv_text.specs.Read.{read, row, column, has_fault, faults, bad_text, number_in, length_of, AreSound}
+use Rattle.iv_text.specs.Read.{read, feature, column, has_fault, faults, bad_text, number_in, length_of, AreSound}
 use Rattle.iv_text.specs.Chains.{unless_fault}
 use Rattle.iv_text.specs.Inside.Read.{AreColumns}
 use Rattle.iv_text.specs.RecordValue.{RecordValue, IsRecord, strand_of}
@@ -170,7 +170,7 @@ sound-line : (g : Sequences) (w : ℕ) (line seq start stop name score sixth : L
     → read g w line ≡ Ok (record_of rank from to name score strand w)
 sound-line g w line seq start stop name score sixth rank from to len strand cols rank_is length_is start_is stop_is strand_is some within sound =
     let cs = columns line in
-    let r : RecordValue = row g w cs in
+    let r : RecordValue = feature g w cs in
     let ranked : name_index g (column cs 0) ≡ Some rank = ap (name_index g) cols.seq_is ∙ rank_is in
     let starts : number (column cs 1) ≡ Some from = ap number cols.start_is ∙ start_is in
     let stops : number (column cs 2) ≡ Some to = ap number cols.stop_is ∙ stop_is in
@@ -235,7 +235,7 @@ read-ranked g w line r says = by (name_index g (column (columns line) 0)) refl (
   where
     by : (o : Option ℕ) → name_index g (column (columns line) 0) ≡ o → (b : Bool) → has_fault g w (columns line) fault.Columns ≡ b → name_index g (column (columns line) 0) ≡ Some r.seq
     by (Some k) is b many =
-        is ∙ ap Some (sym (ap (λ (o : Option ℕ). unwrap_or o 0) is) ∙ ap (λ (q : RecordValue). q.seq) (or_fault-ok (find (has_fault g w (columns line)) faults) (row g w (columns line)) r says))
-    by None is true many = absurd (or_fault-hit (find (has_fault g w (columns line)) faults) fault.Columns (row g w (columns line)) r (hit (has_fault g w (columns line)) fault.Columns (fault.UnknownSeq ∷ later_faults) many) says)
-    by None is false many = absurd (or_fault-hit (find (has_fault g w (columns line)) faults) fault.UnknownSeq (row g w (columns line)) r
+        is ∙ ap Some (sym (ap (λ (o : Option ℕ). unwrap_or o 0) is) ∙ ap (λ (q : RecordValue). q.seq) (or_fault-ok (find (has_fault g w (columns line)) faults) (feature g w (columns line)) r says))
+    by None is true many = absurd (or_fault-hit (find (has_fault g w (columns line)) faults) fault.Columns (feature g w (columns line)) r (hit (has_fault g w (columns line)) fault.Columns (fault.UnknownSeq ∷ later_faults) many) says)
+    by None is false many = absurd (or_fault-hit (find (has_fault g w (columns line)) faults) fault.UnknownSeq (feature g w (columns line)) r
         (skip (has_fault g w (columns line)) fault.Columns (fault.UnknownSeq ∷ later_faults) many ∙ hit (has_fault g w (columns line)) fault.UnknownSeq later_faults (ap is_none is)) says)

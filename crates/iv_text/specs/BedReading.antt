@@ -16,7 +16,7 @@ after_records g limit n d lines = after_all (λ n. after_record g limit) n d lin
 
 -- the file that is known, or its fault: one without a record has the width that is handed in
 abbrev pub finished : ℕ → Result Draft LoadFault → Result Bed LoadFault
-finished empty known = if_ok known (λ d. Ok (record { width = unwrap_or d.width empty; rows = d.rows }))
+finished empty known = if_ok known (λ d. Ok (record { width = unwrap_or d.width empty; records = d.records }))
 
 -- the record is that of some line of this width, and its interval is that of the line that was read in one pass
 pub record IsReadAt (width : ℕ) (l : FastLine) (r : RecordValue) : Type 0 where
@@ -29,7 +29,7 @@ pub record IsReadAt (width : ℕ) (l : FastLine) (r : RecordValue) : Type 0 wher
 
 -- a file with its records projected
 abbrev pub projected_bed : (RecordValue → RecordValue) → Bed → Bed
-projected_bed projected b = record { width = b.width; rows = map projected b.rows }
+projected_bed projected b = record { width = b.width; records = map projected b.records }
 
 -- or the file's fault
 abbrev pub projected_or_fault : (RecordValue → RecordValue) → Result Bed LoadFault → Result Bed LoadFault
@@ -44,15 +44,15 @@ projected_bed_of projected g empty limit text = projected_or_fault projected (be
 pub record LinesRead : Type 0 where
   pub number : ℕ
   pub width : Option ℕ
-  pub rows : List RecordValue
+  pub records : List RecordValue
 
 -- what is known of the file, with its records projected
 abbrev pub known : LinesRead → Draft
-known l = record { width = l.width; rows = l.rows }
+known l = record { width = l.width; records = l.records }
 
 -- what is known of a file, with its records projected, or its first fault
 abbrev pub projected_draft : (RecordValue → RecordValue) → Result Draft LoadFault → Result Draft LoadFault
-projected_draft projected (Ok d) = Ok (record { width = d.width; rows = map projected d.rows })
+projected_draft projected (Ok d) = Ok (record { width = d.width; records = map projected d.records })
 projected_draft projected (Err f) = Err f
 
 -- what is known after these lines too, with records projected, or the first fault
@@ -66,8 +66,8 @@ IsProjected projected g width k = (r : RecordValue) × Fits g width r × (k ≡ 
 -- what was read is sound: its width is 3 to 6, once there is a record; its records are projections of records of that width on the
 -- genome; and they aren't more than the limit
 pub record AreSound (projected : RecordValue → RecordValue) (g : Sequences) (limit : ℕ) (l : LinesRead) : Type 0 where
-  pub fit : MatchOption l.width (l.rows ≡ []) (λ w. (3 ≤ w) × (w ≤ 6) × All (IsProjected projected g w) l.rows)
-  pub few : length l.rows ≤ limit
+  pub fit : MatchOption l.width (l.records ≡ []) (λ w. (3 ≤ w) × (w ≤ 6) × All (IsProjected projected g w) l.records)
+  pub few : length l.records ≤ limit
 
 -- the byte at which a line begins, so many bytes after another, counted with 32 bits
 abbrev pub byte_after : ℕ → ℕ → ℕ
@@ -91,7 +91,7 @@ none_held = record { number = 1; at = 0; width = None; kept = [] }
 
 -- the same lines, if this is the record that each item represents
 abbrev pub shown : {K : Type 0} → (K → RecordValue) → Held K → LinesRead
-shown row_of h = record { number = h.number; width = h.width; rows = map row_of h.kept }
+shown row_of h = record { number = h.number; width = h.width; records = map row_of h.kept }
 
 module _ {K : Type 0} (held_of : RecordValue → ℕ → K) (g : Sequences) where
   -- a way to show items as records: the item of a record in this text, whose first line begins at this byte, shows as its projection
@@ -118,11 +118,11 @@ pub record Reading : Type 0 where
 
 -- a file of which no byte was read
 abbrev pub begun : Reading
-begun = record { read = record { number = 1; width = None; rows = [] }; tail = [] }
+begun = record { read = record { number = 1; width = None; records = [] }; tail = [] }
 
 -- what is known of the file once these remaining bytes are read, with its records projected, or its first fault
-abbrev pub coming : (RecordValue → RecordValue) → Sequences → ℕ → Reading → List ℕ → Result Draft LoadFault
-coming projected g limit r more = after projected g limit r.read (lines (r.tail ++ more))
+abbrev pub read_on : (RecordValue → RecordValue) → Sequences → ℕ → Reading → List ℕ → Result Draft LoadFault
+read_on projected g limit r more = after projected g limit r.read (lines (r.tail ++ more))
 
 -- more than the number of lines that were read, and at most one more than the number of bytes
 abbrev pub size_of : Reading → ℕ

@@ -4,7 +4,7 @@ use Rattle.iv_text.specs.RecordValue.{RecordValue}
 
 -- the records on the sequence of this rank
 abbrev pub on : ℕ → List RecordValue → List RecordValue
-on sequence rows = filter (λ r. r.seq == sequence) rows
+on sequence records = filter (λ r. r.seq == sequence) records
 
 -- the record covers position p, from 0, of the sequence of this rank
 abbrev pub covers : ℕ → ℕ → RecordValue → Bool

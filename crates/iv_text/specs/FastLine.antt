@@ -10,13 +10,13 @@ use Rattle.iv_text.specs.declared.record_reader.FastLine.{FastLine}
 -- the first line of the text has a record of this width with this interval, and the next line begins so many bytes further on
 pub record IsFastLine (g : Sequences) (width : ℕ) (text : List ℕ) (l : FastLine) : Type 0 where
   pub line : List ℕ
-  pub row : RecordValue
+  pub feature : RecordValue
   pub lines_are : lines text ≡ line ∷ lines (drop l.size text)
   pub some : 0 < l.size
   pub within : l.size ≤ length text
   pub unread : is_unread line ≡ false
-  pub reads : read g width line ≡ Ok row
-  pub seq_is : l.seq ≡ row.seq
-  pub start_is : l.start ≡ row.start
-  pub stop_is : l.stop ≡ row.stop
-  pub fits : Fits g width row
+  pub reads : read g width line ≡ Ok feature
+  pub seq_is : l.seq ≡ feature.seq
+  pub start_is : l.start ≡ feature.start
+  pub stop_is : l.stop ≡ feature.stop
+  pub fits : Fits g width feature

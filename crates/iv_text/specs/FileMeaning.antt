@@ -4,7 +4,7 @@ use Rattle.iv_text.specs.Fields.{columns}
 use Rattle.iv_text.specs.Genome.{Sequences}
 use Rattle.iv_text.specs.GenomeFile.{is_skipped, has_cause, causes, sequence}
 use Rattle.iv_text.specs.RecordValue.{RecordValue}
-use Rattle.iv_text.specs.Read.{has_fault, faults, row}
+use Rattle.iv_text.specs.Read.{has_fault, faults, feature}
 use Rattle.iv_text.specs.BedFile.{is_unread, is_width, Bed}
 use Rattle.iv_text.specs.declared.fault.LoadCause.{LoadCause}
 use Rattle.iv_text.specs.declared.fault.LoadCause.TheVariants as cause
@@ -42,11 +42,11 @@ first_width lines = option_map (λ line. length (columns line)) (slice_get (reco
 
 -- the records of lines, all of that width
 abbrev pub records_of : Sequences → List (List ℕ) → List RecordValue
-records_of g lines = map (λ line. row g (unwrap_or (first_width lines) 0) (columns line)) (record_lines lines)
+records_of g lines = map (λ line. feature g (unwrap_or (first_width lines) 0) (columns line)) (record_lines lines)
 
 -- the BED file of lines; if none has a record, its width is the one handed in
 abbrev pub bed_from : Sequences → ℕ → List (List ℕ) → Bed
-bed_from g empty lines = record { width = unwrap_or (first_width lines) empty; rows = records_of g lines }
+bed_from g empty lines = record { width = unwrap_or (first_width lines) empty; records = records_of g lines }
 
 -- the width for a line after these lines: theirs, or the number of its own columns if none of them has a record
 abbrev pub width_after : List (List ℕ) → List ℕ → ℕ

@@ -23,7 +23,7 @@ impl<A: Allocator> Model for BedBatches<A> {
 
     ghost Value = { Bed };
 
-    ghost view = { λ b. record { width = b.width; rows = b.records } };
+    ghost view = { λ b. record { width = b.width; records = b.records } };
 
     ghost invariant = { λ b. IsWidth b.width };
 }
@@ -32,7 +32,7 @@ impl<A: Allocator> BedBatches<A> {
     /// The BED file of records of so many columns, 3 to 6.
     pub fn of(width: u8, records: Batches<Record<A>, A>) -> BedBatches<A>
         requires { IsWidth width }
-        ensures { result ≡ record { width = width; rows = records } }
+        ensures { result ≡ record { width = width; records = records } }
     {
         BedBatches { width, records }
     }
@@ -47,7 +47,7 @@ impl<A: Allocator> BedBatches<A> {
 
     /// The records, in the order of the file.
     pub fn into_records(self) -> Batches<Record<A>, A>
-        ensures { result ≡ self.rows }
+        ensures { result ≡ self.records }
     {
         let BedBatches { width: _, records } = self;
         records

@@ -1,7 +1,7 @@
 //! A BED file that comes in pieces.
 ghost use Rattle.std.specs.Prelude.{◌≡◌, ◌<◌, ◌≤◌, ◌+◌, ◌^◌, ◌⊎◌, ◌++◌, ℕ, List, [], length, drop, take, map, Ok, Err, All, IfOk, IfErr, OnOk};
 ghost use Rattle.iv_text.specs.declared.fault.LoadCause.TheVariants as cause;
-ghost use Rattle.iv_text.specs.BedReading.{AreSound, IsProjected, begun, coming, size_of, finished};
+ghost use Rattle.iv_text.specs.BedReading.{AreSound, IsProjected, begun, read_on, size_of, finished};
 ghost use Rattle.iv_text.specs.Inside.BedReading.{IsEnded, EndsAtFeed};
 ghost use Rattle.iv_text.specs.Widths.{IsWidth};
 
@@ -103,8 +103,8 @@ impl<K: FromRecord<A>, A: Allocator + Copy> BedReader<K, A> {
         requires few { size_of self.old + length piece.now < 2 ^ 64 }
         ensures sound { OnOk result (AreSound K.projected genome.now limit self.new.read) }
         ensures few { OnOk result (size_of self.new ≤ size_of self.old + length piece.now) }
-        ensures ok { OnOk result ((more : List ℕ) → coming K.projected genome.now limit self.old (piece.now ++ more) ≡ coming K.projected genome.now limit self.new more) }
-        ensures err { IfErr result (λ f. (f ≡ record { line = 0; cause = cause.Memory }) ⊎ ((more : List ℕ) → coming K.projected genome.now limit self.old (piece.now ++ more) ≡ Err f)) }
+        ensures ok { OnOk result ((more : List ℕ) → read_on K.projected genome.now limit self.old (piece.now ++ more) ≡ read_on K.projected genome.now limit self.new more) }
+        ensures err { IfErr result (λ f. (f ≡ record { line = 0; cause = cause.Memory }) ⊎ ((more : List ℕ) → read_on K.projected genome.now limit self.old (piece.now ++ more) ≡ Err f)) }
     {
         let end = last_end(piece);
         if end == 0 {
@@ -130,8 +130,8 @@ impl<K: FromRecord<A>, A: Allocator + Copy> BedReader<K, A> {
         ensures few { IfOk result (λ taken. self.new.read.number ≤ size_of self.old + taken) }
         ensures tail { OnOk result (self.new.tail ≡ []) }
         ensures ended { IfOk result (λ taken. IsEnded (drop taken lines.now)) }
-        ensures ok { IfOk result (λ taken. (more : List ℕ) → coming K.projected genome.now limit self.old (lines.now ++ more) ≡ coming K.projected genome.now limit self.new (drop taken lines.now ++ more)) }
-        ensures err { IfErr result (λ f. (f ≡ record { line = 0; cause = cause.Memory }) ⊎ ((more : List ℕ) → coming K.projected genome.now limit self.old (lines.now ++ more) ≡ Err f)) }
+        ensures ok { IfOk result (λ taken. (more : List ℕ) → read_on K.projected genome.now limit self.old (lines.now ++ more) ≡ read_on K.projected genome.now limit self.new (drop taken lines.now ++ more)) }
+        ensures err { IfErr result (λ f. (f ≡ record { line = 0; cause = cause.Memory }) ⊎ ((more : List ℕ) → read_on K.projected genome.now limit self.old (lines.now ++ more) ≡ Err f)) }
     {
         if self.tail.is_empty() {
             return Ok(0);
@@ -159,11 +159,11 @@ impl<K: FromRecord<A>, A: Allocator + Copy> BedReader<K, A> {
         requires width { IsWidth empty_width }
         requires sound { AreSound K.projected genome.now limit self.read }
         requires few { size_of self < 2 ^ 64 }
-        ensures ok { IfOk result (λ file. finished empty_width (coming K.projected genome.now limit self []) ≡ Ok (record { width = file.0; rows = map K.as_record file.1 })) }
+        ensures ok { IfOk result (λ file. finished empty_width (read_on K.projected genome.now limit self []) ≡ Ok (record { width = file.0; records = map K.as_record file.1 })) }
         ensures width { IfOk result (λ file. IsWidth file.0) }
         ensures kept { IfOk result (λ file. All (IsProjected K.projected genome.now file.0) (map K.as_record file.1)) }
         ensures few { IfOk result (λ file. length file.1 ≤ limit) }
-        ensures err { IfErr result (λ f. (f ≡ record { line = 0; cause = cause.Memory }) ⊎ (coming K.projected genome.now limit self [] ≡ Err f)) }
+        ensures err { IfErr result (λ f. (f ≡ record { line = 0; cause = cause.Memory }) ⊎ (read_on K.projected genome.now limit self [] ≡ Err f)) }
     {
         let BedReader {
             alloc,

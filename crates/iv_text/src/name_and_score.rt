@@ -7,7 +7,7 @@ use std::marker::Model;
 /// A name and a score. It has 16 bytes, so that a record has 32. Without bytes it takes no memory.
 #[derive(Drop)]
 pub(crate) struct NameAndScore<A: Allocator = Global> {
-    place: Storage<A>,
+    storage: Storage<A>,
 }
 
 /// Where the bytes lie, by how many there are.
@@ -34,7 +34,7 @@ impl<A: Allocator> Model for NameAndScore<A> {
 
     ghost Value = { List ℕ × List ℕ };
 
-    ghost view = { λ t. texts_at t.place };
+    ghost view = { λ t. texts_at t.storage };
 }
 
 impl<A: Allocator> NameAndScore<A> {
@@ -42,14 +42,14 @@ impl<A: Allocator> NameAndScore<A> {
         ensures { result ≡ ([], []) }
     {
         NameAndScore {
-            place: Storage::Empty,
+            storage: Storage::Empty,
         }
     }
 
     pub(crate) fn name(&self) -> &[u8]
         ensures { result.now ≡ self.now.0 }
     {
-        match &self.place {
+        match &self.storage {
             Storage::Empty => &[],
             Storage::Short(texts) => texts.name(),
             Storage::Medium(texts) => texts.name(),
@@ -60,7 +60,7 @@ impl<A: Allocator> NameAndScore<A> {
     pub(crate) fn score(&self) -> &[u8]
         ensures { result.now ≡ self.now.1 }
     {
-        match &self.place {
+        match &self.storage {
             Storage::Empty => &[],
             Storage::Short(texts) => texts.score(),
             Storage::Medium(texts) => texts.score(),
@@ -76,13 +76,13 @@ impl<A: Allocator + Copy> NameAndScore<A> {
         ensures ok { IfOk result (λ t. t ≡ (name.now, score.now)) }
         ensures free { name.now ≡ [] → score.now ≡ [] → IsOk result }
     {
-        let place = match name.len() + score.len() {
+        let storage = match name.len() + score.len() {
             0 => Storage::Empty,
             ..=SHORT => Storage::Short(Box::new(alloc, BoundedTexts::copy_of(name, score))?),
             ..=MEDIUM => Storage::Medium(Box::new(alloc, BoundedTexts::copy_of(name, score))?),
             _ => Storage::Long(Box::new(alloc, LongTexts::copy_of(alloc, name, score)?)?),
         };
-        Ok(NameAndScore { place })
+        Ok(NameAndScore { storage })
     }
 }
 

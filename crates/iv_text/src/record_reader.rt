@@ -409,14 +409,14 @@ impl<'g, 't, A: Allocator + Copy> RecordReader<'g, 't, A> {
         ensures value { result ≡ read self.old width line.now }
         ensures fits { IfOk result (λ r. Fits self.old width r) }
     {
-        if let Some(row) = self.read_again(width, line) {
-            return Ok(row);
+        if let Some(feature) = self.read_again(width, line) {
+            return Ok(feature);
         }
-        let row = read_record(self.genome, width, line)?;
-        self.last = named_by(self.genome, line, row.rank);
+        let feature = read_record(self.genome, width, line)?;
+        self.last = named_by(self.genome, line, feature.rank);
         if let Some(named) = self.last {
             self.known[slot_of(named.name)] = self.last;
         }
-        Ok(row)
+        Ok(feature)
     }
 }

@@ -26,22 +26,22 @@ pub fn strand_bytes<'t>(strand: Option<Strand>) -> &'t [u8]
 fn put_interval_of<S: Sink, A: Allocator + Copy>(
     sink: &mut S,
     genome: &Genome<A>,
-    row: &RecordRef<'_>,
+    feature: &RecordRef<'_>,
 ) -> Result<(), WriteFault>
-    ensures { Puts (S.state sink.old) (S.state sink.new) result (interval_columns genome.now row.now) }
+    ensures { Puts (S.state sink.old) (S.state sink.new) result (interval_columns genome.now feature.now) }
 {
-    let name = genome.name_of(row.seq());
-    RowBuffer::new().put_after_numbers(name, row.start(), row.stop(), sink)
+    let name = genome.name_of(feature.seq());
+    RowBuffer::new().put_after_numbers(name, feature.start(), feature.stop(), sink)
 }
 
 /// Puts a record's columns after the third, each with a TAB in front of it.
-fn put_rest<S: Sink>(sink: &mut S, row: &RecordRef<'_>) -> Result<(), WriteFault>
-    ensures { Puts (S.state sink.old) (S.state sink.new) result (rest_text row.now) }
+fn put_rest<S: Sink>(sink: &mut S, feature: &RecordRef<'_>) -> Result<(), WriteFault>
+    ensures { Puts (S.state sink.old) (S.state sink.new) result (rest_text feature.now) }
 {
-    let name = row.name();
-    let score = row.score();
-    let strand = strand_bytes(row.strand());
-    match row.width() {
+    let name = feature.name();
+    let score = feature.score();
+    let strand = strand_bytes(feature.strand());
+    match feature.width() {
         0..=3 => put_pieces(sink, &[]),
         4 => put_pieces(sink, &[b"\t", name]),
         5 => put_pieces(sink, &[b"\t", name, b"\t", score]),
@@ -53,31 +53,31 @@ fn put_rest<S: Sink>(sink: &mut S, row: &RecordRef<'_>) -> Result<(), WriteFault
 fn put_columns<S: Sink, A: Allocator + Copy>(
     sink: &mut S,
     genome: &Genome<A>,
-    row: &RecordRef<'_>,
+    feature: &RecordRef<'_>,
 ) -> Result<(), WriteFault>
-    ensures { Puts (S.state sink.old) (S.state sink.new) result (record_text genome.now row.now) }
+    ensures { Puts (S.state sink.old) (S.state sink.new) result (record_text genome.now feature.now) }
 {
-    put_interval_of(sink, genome, row)?;
-    put_rest(sink, row)
+    put_interval_of(sink, genome, feature)?;
+    put_rest(sink, feature)
 }
 
 /// Lays a record's columns after the third, each with a TAB in front of it.
-fn prepend_rest(tail: &mut RowBuffer, row: &RecordRef<'_>)
-    requires short { (length row.now.name ≤ 64) × (length row.now.score ≤ 24) }
+fn prepend_rest(tail: &mut RowBuffer, feature: &RecordRef<'_>)
+    requires short { (length feature.now.name ≤ 64) × (length feature.now.score ≤ 24) }
     requires room { length tail.old ≤ 32 }
-    ensures laid { tail.new ≡ rest_text row.now ++ tail.old }
+    ensures laid { tail.new ≡ rest_text feature.now ++ tail.old }
     ensures len { length tail.new ≤ length tail.old + 92 }
 {
-    if row.width() >= 6 {
-        tail.prepend(strand_bytes(row.strand()));
+    if feature.width() >= 6 {
+        tail.prepend(strand_bytes(feature.strand()));
         tail.prepend_byte(b'\t');
     }
-    if row.width() >= 5 {
-        tail.prepend(row.score());
+    if feature.width() >= 5 {
+        tail.prepend(feature.score());
         tail.prepend_byte(b'\t');
     }
-    if row.width() >= 4 {
-        tail.prepend(row.name());
+    if feature.width() >= 4 {
+        tail.prepend(feature.name());
         tail.prepend_byte(b'\t');
     }
 }
@@ -86,56 +86,56 @@ fn prepend_rest(tail: &mut RowBuffer, row: &RecordRef<'_>)
 fn put_cut<S: Sink, A: Allocator + Copy>(
     sink: &mut S,
     genome: &Genome<A>,
-    row: &RecordRef<'_>,
+    feature: &RecordRef<'_>,
     tail: &mut RowBuffer,
 ) -> Result<(), WriteFault>
-    ensures { Puts (S.state sink.old) (S.state sink.new) result (record_text genome.now row.now ++ tail.old) }
+    ensures { Puts (S.state sink.old) (S.state sink.new) result (record_text genome.now feature.now ++ tail.old) }
 {
-    if tail.len() > 32 || row.name().len() > 64 || row.score().len() > 24 {
-        put_columns(sink, genome, row)?;
+    if tail.len() > 32 || feature.name().len() > 64 || feature.score().len() > 24 {
+        put_columns(sink, genome, feature)?;
         return put_all(sink, tail.as_slice());
     }
-    prepend_rest(tail, row);
-    let name = genome.name_of(row.seq());
-    tail.put_after_numbers(name, row.start(), row.stop(), sink)
+    prepend_rest(tail, feature);
+    let name = genome.name_of(feature.seq());
+    tail.put_after_numbers(name, feature.start(), feature.stop(), sink)
 }
 
 /// Puts a record whose columns after the third are one text, and what is laid after its columns.
 fn put_joined<S: Sink, A: Allocator + Copy>(
     sink: &mut S,
     genome: &Genome<A>,
-    row: &RecordRef<'_>,
+    feature: &RecordRef<'_>,
     joined: &[u8],
     tail: &mut RowBuffer,
 ) -> Result<(), WriteFault>
-    requires { codes "\t" ++ joined.now ≡ rest_text row.now }
-    ensures { Puts (S.state sink.old) (S.state sink.new) result (record_text genome.now row.now ++ tail.old) }
+    requires { codes "\t" ++ joined.now ≡ rest_text feature.now }
+    ensures { Puts (S.state sink.old) (S.state sink.new) result (record_text genome.now feature.now ++ tail.old) }
 {
     // A TAB and both numbers still have room.
     if tail.len() > 32 || joined.len() > 117 {
-        return put_long(sink, genome, row, joined, tail);
+        return put_long(sink, genome, feature, joined, tail);
     }
     tail.prepend(joined);
     tail.prepend_byte(b'\t');
-    let name = genome.name_of(row.seq());
-    tail.put_after_numbers(name, row.start(), row.stop(), sink)
+    let name = genome.name_of(feature.seq());
+    tail.put_after_numbers(name, feature.start(), feature.stop(), sink)
 }
 
 /// Puts what [`put_joined`] does, whatever its length.
 fn put_long<S: Sink, A: Allocator + Copy>(
     sink: &mut S,
     genome: &Genome<A>,
-    row: &RecordRef<'_>,
+    feature: &RecordRef<'_>,
     joined: &[u8],
     tail: &mut RowBuffer,
 ) -> Result<(), WriteFault>
-    requires { codes "\t" ++ joined.now ≡ rest_text row.now }
-    ensures { Puts (S.state sink.old) (S.state sink.new) result (record_text genome.now row.now ++ tail.old) }
+    requires { codes "\t" ++ joined.now ≡ rest_text feature.now }
+    ensures { Puts (S.state sink.old) (S.state sink.new) result (record_text genome.now feature.now ++ tail.old) }
 {
-    let name = genome.name_of(row.seq());
+    let name = genome.name_of(feature.seq());
     let mut front = RowBuffer::new();
     front.prepend_byte(b'\t');
-    front.put_after_numbers(name, row.start(), row.stop(), sink)?;
+    front.put_after_numbers(name, feature.start(), feature.stop(), sink)?;
     tail.put_after(joined, sink)
 }
 
@@ -146,14 +146,14 @@ fn put_long<S: Sink, A: Allocator + Copy>(
 pub fn put_row<S: Sink, A: Allocator + Copy>(
     sink: &mut S,
     genome: &Genome<A>,
-    row: &RecordRef<'_>,
+    feature: &RecordRef<'_>,
     tail: &mut RowBuffer,
 ) -> Result<(), WriteFault>
-    ensures { Puts (S.state sink.old) (S.state sink.new) result (record_text genome.now row.now ++ tail.old) }
+    ensures { Puts (S.state sink.old) (S.state sink.new) result (record_text genome.now feature.now ++ tail.old) }
 {
-    match row.joined() {
-        Some(joined) => put_joined(sink, genome, row, joined, tail),
-        None => put_cut(sink, genome, row, tail),
+    match feature.joined() {
+        Some(joined) => put_joined(sink, genome, feature, joined, tail),
+        None => put_cut(sink, genome, feature, tail),
     }
 }
 
@@ -161,11 +161,11 @@ pub fn put_row<S: Sink, A: Allocator + Copy>(
 pub fn put_record<S: Sink, A: Allocator + Copy>(
     sink: &mut S,
     genome: &Genome<A>,
-    row: &RecordRef<'_>,
+    feature: &RecordRef<'_>,
 ) -> Result<(), WriteFault>
-    ensures { Puts (S.state sink.old) (S.state sink.new) result (record_text genome.now row.now) }
+    ensures { Puts (S.state sink.old) (S.state sink.new) result (record_text genome.now feature.now) }
 {
-    put_row(sink, genome, row, &mut RowBuffer::new())
+    put_row(sink, genome, feature, &mut RowBuffer::new())
 }
 
 /// Puts the line of a record: its columns and a line feed.
@@ -174,13 +174,13 @@ pub fn put_record<S: Sink, A: Allocator + Copy>(
 pub fn put_line<S: Sink, A: Allocator + Copy>(
     sink: &mut S,
     genome: &Genome<A>,
-    row: &RecordRef<'_>,
+    feature: &RecordRef<'_>,
 ) -> Result<(), WriteFault>
-    ensures { Puts (S.state sink.old) (S.state sink.new) result (record_text genome.now row.now ++ codes "\n") }
+    ensures { Puts (S.state sink.old) (S.state sink.new) result (record_text genome.now feature.now ++ codes "\n") }
 {
     let mut tail = RowBuffer::new();
     tail.prepend_byte(b'\n');
-    put_row(sink, genome, row, &mut tail)
+    put_row(sink, genome, feature, &mut tail)
 }
 
 /// Puts the line of a record with a number after its columns.
@@ -189,14 +189,14 @@ pub fn put_line<S: Sink, A: Allocator + Copy>(
 pub fn put_numbered<S: Sink, A: Allocator + Copy>(
     sink: &mut S,
     genome: &Genome<A>,
-    row: &RecordRef<'_>,
+    feature: &RecordRef<'_>,
     number: u64,
 ) -> Result<(), WriteFault>
-    ensures { Puts (S.state sink.old) (S.state sink.new) result (record_text genome.now row.now ++ codes "\t" ++ decimal number ++ codes "\n") }
+    ensures { Puts (S.state sink.old) (S.state sink.new) result (record_text genome.now feature.now ++ codes "\t" ++ decimal number ++ codes "\n") }
 {
     let mut tail = RowBuffer::new();
     tail.prepend_byte(b'\n');
     tail.prepend_number(number);
     tail.prepend_byte(b'\t');
-    put_row(sink, genome, row, &mut tail)
+    put_row(sink, genome, feature, &mut tail)
 }

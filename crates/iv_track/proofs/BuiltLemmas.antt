@@ -39,8 +39,8 @@ module _ {K : Type 0} (P : K → Type 0) where
   )
 
 -- a map with the values of the counted entries of a list in order
-module _ (es gs : List (RecordValue × ℕ)) (rows : List RecordValue) (c : AreCounted es rows) (s : IsLedger record_cmp gs) (same : (k : RecordValue) → value_at record_cmp gs k ≡ value_at record_cmp es k) where
-  built_rows : expanded gs ≡ rows
+module _ (es gs : List (RecordValue × ℕ)) (records : List RecordValue) (c : AreCounted es records) (s : IsLedger record_cmp gs) (same : (k : RecordValue) → value_at record_cmp gs k ≡ value_at record_cmp es k) where
+  built_rows : expanded gs ≡ records
   built_rows =
       one_list record_cmp records_total rows_exact (expanded gs) (expanded es) (in_order-expanded record_cmp records_total gs s) (in_order-expanded record_cmp records_total es c.ordered)
       (λ k. copies-expanded record_cmp records_total gs k s ∙ ap (λ o. unwrap_or o 0) (same k) ∙ sym (copies-expanded record_cmp records_total es k c.ordered))
@@ -51,7 +51,7 @@ module _ (es gs : List (RecordValue × ℕ)) (rows : List RecordValue) (c : AreC
       All-values_from_lookup (eq_by_cmp_equiv records_total) (λ n. 0 < n) gs (IsDistinct-from_sorted record_cmp (keys_of gs) s)
       (λ q. subst (λ o. IfSome o (λ n. 0 < n)) (sym (same q)) (IfSome-lookup_from_All (λ n. 0 < n) (is_at (record_cmp q)) es c.present))
 
-  built_counted : AreCounted gs rows
+  built_counted : AreCounted gs records
   built_counted = record {
     rows_are = built_rows;
     ordered = s;
@@ -60,20 +60,20 @@ module _ (es gs : List (RecordValue × ℕ)) (rows : List RecordValue) (c : AreC
   }
 
 -- the map that was built from the entries of a list, in the order of a track, if it was
-pub given-built : {E : Type 0} (rows : List RecordValue) (left : List (RecordValue × ℕ)) → left ≡ grouped record_cmp (ordered rows) → (r : Result (List (RecordValue × ℕ)) E)
+pub given-built : {E : Type 0} (records : List RecordValue) (left : List (RecordValue × ℕ)) → left ≡ grouped record_cmp (ordered records) → (r : Result (List (RecordValue × ℕ)) E)
     → IfOk r (λ gs. (es : List (RecordValue × ℕ)) × Drains GivesEntry left es × ((k : RecordValue) → value_at record_cmp gs k ≡ value_at record_cmp es k))
-    → IfOk r (λ gs. IsLedger record_cmp gs) → IfOk r (λ gs. AreCounted gs (ordered rows))
-given-built rows left is (Ok gs) values s = built_counted values.0 gs (ordered rows) (ordered-counted rows left values.0 is values.1) s values.2
-given-built rows left is (Err e) values s = tt
+    → IfOk r (λ gs. IsLedger record_cmp gs) → IfOk r (λ gs. AreCounted gs (ordered records))
+given-built records left is (Ok gs) values s = built_counted values.0 gs (ordered records) (ordered-counted records left values.0 is values.1) s values.2
+given-built records left is (Err e) values s = tt
 
 -- the counted entries of records are the map of a track
-pub counted_track : (es : List (RecordValue × ℕ)) (rows : List RecordValue) (len width limit : ℕ) → AreCounted es rows → len ≡ length rows → All (λ (q : RecordValue). q.width ≡ width) rows → len ≤ limit → limit ≤ most_records → IsTrack es len width limit
-counted_track es rows len width limit c is widths room bounded =
+pub counted_track : (es : List (RecordValue × ℕ)) (records : List RecordValue) (len width limit : ℕ) → AreCounted es records → len ≡ length records → All (λ (q : RecordValue). q.width ≡ width) records → len ≤ limit → limit ≤ most_records → IsTrack es len width limit
+counted_track es records len width limit c is widths room bounded =
     let W : RecordValue → Type 0 = λ q. q.width ≡ width in
     record {
       ordered = c.ordered;
       present = c.present;
-      widths = All-from_recursion W (keys_of es) (keys-expanded W es c.present (subst (AllByRecursion W) (sym c.rows_are) (recursion_from_All W rows widths)));
+      widths = All-from_recursion W (keys_of es) (keys-expanded W es c.present (subst (AllByRecursion W) (sym c.rows_are) (recursion_from_All W records widths)));
       placed = c.placed;
       len_is = omega (arith, is, ap length c.rows_are, length-expanded es);
       room = omega arith;

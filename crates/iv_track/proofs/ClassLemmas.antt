@@ -67,63 +67,63 @@ classes-none counts e = record {
     ]
 
 -- no class has more records than there are
-pub classes-room : (counts : List ℕ) (rows : List RecordValue) (k : ℕ) → AreClasses counts rows → slice_index_or counts k 0 ≤ length rows
-classes-room counts rows k a = omega (arith, a.counted k, count_by-le-length (λ r. length_class r == k) rows)
+pub classes-room : (counts : List ℕ) (records : List RecordValue) (k : ℕ) → AreClasses counts records → slice_index_or counts k 0 ≤ length records
+classes-room counts records k a = omega (arith, a.counted k, count_by-le-length (λ r. length_class r == k) records)
 
-pub classes-added : (counts : List ℕ) (rows : List RecordValue) (r : RecordValue) → AreClasses counts rows → length_class r < 33
-    → AreClasses (slice_set counts (length_class r) (slice_index_or counts (length_class r) 0 + 1)) (added rows r)
-classes-added counts rows r a within = record {
+pub classes-added : (counts : List ℕ) (records : List RecordValue) (r : RecordValue) → AreClasses counts records → length_class r < 33
+    → AreClasses (slice_set counts (length_class r) (slice_index_or counts (length_class r) 0 + 1)) (added records r)
+classes-added counts records r a within = record {
   classes = length-set counts (length_class r) (slice_index_or counts (length_class r) 0 + 1) ∙ a.classes;
-  counted = λ k. omega (arith, raised counts (length_class r) 1 k (omega (arith, a.classes, within)), a.counted k, count-added record_cmp (λ q. length_class q == k) rows r);
+  counted = λ k. omega (arith, raised counts (length_class r) 1 k (omega (arith, a.classes, within)), a.counted k, count-added record_cmp (λ q. length_class q == k) records r);
 }
 
-with_class-removed : (rows : List RecordValue) (r : RecordValue) (k : ℕ) → AreInOrder rows → 0 < copies rows r
-    → with_class rows k ≡ cond (length_class r == k) 1 0 + with_class (removed rows r) k
-with_class-removed rows r k order there =
-    ap (λ (l : List RecordValue). with_class l k) (added-removed rows r order there) ∙ count-added record_cmp (λ q. length_class q == k) (removed rows r) r
+with_class-removed : (records : List RecordValue) (r : RecordValue) (k : ℕ) → AreInOrder records → 0 < copies records r
+    → with_class records k ≡ cond (length_class r == k) 1 0 + with_class (removed records r) k
+with_class-removed records r k order there =
+    ap (λ (l : List RecordValue). with_class l k) (added-removed records r order there) ∙ count-added record_cmp (λ q. length_class q == k) (removed records r) r
 
 -- the class of a record that is there is counted
-pub classes-some : (counts : List ℕ) (rows : List RecordValue) (r : RecordValue) → AreClasses counts rows → AreInOrder rows → 0 < copies rows r → 0 < slice_index_or counts (length_class r) 0
-classes-some counts rows r a order there =
-    omega (arith, a.counted (length_class r), with_class-removed rows r (length_class r) order there, ap {B = ℕ} (λ b. cond b 1 0) (eq-eqb (length_class r) (length_class r) refl))
+pub classes-some : (counts : List ℕ) (records : List RecordValue) (r : RecordValue) → AreClasses counts records → AreInOrder records → 0 < copies records r → 0 < slice_index_or counts (length_class r) 0
+classes-some counts records r a order there =
+    omega (arith, a.counted (length_class r), with_class-removed records r (length_class r) order there, ap {B = ℕ} (λ b. cond b 1 0) (eq-eqb (length_class r) (length_class r) refl))
 
-pub classes-removed : (counts : List ℕ) (rows : List RecordValue) (r : RecordValue) → AreClasses counts rows → AreInOrder rows → 0 < copies rows r → length_class r < 33
-    → AreClasses (slice_set counts (length_class r) (slice_index_or counts (length_class r) 0 - 1)) (removed rows r)
-classes-removed counts rows r a order there within = record {
+pub classes-removed : (counts : List ℕ) (records : List RecordValue) (r : RecordValue) → AreClasses counts records → AreInOrder records → 0 < copies records r → length_class r < 33
+    → AreClasses (slice_set counts (length_class r) (slice_index_or counts (length_class r) 0 - 1)) (removed records r)
+classes-removed counts records r a order there within = record {
   classes = length-set counts (length_class r) (slice_index_or counts (length_class r) 0 - 1) ∙ a.classes;
   counted = λ k. omega (
     arith,
-    lowered counts (length_class r) k (omega (arith, a.classes, within)) (classes-some counts rows r a order there),
+    lowered counts (length_class r) k (omega (arith, a.classes, within)) (classes-some counts records r a order there),
     a.counted k,
-    with_class-removed rows r k order there,
+    with_class-removed records r k order there,
   );
 }
 
 -- ---- the entries of a map, one after another
 
 -- all records but those that are left are counted
-pub record AreCountedBut (counts : List ℕ) (left rows : List RecordValue) : Type 0 where
+pub record AreCountedBut (counts : List ℕ) (left records : List RecordValue) : Type 0 where
   pub classes : length counts ≡ 33
-  pub counted : (k : ℕ) → slice_index_or counts k 0 + with_class left k ≡ with_class rows k
+  pub counted : (k : ℕ) → slice_index_or counts k 0 + with_class left k ≡ with_class records k
 
-pub counted-begin : (counts : List ℕ) (rows : List RecordValue) → AreClasses counts [] → AreCountedBut counts rows rows
-counted-begin counts rows a = record { classes = a.classes; counted = λ k. omega (arith, a.counted k) }
+pub counted-begin : (counts : List ℕ) (records : List RecordValue) → AreClasses counts [] → AreCountedBut counts records records
+counted-begin counts records a = record { classes = a.classes; counted = λ k. omega (arith, a.counted k) }
 
-pub counted-room : (counts : List ℕ) (left after : List (RecordValue × ℕ)) (rows : List RecordValue) (r : RecordValue) (n : ℕ) → AreCountedBut counts (expanded left) rows → left ≡ (r, n) ∷ after
-    → slice_index_or counts (length_class r) 0 + n ≤ length rows
-counted-room counts left after rows r n a first =
+pub counted-room : (counts : List ℕ) (left after : List (RecordValue × ℕ)) (records : List RecordValue) (r : RecordValue) (n : ℕ) → AreCountedBut counts (expanded left) records → left ≡ (r, n) ∷ after
+    → slice_index_or counts (length_class r) 0 + n ≤ length records
+counted-room counts left after records r n a first =
     omega (
       arith,
       a.counted (length_class r),
-      count_by-le-length (λ q. length_class q == length_class r) rows,
+      count_by-le-length (λ q. length_class q == length_class r) records,
       ap (λ (l : List (RecordValue × ℕ)). with_class (expanded l) (length_class r)) first,
       count-front (λ q. length_class q == length_class r) n r (expanded after),
       ap {B = ℕ} (λ b. cond b n 0) (eq-eqb (length_class r) (length_class r) refl),
     )
 
-pub counted-next : (counts : List ℕ) (left after : List (RecordValue × ℕ)) (rows : List RecordValue) (r : RecordValue) (n : ℕ) → AreCountedBut counts (expanded left) rows → left ≡ (r, n) ∷ after → length_class r < 33
-    → AreCountedBut (slice_set counts (length_class r) (slice_index_or counts (length_class r) 0 + n)) (expanded after) rows
-counted-next counts left after rows r n a first within = record {
+pub counted-next : (counts : List ℕ) (left after : List (RecordValue × ℕ)) (records : List RecordValue) (r : RecordValue) (n : ℕ) → AreCountedBut counts (expanded left) records → left ≡ (r, n) ∷ after → length_class r < 33
+    → AreCountedBut (slice_set counts (length_class r) (slice_index_or counts (length_class r) 0 + n)) (expanded after) records
+counted-next counts left after records r n a first within = record {
   classes = length-set counts (length_class r) (slice_index_or counts (length_class r) 0 + n) ∙ a.classes;
   counted = λ k. omega (
     arith,
@@ -134,8 +134,8 @@ counted-next counts left after rows r n a first within = record {
   );
 }
 
-pub counted-all : (counts : List ℕ) (left : List (RecordValue × ℕ)) (rows : List RecordValue) → AreCountedBut counts (expanded left) rows → left ≡ [] → AreClasses counts rows
-counted-all counts left rows a none = record {
+pub counted-all : (counts : List ℕ) (left : List (RecordValue × ℕ)) (records : List RecordValue) → AreCountedBut counts (expanded left) records → left ≡ [] → AreClasses counts records
+counted-all counts left records a none = record {
   classes = a.classes;
   counted = λ k. omega (arith, a.counted k, ap (λ (l : List (RecordValue × ℕ)). with_class (expanded l) k) none);
 }
@@ -172,19 +172,19 @@ class-means r placed =
 pub placed-expanded : (es : List (RecordValue × ℕ)) → All IsPlaced (keys_of es) → All IsPlaced (expanded es)
 placed-expanded es h = All-from_recursion IsPlaced (expanded es) (all-expanded IsPlaced es (recursion_from_All IsPlaced (keys_of es) h))
 
-pub bound-above : (counts : List ℕ) (rows : List RecordValue) (n : ℕ) → AreClasses counts rows → All IsPlaced rows → ((k : ℕ) → 0 < slice_index_or counts k 0 → 2 ^ k ≤ n) → All (λ r. r.stop ≤ r.start + n) rows
-bound-above counts rows n a placed above = mem-all (λ r. r.stop ≤ r.start + n) rows (λ q m.
+pub bound-above : (counts : List ℕ) (records : List RecordValue) (n : ℕ) → AreClasses counts records → All IsPlaced records → ((k : ℕ) → 0 < slice_index_or counts k 0 → 2 ^ k ≤ n) → All (λ r. r.stop ≤ r.start + n) records
+bound-above counts records n a placed above = mem-all (λ r. r.stop ≤ r.start + n) records (λ q m.
     let k = length_class q in
-    let means = class-means q (all-mem IsPlaced rows placed q m) in
-    let high : 2 ^ k ≤ n = above k (omega (arith, a.counted k, passed-counts (λ r. length_class r == k) rows q m (eq-eqb k k refl))) in
+    let means = class-means q (all-mem IsPlaced records placed q m) in
+    let high : 2 ^ k ≤ n = above k (omega (arith, a.counted k, passed-counts (λ r. length_class r == k) records q m (eq-eqb k k refl))) in
     let short : q.stop - q.start < 2 ^ k = means.0 in
     omega arith)
 
-pub bound-near : (counts : List ℕ) (rows : List RecordValue) (k : ℕ) → AreClasses counts rows → All IsPlaced rows → 0 < slice_index_or counts k 0 → 2 ^ k ≤ 2 * longest rows
-bound-near counts rows k a placed some =
-    let one = counts-passed (λ r. length_class r == k) rows (omega (arith, a.counted k, some)) in
+pub bound-near : (counts : List ℕ) (records : List RecordValue) (k : ℕ) → AreClasses counts records → All IsPlaced records → 0 < slice_index_or counts k 0 → 2 ^ k ≤ 2 * longest records
+bound-near counts records k a placed some =
+    let one = counts-passed (λ r. length_class r == k) records (omega (arith, a.counted k, some)) in
     let q = one.0 in
     let is : length_class q ≡ k = eqb-true (length_class q) k one.2 in
-    let half : 2 ^ length_class q ≤ 2 * (q.stop - q.start) = (class-means q (all-mem IsPlaced rows placed q one.1)).1 in
-    let long : q.stop ≤ q.start + longest rows = all-mem (λ (r : RecordValue). r.stop ≤ r.start + longest rows) rows (all-longest rows) q one.1 in
-    subst (λ j. 2 ^ j ≤ 2 * longest rows) is (omega (arith, half, long))
+    let half : 2 ^ length_class q ≤ 2 * (q.stop - q.start) = (class-means q (all-mem IsPlaced records placed q one.1)).1 in
+    let long : q.stop ≤ q.start + longest records = all-mem (λ (r : RecordValue). r.stop ≤ r.start + longest records) records (all-longest records) q one.1 in
+    subst (λ j. 2 ^ j ≤ 2 * longest records) is (omega (arith, half, long))

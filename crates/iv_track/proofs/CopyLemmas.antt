@@ -39,17 +39,17 @@ other q r ne = by (is_eq (record_cmp q r)) refl
     by true is = absurd (ne (rows_exact q r ((Equal-is (record_cmp q r)).0 is)))
     by false is = refl
 
-pub added-itself : (rows : List RecordValue) (r : RecordValue) → copies (added rows r) r ≡ copies rows r + 1
-added-itself rows r = omega (arith, copies-added record_cmp rows r r, own r)
+pub added-itself : (records : List RecordValue) (r : RecordValue) → copies (added records r) r ≡ copies records r + 1
+added-itself records r = omega (arith, copies-added record_cmp records r r, own r)
 
-pub added-others : (rows : List RecordValue) (r q : RecordValue) → q ≢ r → copies (added rows r) q ≡ copies rows q
-added-others rows r q ne = omega (arith, copies-added record_cmp rows r q, other q r ne)
+pub added-others : (records : List RecordValue) (r q : RecordValue) → q ≢ r → copies (added records r) q ≡ copies records q
+added-others records r q ne = omega (arith, copies-added record_cmp records r q, other q r ne)
 
-pub removed-itself : (rows : List RecordValue) (r : RecordValue) → 0 < copies rows r → copies (removed rows r) r + 1 ≡ copies rows r
-removed-itself rows r there = omega (arith, copies-removed record_cmp records_total rows r r there, own r)
+pub removed-itself : (records : List RecordValue) (r : RecordValue) → 0 < copies records r → copies (removed records r) r + 1 ≡ copies records r
+removed-itself records r there = omega (arith, copies-removed record_cmp records_total records r r there, own r)
 
-pub removed-others : (rows : List RecordValue) (r q : RecordValue) → q ≢ r → copies (removed rows r) q ≡ copies rows q
-removed-others rows r q ne = elim (cases_lt 0 (copies rows r)) [
-  | inl there ↦ omega (arith, copies-removed record_cmp records_total rows r q there, other q r ne)
-  | inr none ↦ ap (λ (l : List RecordValue). copies l q) (removed-absent record_cmp rows r (omega arith))
+pub removed-others : (records : List RecordValue) (r q : RecordValue) → q ≢ r → copies (removed records r) q ≡ copies records q
+removed-others records r q ne = elim (cases_lt 0 (copies records r)) [
+  | inl there ↦ omega (arith, copies-removed record_cmp records_total records r q there, other q r ne)
+  | inr none ↦ ap (λ (l : List RecordValue). copies l q) (removed-absent record_cmp records r (omega arith))
 ]

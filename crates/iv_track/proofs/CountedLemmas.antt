@@ -85,11 +85,11 @@ nil-ordered : IsStrictlySortedBy record_cmp []
 unfolding IsStrictlySortedBy
 nil-ordered = tt
 
-pub grouped-ordered : (rows : List RecordValue) → AreInOrder rows → IsLedger record_cmp (grouped record_cmp rows)
+pub grouped-ordered : (records : List RecordValue) → AreInOrder records → IsLedger record_cmp (grouped record_cmp records)
 grouped-ordered [] order = nil-ordered
 grouped-ordered (r ∷ rs) order = from-ordered r 1 rs order
 
-grouped-counted : (rows : List RecordValue) → AreInOrder rows → AllByRecursion IsPlaced (keys_of (grouped record_cmp rows)) → AreCounted (grouped record_cmp rows) rows
+grouped-counted : (records : List RecordValue) → AreInOrder records → AllByRecursion IsPlaced (keys_of (grouped record_cmp records)) → AreCounted (grouped record_cmp records) records
 grouped-counted [] order placed = record { rows_are = refl; ordered = nil-ordered; present = All-from_recursion (λ n. 0 < n) [] tt; placed = All-from_recursion IsPlaced [] placed }
 grouped-counted (r ∷ rs) order placed = record {
   rows_are = from-expanded r 1 rs;
@@ -100,14 +100,14 @@ grouped-counted (r ∷ rs) order placed = record {
 
 -- ---- records of which no two are equal
 
-pub distinct-ordered : (rows : List RecordValue) → AreDistinct rows → rows ≡ ordered rows
-distinct-ordered rows up = ordered-sorted rows rows (IsPermutation-refl rows) (strictly-sorted record_cmp rows up)
+pub distinct-ordered : (records : List RecordValue) → AreDistinct records → records ≡ ordered records
+distinct-ordered records up = ordered-sorted records records (IsPermutation-refl records) (strictly-sorted record_cmp records up)
 
-pub distinct-rest : (r : RecordValue) (rows : List RecordValue) → AreDistinct (r ∷ rows) → AreDistinct rows
+pub distinct-rest : (r : RecordValue) (records : List RecordValue) → AreDistinct (r ∷ records) → AreDistinct records
 distinct-rest = strictly-rest record_cmp
 
 -- the first is an entry of its own
-pub distinct-first : (r : RecordValue) (rows : List RecordValue) → AreDistinct (r ∷ rows) → grouped record_cmp (r ∷ rows) ≡ (r, 1) ∷ grouped record_cmp rows
+pub distinct-first : (r : RecordValue) (records : List RecordValue) → AreDistinct (r ∷ records) → grouped record_cmp (r ∷ records) ≡ (r, 1) ∷ grouped record_cmp records
 distinct-first r [] up = refl
 distinct-first r (q ∷ qs) up =
     cond-false (is_eq (record_cmp q r)) (grouped_from record_cmp r 2 qs) ((r, 1) ∷ grouped_from record_cmp q 1 qs) (strictly-apart record_cmp r q qs up)
@@ -133,19 +133,19 @@ yielded-placed s [] t y = tt
 yielded-placed s (x ∷ xs) t y = (y.1.1, yielded-placed y.0 xs t y.2)
 
 -- the entries of records in order
-given-counted : (rows : List RecordValue) (xs : List (RecordValue × ℕ)) → AreInOrder rows → Drains GivesEntry (grouped record_cmp rows) xs → AreCounted xs rows
-given-counted rows xs order run =
-    let same : xs ≡ grouped record_cmp rows = given-entries (grouped record_cmp rows) xs run in
-    subst (λ es. AreCounted es rows) (sym same)
-    (grouped-counted rows order (subst (λ (es : List (RecordValue × ℕ)). AllByRecursion IsPlaced (keys_of es)) same (yielded-placed (grouped record_cmp rows) xs run.1.0 run.1.1)))
+given-counted : (records : List RecordValue) (xs : List (RecordValue × ℕ)) → AreInOrder records → Drains GivesEntry (grouped record_cmp records) xs → AreCounted xs records
+given-counted records xs order run =
+    let same : xs ≡ grouped record_cmp records = given-entries (grouped record_cmp records) xs run in
+    subst (λ es. AreCounted es records) (sym same)
+    (grouped-counted records order (subst (λ (es : List (RecordValue × ℕ)). AllByRecursion IsPlaced (keys_of es)) same (yielded-placed (grouped record_cmp records) xs run.1.0 run.1.1)))
 
-pub given-ordered : (rows : List RecordValue) (xs : List (RecordValue × ℕ)) → AreInOrder rows → Drains GivesEntry (grouped record_cmp rows) xs → IsLedger record_cmp xs
-given-ordered rows xs order run = subst (IsLedger record_cmp) (sym (given-entries (grouped record_cmp rows) xs run)) (grouped-ordered rows order)
+pub given-ordered : (records : List RecordValue) (xs : List (RecordValue × ℕ)) → AreInOrder records → Drains GivesEntry (grouped record_cmp records) xs → IsLedger record_cmp xs
+given-ordered records xs order run = subst (IsLedger record_cmp) (sym (given-entries (grouped record_cmp records) xs run)) (grouped-ordered records order)
 
 -- the entries of records, in the order of a track
-pub ordered-counted : (rows : List RecordValue) (left xs : List (RecordValue × ℕ)) → left ≡ grouped record_cmp (ordered rows) → Drains GivesEntry left xs → AreCounted xs (ordered rows)
-ordered-counted rows left xs is run =
-    given-counted (ordered rows) xs (ordered-in_order rows) (subst (λ (es : List (RecordValue × ℕ)). Drains GivesEntry es xs) is run)
+pub ordered-counted : (records : List RecordValue) (left xs : List (RecordValue × ℕ)) → left ≡ grouped record_cmp (ordered records) → Drains GivesEntry left xs → AreCounted xs (ordered records)
+ordered-counted records left xs is run =
+    given-counted (ordered records) xs (ordered-in_order records) (subst (λ (es : List (RecordValue × ℕ)). Drains GivesEntry es xs) is run)
 
 -- ---- one entry
 
@@ -154,8 +154,8 @@ pub record IsCounting (all : List (RecordValue × ℕ)) (held : RecordValue) (n 
   pub all_is : all ≡ grouped_from record_cmp held n rest
   pub few : n + length rest < 2 ^ 32
 
-pub counting-begins : (all : List (RecordValue × ℕ)) (rows : List RecordValue) (held : RecordValue) (rest : List RecordValue) → grouped record_cmp rows ≡ all → length rows < 2 ^ 32 → rows ≡ held ∷ rest → IsCounting all held 1 rest
-counting-begins all rows held rest are few is = record {
+pub counting-begins : (all : List (RecordValue × ℕ)) (records : List RecordValue) (held : RecordValue) (rest : List RecordValue) → grouped record_cmp records ≡ all → length records < 2 ^ 32 → records ≡ held ∷ rest → IsCounting all held 1 rest
+counting-begins all records held rest are few is = record {
   all_is = sym are ∙ ap (grouped record_cmp) is;
   few = omega (arith, few, ap length is);
 }
@@ -173,18 +173,18 @@ false-not_true true e = cc
 false-not_true false e = refl
 
 -- one more that is alike
-pub counting-more : (all : List (RecordValue × ℕ)) (held row : RecordValue) (n : ℕ) (rest : List RecordValue) → not (is_eq (record_cmp row held)) ≡ false → IsCounting all held n (row ∷ rest) → IsCounting all held (n + 1) rest
-counting-more all held row n rest alike h =
+pub counting-more : (all : List (RecordValue × ℕ)) (held feature : RecordValue) (n : ℕ) (rest : List RecordValue) → not (is_eq (record_cmp feature held)) ≡ false → IsCounting all held n (feature ∷ rest) → IsCounting all held (n + 1) rest
+counting-more all held feature n rest alike h =
     let few : n + suc (length rest) < 2 ^ 32 = h.few in
     record {
-      all_is = h.all_is ∙ cond-true (is_eq (record_cmp row held)) (grouped_from record_cmp held (n + 1) rest) ((held, n) ∷ grouped_from record_cmp row 1 rest) (true-not_false _ alike);
+      all_is = h.all_is ∙ cond-true (is_eq (record_cmp feature held)) (grouped_from record_cmp held (n + 1) rest) ((held, n) ∷ grouped_from record_cmp feature 1 rest) (true-not_false _ alike);
       few = omega (arith, few);
     }
 
 -- one that is not
-pub counting-ends : (all : List (RecordValue × ℕ)) (held row : RecordValue) (n : ℕ) (rest : List RecordValue) → not (is_eq (record_cmp row held)) ≡ true → IsCounting all held n (row ∷ rest) → all ≡ (held, n) ∷ grouped record_cmp (row ∷ rest)
-counting-ends all held row n rest apart h =
-    h.all_is ∙ cond-false (is_eq (record_cmp row held)) (grouped_from record_cmp held (n + 1) rest) ((held, n) ∷ grouped_from record_cmp row 1 rest) (false-not_true _ apart)
+pub counting-ends : (all : List (RecordValue × ℕ)) (held feature : RecordValue) (n : ℕ) (rest : List RecordValue) → not (is_eq (record_cmp feature held)) ≡ true → IsCounting all held n (feature ∷ rest) → all ≡ (held, n) ∷ grouped record_cmp (feature ∷ rest)
+counting-ends all held feature n rest apart h =
+    h.all_is ∙ cond-false (is_eq (record_cmp feature held)) (grouped_from record_cmp held (n + 1) rest) ((held, n) ∷ grouped_from record_cmp feature 1 rest) (false-not_true _ apart)
 
 -- none
 pub counting-last : (all : List (RecordValue × ℕ)) (held : RecordValue) (n : ℕ) (rest : List RecordValue) → rest ≡ [] → IsCounting all held n rest → all ≡ (held, n) ∷ []

@@ -59,8 +59,8 @@ filter-implied p t xs h = filter-filter p t xs ∙ filter-agree (λ q. t q && p 
     agree false false h = refl
 
 -- from an earlier start on there are all from a later one on
-pub from-on : (seq at from : ℕ) (rows : List RecordValue) → at ≤ from → filter (is_from seq from) (filter (is_from seq at) rows) ≡ filter (is_from seq from) rows
-from-on seq at from rows low = filter-implied (is_from seq from) (is_from seq at) rows (λ q m is.
+pub from-on : (seq at from : ℕ) (records : List RecordValue) → at ≤ from → filter (is_from seq from) (filter (is_from seq at) records) ≡ filter (is_from seq from) records
+from-on seq at from records low = filter-implied (is_from seq from) (is_from seq at) records (λ q m is.
     let place = le_pair seq q.seq from q.start is in
     pair_le seq q.seq at q.start place.0 (λ e. let r : from ≤ q.start = place.1 e in omega arith))
 
@@ -99,9 +99,9 @@ from_next seq p x y h le =
     ]
 
 -- if the first of records in order is from there on, all are
-pub from_all : (seq p : ℕ) (r : RecordValue) (rows : List RecordValue) → AreInOrder (r ∷ rows) → is_from seq p r ≡ true → (q : RecordValue) → Mem q (r ∷ rows) → is_from seq p q ≡ true
-from_all seq p r rows o h q (inl is) = ap (is_from seq p) (sym is) ∙ h
-from_all seq p r rows o h q (inr m) = from_next seq p r q h (all-mem (λ y. is_le (record_cmp r y) ≡ true) rows (All-from_recursion (λ y. is_le (record_cmp r y) ≡ true) rows o.0) q m)
+pub from_all : (seq p : ℕ) (r : RecordValue) (records : List RecordValue) → AreInOrder (r ∷ records) → is_from seq p r ≡ true → (q : RecordValue) → Mem q (r ∷ records) → is_from seq p q ≡ true
+from_all seq p r records o h q (inl is) = ap (is_from seq p) (sym is) ∙ h
+from_all seq p r records o h q (inr m) = from_next seq p r q h (all-mem (λ y. is_le (record_cmp r y) ≡ true) records (All-from_recursion (λ y. is_le (record_cmp r y) ≡ true) records o.0) q m)
 
-pub from_whole : (seq p : ℕ) (r : RecordValue) (rows : List RecordValue) → AreInOrder (r ∷ rows) → is_from seq p r ≡ true → filter (is_from seq p) (r ∷ rows) ≡ r ∷ rows
-from_whole seq p r rows o h = filter-all (is_from seq p) (r ∷ rows) (from_all seq p r rows o h)
+pub from_whole : (seq p : ℕ) (r : RecordValue) (records : List RecordValue) → AreInOrder (r ∷ records) → is_from seq p r ≡ true → filter (is_from seq p) (r ∷ records) ≡ r ∷ records
+from_whole seq p r records o h = filter-all (is_from seq p) (r ∷ records) (from_all seq p r records o h)

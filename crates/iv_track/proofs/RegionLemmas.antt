@@ -37,21 +37,21 @@ from_apart seq start stop q h = go (overlaps seq start stop q) refl
         let low : q.start < stop = parts.1 in
         absurd (omega arith)
 
-none_from : (seq start stop : ℕ) (rows : List RecordValue) → ((q : RecordValue) → Mem q rows → is_from seq stop q ≡ true) → hits rows seq start stop ≡ []
+none_from : (seq start stop : ℕ) (records : List RecordValue) → ((q : RecordValue) → Mem q records → is_from seq stop q ≡ true) → hits records seq start stop ≡ []
 none_from seq start stop [] all = refl
-none_from seq start stop (q ∷ rows) all =
-    ap (λ b. cond b (q ∷ hits rows seq start stop) (hits rows seq start stop)) (from_apart seq start stop q (all q (inl refl)))
-    ∙ none_from seq start stop rows (λ r m. all r (inr m))
+none_from seq start stop (q ∷ records) all =
+    ap (λ b. cond b (q ∷ hits records seq start stop) (hits records seq start stop)) (from_apart seq start stop q (all q (inl refl)))
+    ∙ none_from seq start stop records (λ r m. all r (inr m))
 
 -- from a record on that begins at the stop or after it there are none
-pub hits_beyond : (seq start stop : ℕ) (r : RecordValue) (rows : List RecordValue) → AreInOrder (r ∷ rows) → is_from seq stop r ≡ true → hits rows seq start stop ≡ []
-hits_beyond seq start stop r rows o h = none_from seq start stop rows (λ q m. from_all seq stop r rows o h q (inr m))
+pub hits_beyond : (seq start stop : ℕ) (r : RecordValue) (records : List RecordValue) → AreInOrder (r ∷ records) → is_from seq stop r ≡ true → hits records seq start stop ≡ []
+hits_beyond seq start stop r records o h = none_from seq start stop records (λ q m. from_all seq stop r records o h q (inr m))
 
-pub hit_first : (rows rest : List RecordValue) (r : RecordValue) (seq start stop : ℕ) → rows ≡ r ∷ rest → overlaps seq start stop r ≡ true → hits rows seq start stop ≡ r ∷ hits rest seq start stop
-hit_first rows rest r seq start stop e is = ap (λ xs. hits xs seq start stop) e ∙ ap (λ b. cond b (r ∷ hits rest seq start stop) (hits rest seq start stop)) is
+pub hit_first : (records rest : List RecordValue) (r : RecordValue) (seq start stop : ℕ) → records ≡ r ∷ rest → overlaps seq start stop r ≡ true → hits records seq start stop ≡ r ∷ hits rest seq start stop
+hit_first records rest r seq start stop e is = ap (λ xs. hits xs seq start stop) e ∙ ap (λ b. cond b (r ∷ hits rest seq start stop) (hits rest seq start stop)) is
 
-pub hit_not : (rows rest : List RecordValue) (r : RecordValue) (seq start stop : ℕ) → rows ≡ r ∷ rest → overlaps seq start stop r ≡ false → hits rows seq start stop ≡ hits rest seq start stop
-hit_not rows rest r seq start stop e is = ap (λ xs. hits xs seq start stop) e ∙ ap (λ b. cond b (r ∷ hits rest seq start stop) (hits rest seq start stop)) is
+pub hit_not : (records rest : List RecordValue) (r : RecordValue) (seq start stop : ℕ) → records ≡ r ∷ rest → overlaps seq start stop r ≡ false → hits records seq start stop ≡ hits rest seq start stop
+hit_not records rest r seq start stop e is = ap (λ xs. hits xs seq start stop) e ∙ ap (λ b. cond b (r ∷ hits rest seq start stop) (hits rest seq start stop)) is
 
 -- ---- what a walk may still pass
 
@@ -59,12 +59,12 @@ test_not : (at : Region) (r : RecordValue) (b : Bool) → is_from at.seq at.stop
 test_not at r b e rest = ap (λ c. cond (not c) (r ∷ starting_before at rest) (starting_before at rest)) e
 
 -- a record before the end is passed
-pub passes-before : (at : Region) (rows rest : List RecordValue) (r : RecordValue) → rows ≡ r ∷ rest → is_from at.seq at.stop r ≡ false → length (starting_before at rows) ≡ length (starting_before at rest) + 1
-passes-before at rows rest r e is = ap {B = ℕ} (λ l. length (starting_before at l)) e ∙ ap {B = ℕ} length (test_not at r false is rest) ∙ omega arith
+pub passes-before : (at : Region) (records rest : List RecordValue) (r : RecordValue) → records ≡ r ∷ rest → is_from at.seq at.stop r ≡ false → length (starting_before at records) ≡ length (starting_before at rest) + 1
+passes-before at records rest r e is = ap {B = ℕ} (λ l. length (starting_before at l)) e ∙ ap {B = ℕ} length (test_not at r false is rest) ∙ omega arith
 
 -- the one that ends the walk counts no more
-pub passes-from : (at : Region) (rows rest : List RecordValue) (r : RecordValue) → rows ≡ r ∷ rest → is_from at.seq at.stop r ≡ true → length (starting_before at rows) ≡ length (starting_before at rest)
-passes-from at rows rest r e is = ap {B = ℕ} (λ l. length (starting_before at l)) e ∙ ap {B = ℕ} length (test_not at r true is rest)
+pub passes-from : (at : Region) (records rest : List RecordValue) (r : RecordValue) → records ≡ r ∷ rest → is_from at.seq at.stop r ≡ true → length (starting_before at records) ≡ length (starting_before at rest)
+passes-from at records rest r e is = ap {B = ℕ} (λ l. length (starting_before at l)) e ∙ ap {B = ℕ} length (test_not at r true is rest)
 
 -- a hit is before the end
 pub hit-before : (at : Region) (r : RecordValue) → overlaps at.seq at.start at.stop r ≡ true → is_from at.seq at.stop r ≡ false
@@ -77,23 +77,23 @@ hit-before at r hit = go (is_from at.seq at.stop r) refl
 -- ---- how long records are
 
 -- none is longer than the longest
-pub all-longest : (rows : List RecordValue) → All (λ r. r.stop ≤ r.start + longest rows) rows
-all-longest rows = within rows (longest rows) (omega arith)
+pub all-longest : (records : List RecordValue) → All (λ r. r.stop ≤ r.start + longest records) records
+all-longest records = within records (longest records) (omega arith)
   where
-    within : (rows : List RecordValue) (n : ℕ) → longest rows ≤ n → All (λ r. r.stop ≤ r.start + n) rows
+    within : (records : List RecordValue) (n : ℕ) → longest records ≤ n → All (λ r. r.stop ≤ r.start + n) records
     within [] n h = All-nil (λ r. r.stop ≤ r.start + n)
-    within (r ∷ rows) n h = All-cons (λ r. r.stop ≤ r.start + n) r rows (omega arith) (within rows n (omega arith))
+    within (r ∷ records) n h = All-cons (λ r. r.stop ≤ r.start + n) r records (omega arith) (within records n (omega arith))
 
 -- ---- where a walk begins
 
 -- if no record is longer than n, the hits are among the records from the start less n on
-pub hits-walked : (rows : List RecordValue) (at : Region) (from n : ℕ) → All (λ r. r.stop ≤ r.start + n) rows → from ≤ at.start + 1 - n
-    → hits (filter (is_from at.seq from) rows) at.seq at.start at.stop ≡ hits rows at.seq at.start at.stop
-hits-walked rows at from n up low = filter-implied (overlaps at.seq at.start at.stop) (is_from at.seq from) rows (λ q m is.
+pub hits-walked : (records : List RecordValue) (at : Region) (from n : ℕ) → All (λ r. r.stop ≤ r.start + n) records → from ≤ at.start + 1 - n
+    → hits (filter (is_from at.seq from) records) at.seq at.start at.stop ≡ hits records at.seq at.start at.stop
+hits-walked records at from n up low = filter-implied (overlaps at.seq at.start at.stop) (is_from at.seq from) records (λ q m is.
     let parts = overlaps_parts at.seq at.start at.stop q is in
     let here : q.seq ≡ at.seq = parts.0 in
     let past : at.start < q.stop = parts.2 in
-    let long : q.stop ≤ q.start + n = all-mem (λ (r : RecordValue). r.stop ≤ r.start + n) rows up q m in
+    let long : q.stop ≤ q.start + n = all-mem (λ (r : RecordValue). r.stop ≤ r.start + n) records up q m in
     pair_le at.seq q.seq from q.start (omega arith) (λ _. omega (arith, past, long, low)))
 
 -- the records that such a walk may pass are near the region
@@ -108,13 +108,13 @@ walked-near at from most q low h =
     let begun : from ≤ q.start = place.1 (sym same) in
     and_from _ _ (eq-eqb q.seq at.seq same) (and_from _ _ (lt-ltb q.start at.stop (before.1 same)) (lt-ltb at.start (q.start + most) (omega arith)))
 
-pub passes-near : (rows : List RecordValue) (at : Region) (from : ℕ) → at.start + 1 ≤ from + 2 * longest rows
-    → length (starting_before at (filter (is_from at.seq from) rows)) ≤ length (near at rows)
-passes-near rows at from low =
-    let weaker = filter-weaker (λ q. is_from at.seq from q && not (is_from at.seq at.stop q)) (λ q. (q.seq == at.seq) && (nat_lt q.start at.stop && nat_lt at.start (q.start + 2 * longest rows))) rows
-    (λ q m is. walked-near at from (2 * longest rows) q low is) in
-    subst (λ l. length l ≤ length (near at rows)) (sym (filter-filter (λ q. not (is_from at.seq at.stop q)) (is_from at.seq from) rows)) weaker
+pub passes-near : (records : List RecordValue) (at : Region) (from : ℕ) → at.start + 1 ≤ from + 2 * longest records
+    → length (starting_before at (filter (is_from at.seq from) records)) ≤ length (near at records)
+passes-near records at from low =
+    let weaker = filter-weaker (λ q. is_from at.seq from q && not (is_from at.seq at.stop q)) (λ q. (q.seq == at.seq) && (nat_lt q.start at.stop && nat_lt at.start (q.start + 2 * longest records))) records
+    (λ q m is. walked-near at from (2 * longest records) q low is) in
+    subst (λ l. length l ≤ length (near at records)) (sym (filter-filter (λ q. not (is_from at.seq at.stop q)) (is_from at.seq from) records)) weaker
 
 -- there are no more hits than records
-pub hits-few : (rows : List RecordValue) (seq start stop : ℕ) → length (hits rows seq start stop) ≤ length rows
-hits-few rows seq start stop = omega (arith, length-filter (overlaps seq start stop) rows, count_by-le-length (overlaps seq start stop) rows)
+pub hits-few : (records : List RecordValue) (seq start stop : ℕ) → length (hits records seq start stop) ≤ length records
+hits-few records seq start stop = omega (arith, length-filter (overlaps seq start stop) records, count_by-le-length (overlaps seq start stop) records)

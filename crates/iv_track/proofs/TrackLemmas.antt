@@ -31,7 +31,7 @@ len-rows es len width limit t = t.len_is ∙ sym (length-expanded es)
 
 -- gs is the map es with one copy of r less
 pub record IsLowered (es gs : List (RecordValue × ℕ)) (r : RecordValue) (width : ℕ) : Type 0 where
-  pub rows : expanded gs ≡ removed (expanded es) r
+  pub records : expanded gs ≡ removed (expanded es) r
   pub present : All (λ m. 0 < m) (values_of gs)
   pub widths : All (λ (q : RecordValue). q.width ≡ width) (keys_of gs)
   pub placed : All IsPlaced (keys_of gs)
@@ -67,7 +67,7 @@ module _ (es fs : List (RecordValue × ℕ)) (len width limit : ℕ) (r : Record
 
     pub lowered_by_take : n ≡ 1 → fs ≡ remove_entry (is_at (record_cmp r)) es → IsLedger record_cmp fs → IsLowered es fs r width
     lowered_by_take one is ordered = record {
-      rows = ap expanded is ∙ expanded-remove_entry record_cmp es r (count ∙ ap Some one);
+      records = ap expanded is ∙ expanded-remove_entry record_cmp es r (count ∙ ap Some one);
       present = subst (λ gs. All (λ m. 0 < m) (values_of gs)) (sym is) (All-map-remove_entry (is_at (record_cmp r)) (λ e. e.1) (λ m. 0 < m) es t.present);
       widths = subst (λ gs. All (λ (q : RecordValue). q.width ≡ width) (keys_of gs)) (sym is) (All-map-remove_entry (is_at (record_cmp r)) (λ e. e.0) (λ (q : RecordValue). q.width ≡ width) es t.widths);
       placed = subst (λ gs. All IsPlaced (keys_of gs)) (sym is) (All-map-remove_entry (is_at (record_cmp r)) (λ e. e.0) IsPlaced es t.placed);
@@ -79,7 +79,7 @@ module _ (es fs : List (RecordValue × ℕ)) (len width limit : ℕ) (r : Record
         let e : n ≡ suc (n - 1) = omega (arith, count-pos) in
         let below : 0 < n - 1 = omega (arith, count-pos) in
         record {
-          rows = ap expanded is ∙ expanded-set_value record_cmp es r (n - 1) (count ∙ ap Some e);
+          records = ap expanded is ∙ expanded-set_value record_cmp es r (n - 1) (count ∙ ap Some e);
           present = subst (λ gs. All (λ m. 0 < m) (values_of gs)) (sym is) (All-values-set_value (is_at (record_cmp r)) (λ m. 0 < m) es (n - 1) t.present below);
           widths = subst (λ gs. All (λ (q : RecordValue). q.width ≡ width) (keys_of gs)) (sym is) (subst (All (λ (q : RecordValue). q.width ≡ width)) (sym (keys-set_value (is_at (record_cmp r)) es (n - 1))) t.widths);
           placed = subst (λ gs. All IsPlaced (keys_of gs)) (sym is) (subst (All IsPlaced) (sym (keys-set_value (is_at (record_cmp r)) es (n - 1))) t.placed);
@@ -92,7 +92,7 @@ module _ (es fs : List (RecordValue × ℕ)) (len width limit : ℕ) (r : Record
       present = low.present;
       widths = low.widths;
       placed = low.placed;
-      len_is = omega (arith, length-expanded fs, ap length low.rows, length-removed record_cmp (expanded es) r found, length-expanded es, t.len_is);
+      len_is = omega (arith, length-expanded fs, ap length low.records, length-removed record_cmp (expanded es) r found, length-expanded es, t.len_is);
       room = omega (arith, t.room);
       bounded = t.bounded;
     }

@@ -40,8 +40,8 @@ module _ {K : Type 0} where
       ]
 
 -- from the first base of the first sequence on there is every record
-pub filter-from_first : (rows : List RecordValue) → filter (is_from 0 0) rows ≡ rows
+pub filter-from_first : (records : List RecordValue) → filter (is_from 0 0) records ≡ records
 filter-from_first [] = refl
-filter-from_first (r ∷ rows) =
+filter-from_first (r ∷ records) =
     cond-true (is_from 0 0 r) _ _ (le_then (nat_cmp 0 r.seq) (nat_cmp 0 r.start) (zero_le r.seq) (zero_le r.start))
-    ∙ ap (λ (l : List RecordValue). r ∷ l) (filter-from_first rows)
+    ∙ ap (λ (l : List RecordValue). r ∷ l) (filter-from_first records)

@@ -18,5 +18,5 @@ intervals_in start stop (Some at) intervals = filter (λ x. nat_lt (start x) at.
 
 -- all records, or those that share a position with the region
 abbrev pub records_in : Option Region → List RecordValue → List RecordValue
-records_in None rows = rows
-records_in (Some at) rows = hits rows at.seq at.start at.stop
+records_in None records = records
+records_in (Some at) records = hits records at.seq at.start at.stop

@@ -9,21 +9,21 @@ overlaps seq start stop q = (q.seq == seq) && (nat_lt q.start stop && nat_lt sta
 
 -- the records on the sequence of this rank that share a position with the interval from start to stop, in their order, copies repeated
 abbrev pub hits : List RecordValue → ℕ → ℕ → ℕ → List RecordValue
-hits rows seq start stop = filter (λ q. (q.seq == seq) && (nat_lt q.start stop && nat_lt start q.stop)) rows
+hits records seq start stop = filter (λ q. (q.seq == seq) && (nat_lt q.start stop && nat_lt start q.stop)) records
 
 -- the greatest number of positions that a record has, 0 if there is no record
 abbrev pub longest : List RecordValue → ℕ
 longest [] = 0
-longest (r ∷ rows) = max (r.stop - r.start) (longest rows)
+longest (r ∷ records) = max (r.stop - r.start) (longest records)
 
 -- the records on the region's sequence that start below its end, and so near before it that with twice the greatest length they
 -- would reach it
 abbrev pub near : Region → List RecordValue → List RecordValue
-near at rows = filter (λ r. (r.seq == at.seq) && (nat_lt r.start at.stop && nat_lt at.start (r.start + 2 * longest rows))) rows
+near at records = filter (λ r. (r.seq == at.seq) && (nat_lt r.start at.stop && nat_lt at.start (r.start + 2 * longest records))) records
 
 -- what is left of a walk over the hits of a region: the hits, and how many records it may still pass before it ends
 pub record HitsLeft : Type 0 where
-  pub rows : List RecordValue
+  pub records : List RecordValue
   pub passes : ℕ
 
 -- the last step of a walk, which finds no further hit

@@ -11,7 +11,7 @@ most_records = 100000000
 
 -- what a track is: its records in track order, the width of each and the limit
 pub record Tracked : Type 0 where
-  pub rows : List RecordValue
+  pub records : List RecordValue
   pub width : ℕ
   pub limit : ℕ
 
@@ -25,8 +25,8 @@ different_records = different_by record_cmp
 
 -- a record and its number of copies
 abbrev pub with_copies : List RecordValue → Option RecordValue → Option (RecordValue × ℕ)
-with_copies rows None = None
-with_copies rows (Some r) = Some (r, copies rows r)
+with_copies records None = None
+with_copies records (Some r) = Some (r, copies records r)
 
 -- whether q is on the given sequence from the given start on, or on a later sequence
 abbrev pub is_from : ℕ → ℕ → RecordValue → Bool
@@ -34,8 +34,8 @@ is_from seq start q = is_le (ordering_then (nat_cmp seq q.seq) (nat_cmp start q.
 
 -- the first such record, with its copies
 abbrev pub next_from : List RecordValue → ℕ → ℕ → Option (RecordValue × ℕ)
-next_from rows seq start = with_copies rows (find (is_from seq start) rows)
+next_from records seq start = with_copies records (find (is_from seq start) records)
 
 -- the first record after r, with its copies
 abbrev pub next_after : List RecordValue → RecordValue → Option (RecordValue × ℕ)
-next_after rows r = with_copies rows (find (λ q. is_lt (record_cmp r q)) rows)
+next_after records r = with_copies records (find (λ q. is_lt (record_cmp r q)) records)

@@ -13,15 +13,15 @@ use std::marker::Model;
 /// The map of fewer than 2^32 records, in the order of a track, each with the number of its copies.
 pub(crate) fn count_copies<A: Allocator + Copy>(
     alloc: A,
-    rows: Batches<Record<A>, A>,
+    records: Batches<Record<A>, A>,
 ) -> Result<Ledger<Record<A>, u32, A>, AllocError>
-    requires { length rows < 2 ^ 32 }
-    ensures { IfOk result (λ entries. AreCounted entries (ordered rows)) }
+    requires { length records < 2 ^ 32 }
+    ensures { IfOk result (λ entries. AreCounted entries (ordered records)) }
 {
-    if rows.is_strictly_sorted() {
-        return Ledger::from_entries(alloc, Distinct::of(rows));
+    if records.is_strictly_sorted() {
+        return Ledger::from_entries(alloc, Distinct::of(records));
     }
-    Ledger::from_entries(alloc, Counted::of(rows)?)
+    Ledger::from_entries(alloc, Counted::of(records)?)
 }
 
 /// An iterator that takes each record of a list, of which each is greater than the one before it, as an entry of one copy.
@@ -46,12 +46,12 @@ impl<A: Allocator> Model for Distinct<A> {
 
 impl<A: Allocator + Copy> Distinct<A> {
     /// The entries of these records.
-    fn of(rows: Batches<Record<A>, A>) -> Self
-        requires { AreDistinct rows }
-        ensures { result ≡ grouped record_cmp rows }
+    fn of(records: Batches<Record<A>, A>) -> Self
+        requires { AreDistinct records }
+        ensures { result ≡ grouped record_cmp records }
     {
         Distinct {
-            rest: rows.into_iter(),
+            rest: records.into_iter(),
         }
     }
 }
@@ -94,25 +94,25 @@ impl<A: Allocator> Model for Counted<A> {
 
 impl<A: Allocator + Copy> Counted<A> {
     /// The entries of fewer than 2^32 records, in the order of a track. If they are in order already, no memory is taken.
-    fn of(rows: Batches<Record<A>, A>) -> Result<Self, AllocError>
-        requires { length rows < 2 ^ 32 }
-        ensures { IfOk result (λ c. c ≡ grouped record_cmp (ordered rows)) }
+    fn of(records: Batches<Record<A>, A>) -> Result<Self, AllocError>
+        requires { length records < 2 ^ 32 }
+        ensures { IfOk result (λ c. c ≡ grouped record_cmp (ordered records)) }
     {
-        if rows.is_sorted() {
-            return Ok(Counted::in_order(rows));
+        if records.is_sorted() {
+            return Ok(Counted::in_order(records));
         }
-        let mut rows = rows.into_vec()?;
-        rows.sort()?;
-        Ok(Counted::in_order(Batches::of(rows)))
+        let mut records = records.into_vec()?;
+        records.sort()?;
+        Ok(Counted::in_order(Batches::of(records)))
     }
 
     /// The entries of fewer than 2^32 records that are in order.
-    fn in_order(rows: Batches<Record<A>, A>) -> Self
-        requires { length rows < 2 ^ 32 }
-        ensures { result ≡ grouped record_cmp rows }
+    fn in_order(records: Batches<Record<A>, A>) -> Self
+        requires { length records < 2 ^ 32 }
+        ensures { result ≡ grouped record_cmp records }
     {
         Counted {
-            rest: rows.into_iter(),
+            rest: records.into_iter(),
             ahead: None,
         }
     }
@@ -127,14 +127,14 @@ impl<A: Allocator> Iterator for Counted<A> {
 
     fn next(&mut self) -> Option<(Record<A>, u32)> {
         let first = match self.ahead.take() {
-            Some(row) => row,
+            Some(feature) => feature,
             None => self.rest.next()?,
         };
         first.lemma_of_interval();
         let mut count = 1;
-        while let Some(row) = self.rest.next() {
-            if row != first {
-                self.ahead = Some(row);
+        while let Some(feature) = self.rest.next() {
+            if feature != first {
+                self.ahead = Some(feature);
                 return Some((first, count));
             }
             count += 1;

@@ -9,12 +9,12 @@ use std::alloc::Allocator;
 use std::marker::Model;
 
 /// How many binary digits the number of a record's positions has, 1 to 32.
-pub(crate) fn length_class<A: Allocator>(row: &Record<A>) -> usize
-    ensures is { result ≡ length_class row.now }
+pub(crate) fn length_class<A: Allocator>(feature: &Record<A>) -> usize
+    ensures is { result ≡ length_class feature.now }
     ensures within { result < 33 }
 {
-    row.lemma_of_interval();
-    let positions = (row.stop() - row.start()) as u32;
+    feature.lemma_of_interval();
+    let positions = (feature.stop() - feature.start()) as u32;
     (32 - positions.leading_zeros()) as usize
 }
 
@@ -49,8 +49,8 @@ impl LengthClasses {
     {
         let mut classes = LengthClasses::new();
         let mut entries = entries;
-        while let Some((row, copies)) = entries.advance() {
-            classes.add(length_class(row), *copies);
+        while let Some((feature, copies)) = entries.advance() {
+            classes.add(length_class(feature), *copies);
         }
         classes
     }

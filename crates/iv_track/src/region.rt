@@ -19,19 +19,19 @@ pub struct Region {
 
 impl Region {
     /// Whether a record is on the region's sequence and shares a position with the region.
-    pub(crate) fn overlaps<A: Allocator>(&self, row: &Record<A>) -> bool
-        ensures { result ≡ overlaps self.now.seq self.now.start self.now.stop row.now }
+    pub(crate) fn overlaps<A: Allocator>(&self, feature: &Record<A>) -> bool
+        ensures { result ≡ overlaps self.now.seq self.now.start self.now.stop feature.now }
     {
-        row.seq() == self.seq && row.start() < self.stop && self.start < row.stop()
+        feature.seq() == self.seq && feature.start() < self.stop && self.start < feature.stop()
     }
 
     /// Whether a record starts at the region's end or after it, or is on a later sequence.
-    pub(crate) fn ends_before<A: Allocator>(&self, row: &Record<A>) -> bool
-        ensures { result ≡ is_from self.now.seq self.now.stop row.now }
+    pub(crate) fn ends_before<A: Allocator>(&self, feature: &Record<A>) -> bool
+        ensures { result ≡ is_from self.now.seq self.now.stop feature.now }
     {
         self.seq
-            .cmp(&row.seq())
-            .then(self.stop.cmp(&row.start()))
+            .cmp(&feature.seq())
+            .then(self.stop.cmp(&feature.start()))
             .is_le()
     }
 }

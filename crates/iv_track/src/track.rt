@@ -48,7 +48,7 @@ impl<A: Allocator + Copy> Model for Track<A> {
 
     ghost Value = { Tracked };
 
-    ghost view = { λ t. record { rows = expanded t.ledger; width = t.width; limit = t.limit } };
+    ghost view = { λ t. record { records = expanded t.ledger; width = t.width; limit = t.limit } };
 
     ghost invariant = { λ t. AreParts t.ledger t.len t.width t.limit t.lengths };
 }
@@ -61,7 +61,7 @@ impl<A: Allocator + Copy> Track<A> {
     /// Each later record has this width, 3 to 6. The limit is at most 100,000,000 records.
     pub fn new(alloc: A, width: u8, limit: u32) -> Self
         requires { limit ≤ most_records }
-        ensures { result ≡ record { rows = []; width = width; limit = limit } }
+        ensures { result ≡ record { records = []; width = width; limit = limit } }
     {
         Track {
             ledger: Ledger::new(alloc),
@@ -81,14 +81,14 @@ impl<A: Allocator + Copy> Track<A> {
         alloc: A,
         width: u8,
         limit: u32,
-        rows: Vec<Record<A>, A>,
+        records: Vec<Record<A>, A>,
     ) -> Result<Self, AllocError>
         requires limit { limit ≤ most_records }
-        requires few { vec_len rows ≤ limit }
-        requires width { All (λ r. r.width ≡ width) rows.items }
-        ensures { IfOk result (λ t. t ≡ record { rows = ordered rows.items; width = width; limit = limit }) }
+        requires few { vec_len records ≤ limit }
+        requires width { All (λ r. r.width ≡ width) records.items }
+        ensures { IfOk result (λ t. t ≡ record { records = ordered records.items; width = width; limit = limit }) }
     {
-        Track::from_batches(alloc, width, limit, Batches::of(rows))
+        Track::from_batches(alloc, width, limit, Batches::of(records))
     }
 
     /// The track of these records, as [`Track::from_records`] makes it. If they are in order, each of their vectors is freed as
@@ -99,15 +99,15 @@ impl<A: Allocator + Copy> Track<A> {
         alloc: A,
         width: u8,
         limit: u32,
-        rows: Batches<Record<A>, A>,
+        records: Batches<Record<A>, A>,
     ) -> Result<Self, AllocError>
         requires limit { limit ≤ most_records }
-        requires few { length rows ≤ limit }
-        requires width { All (λ r. r.width ≡ width) rows }
-        ensures { IfOk result (λ t. t ≡ record { rows = ordered rows; width = width; limit = limit }) }
+        requires few { length records ≤ limit }
+        requires width { All (λ r. r.width ≡ width) records }
+        ensures { IfOk result (λ t. t ≡ record { records = ordered records; width = width; limit = limit }) }
     {
-        let len = rows.len() as u32;
-        let ledger = count_copies(alloc, rows)?;
+        let len = records.len() as u32;
+        let ledger = count_copies(alloc, records)?;
         let lengths = LengthClasses::of(ledger.all());
         Ok(Track {
             ledger,
@@ -123,8 +123,8 @@ impl<A: Allocator + Copy> Track<A> {
     ///
     /// At most one above the limit: `stage` lets one more in, so that a replace can add before it takes.
     pub fn len(&self) -> u32
-        ensures len { result ≡ length self.now.rows }
-        ensures ordered { AreInOrder self.now.rows }
+        ensures len { result ≡ length self.now.records }
+        ensures ordered { AreInOrder self.now.records }
         ensures room { result ≤ self.now.limit + 1 }
         ensures bounded { self.now.limit ≤ most_records }
     {
@@ -146,12 +146,12 @@ impl<A: Allocator + Copy> Track<A> {
     }
 
     /// How many copies of the record are there, 0 if it is absent. At most 2 steps.
-    pub fn copies(&self, row: &Record<A>, meter: &mut Meter) -> u32
-        ensures value { result ≡ copies self.now.rows row.now }
-        ensures ordered { AreInOrder self.now.rows }
+    pub fn copies(&self, feature: &Record<A>, meter: &mut Meter) -> u32
+        ensures value { result ≡ copies self.now.records feature.now }
+        ensures ordered { AreInOrder self.now.records }
         ensures steps { TakesUpTo meter.old meter.new 2 }
     {
-        self.ledger.get(row, meter).copied().unwrap_or(0)
+        self.ledger.get(feature, meter).copied().unwrap_or(0)
     }
 
     /// Adds a record without a look at the limit. At most 3 steps.
@@ -164,18 +164,18 @@ impl<A: Allocator + Copy> Track<A> {
     /// # Errors
     ///
     /// E22: an allocation failed, which happens for a record without a copy alone. The track is unchanged.
-    pub fn stage(&mut self, row: Record<A>, meter: &mut Meter) -> Result<(), AllocError>
-        requires room { length self.old.rows ≤ self.old.limit }
-        requires width { row.width ≡ self.old.width }
-        ensures ok { OnOk result (self.new ≡ with_record row self.old) }
-        ensures memory { OnErr result (copies self.old.rows row ≡ 0) }
+    pub fn stage(&mut self, feature: Record<A>, meter: &mut Meter) -> Result<(), AllocError>
+        requires room { length self.old.records ≤ self.old.limit }
+        requires width { feature.width ≡ self.old.width }
+        ensures ok { OnOk result (self.new ≡ with_record feature self.old) }
+        ensures memory { OnErr result (copies self.old.records feature ≡ 0) }
         ensures err { OnErr result (self.new ≡ self.old) }
         ensures steps { TakesUpTo meter.old meter.new 3 }
     {
-        row.lemma_of_interval();
-        let class = length_class(&row);
-        let count = self.ledger.get(&row, meter).copied().unwrap_or(0);
-        self.ledger.put(row, count + 1, meter)?;
+        feature.lemma_of_interval();
+        let class = length_class(&feature);
+        let count = self.ledger.get(&feature, meter).copied().unwrap_or(0);
+        self.ledger.put(feature, count + 1, meter)?;
         self.lengths.add(class, 1);
         self.len += 1;
         Ok(())
@@ -187,18 +187,18 @@ impl<A: Allocator + Copy> Track<A> {
     ///
     /// E12 exactly if the track holds its limit or more, else E22, and that only for a record without a
     /// copy. The track is unchanged.
-    pub fn add(&mut self, row: Record<A>, meter: &mut Meter) -> Result<(), EditFault>
-        requires { row.width ≡ self.old.width }
-        ensures room { OnOk result (length self.old.rows < self.old.limit) }
-        ensures ok { OnOk result (self.new ≡ with_record row self.old) }
-        ensures why { IfErr result (RefusesAdd self.old row) }
+    pub fn add(&mut self, feature: Record<A>, meter: &mut Meter) -> Result<(), EditFault>
+        requires { feature.width ≡ self.old.width }
+        ensures room { OnOk result (length self.old.records < self.old.limit) }
+        ensures ok { OnOk result (self.new ≡ with_record feature self.old) }
+        ensures why { IfErr result (RefusesAdd self.old feature) }
         ensures err { OnErr result (self.new ≡ self.old) }
         ensures steps { TakesUpTo meter.old meter.new 8 }
     {
         if self.len >= self.limit {
             return Err(EditFault::Full);
         }
-        self.stage(row, meter)?;
+        self.stage(feature, meter)?;
         Ok(())
     }
 
@@ -207,21 +207,21 @@ impl<A: Allocator + Copy> Track<A> {
     ///
     /// At most 2 steps, and no memory.
     pub fn at_or_after(&self, seq: u32, start: u64, meter: &mut Meter) -> Option<(&Record<A>, u32)>
-        ensures next { option_map (λ p. (p.0.now, p.1)) result ≡ next_from self.now.rows seq start }
+        ensures next { option_map (λ p. (p.0.now, p.1)) result ≡ next_from self.now.records seq start }
         ensures steps { TakesUpTo meter.old meter.new 2 }
     {
         let least = least_from(self.alloc, seq, start)?;
-        let (row, count) = self.ledger.at_or_after(&least, meter)?;
-        Some((row, *count))
+        let (feature, count) = self.ledger.at_or_after(&least, meter)?;
+        Some((feature, *count))
     }
 
     /// The first record after this one, and how many copies of it there are. At most 2 steps, and no memory.
     /// It is for callers outside this repository.
-    pub fn after(&self, row: &Record<A>, meter: &mut Meter) -> Option<(&Record<A>, u32)>
-        ensures next { option_map (λ p. (p.0.now, p.1)) result ≡ next_after self.now.rows row.now }
+    pub fn after(&self, feature: &Record<A>, meter: &mut Meter) -> Option<(&Record<A>, u32)>
+        ensures next { option_map (λ p. (p.0.now, p.1)) result ≡ next_after self.now.records feature.now }
         ensures steps { TakesUpTo meter.old meter.new 2 }
     {
-        let (next, count) = self.ledger.after(row, meter)?;
+        let (next, count) = self.ledger.after(feature, meter)?;
         Some((next, *count))
     }
 
@@ -231,8 +231,8 @@ impl<A: Allocator + Copy> Track<A> {
     /// most another.
     pub fn walk(&self, seq: u32, start: u64, meter: &mut Meter) -> TrackRecords<'_, A>
         requires { start < 2 ^ 32 - 1 }
-        ensures rows { result ≡ filter (is_from seq start) self.now.rows }
-        ensures ordered { AreInOrder self.now.rows }
+        ensures records { result ≡ filter (is_from seq start) self.now.records }
+        ensures ordered { AreInOrder self.now.records }
         ensures steps { TakesUpTo meter.old meter.new 1 }
     {
         let least = Record::least_at(self.alloc, seq, start as u32);
@@ -247,8 +247,8 @@ impl<A: Allocator + Copy> Track<A> {
     /// The start is below 2^32 - 1, which a caller tests. To begin is one step, and each call of the walk's `next` another.
     pub fn entries(&self, seq: u32, start: u64, meter: &mut Meter) -> TrackEntries<'_, A>
         requires { start < 2 ^ 32 - 1 }
-        ensures rows { expanded result ≡ filter (is_from seq start) self.now.rows }
-        ensures each { length result ≡ different_records (filter (is_from seq start) self.now.rows) }
+        ensures records { expanded result ≡ filter (is_from seq start) self.now.records }
+        ensures each { length result ≡ different_records (filter (is_from seq start) self.now.records) }
         ensures step { meter.new ≡ ticked meter.old }
     {
         let least = Record::least_at(self.alloc, seq, start as u32);
@@ -263,16 +263,16 @@ impl<A: Allocator + Copy> Track<A> {
     /// that it passes. It passes only records near the region, and takes no memory.
     pub fn hits(&self, at: Region, meter: &mut Meter) -> TrackHits<'_, A>
         requires { at.start < at.stop }
-        ensures rows { result.rows ≡ hits self.now.rows at.seq at.start at.stop }
-        ensures passes { result.passes ≤ length (near at self.now.rows) }
-        ensures few { length result.rows ≤ most_records + 1 }
+        ensures records { result.records ≡ hits self.now.records at.seq at.start at.stop }
+        ensures passes { result.passes ≤ length (near at self.now.records) }
+        ensures few { length result.records ≤ most_records + 1 }
         ensures steps { TakesUpTo meter.old meter.new 1 }
     {
         let _few = self.len();
         // A record that ends after the region's start begins from here on.
         let from = (at.start + 1).saturating_sub(self.length_bound());
         TrackHits {
-            rows: self.walk_from(at.seq, from, meter),
+            records: self.walk_from(at.seq, from, meter),
             at,
         }
     }
@@ -282,8 +282,8 @@ impl<A: Allocator + Copy> Track<A> {
     /// The position is below 2^64 - 1. At most two steps more than there are records near it, and no memory.
     pub fn depth_at(&self, seq: u32, position: u64, meter: &mut Meter) -> u64
         requires { position < 2 ^ 64 - 1 }
-        ensures depth { result ≡ length (hits self.now.rows seq position (position + 1)) }
-        ensures steps { TakesUpTo meter.old meter.new (2 + length (near (record { seq = seq; start = position; stop = position + 1 }) self.now.rows)) }
+        ensures depth { result ≡ length (hits self.now.records seq position (position + 1)) }
+        ensures steps { TakesUpTo meter.old meter.new (2 + length (near (record { seq = seq; start = position; stop = position + 1 }) self.now.records)) }
     {
         let at = Region {
             seq,
@@ -300,7 +300,7 @@ impl<A: Allocator + Copy> Track<A> {
 
     /// The records on this sequence from this start on, and on later sequences, copies repeated. At most one step.
     fn walk_from(&self, seq: u32, start: u64, meter: &mut Meter) -> TrackRecords<'_, A>
-        ensures rows { result ≡ filter (is_from seq start) self.now.rows }
+        ensures records { result ≡ filter (is_from seq start) self.now.records }
         ensures steps { TakesUpTo meter.old meter.new 1 }
     {
         let Some(least) = least_from(self.alloc, seq, start) else {
@@ -314,8 +314,8 @@ impl<A: Allocator + Copy> Track<A> {
 
     /// A number of positions that no record has more than. It is at most twice the greatest number that one has.
     pub fn length_bound(&self) -> u64
-        ensures up_to { All (λ r. r.stop ≤ r.start + result) self.now.rows }
-        ensures near { result ≤ 2 * longest self.now.rows }
+        ensures up_to { All (λ r. r.stop ≤ r.start + result) self.now.records }
+        ensures near { result ≤ 2 * longest self.now.records }
     {
         self.lengths.bound()
     }
@@ -325,22 +325,22 @@ impl<A: Allocator + Copy> Track<A> {
     /// # Errors
     ///
     /// E11 exactly if no copy is there. The track is unchanged.
-    pub fn remove(&mut self, row: &Record<A>, meter: &mut Meter) -> Result<(), EditFault>
-        ensures there { OnOk result (0 < copies self.old.rows row.now) }
-        ensures ok { OnOk result (self.new ≡ without_record row.now self.old) }
-        ensures why { IfErr result (RefusesRemove self.old row.now) }
+    pub fn remove(&mut self, feature: &Record<A>, meter: &mut Meter) -> Result<(), EditFault>
+        ensures there { OnOk result (0 < copies self.old.records feature.now) }
+        ensures ok { OnOk result (self.new ≡ without_record feature.now self.old) }
+        ensures why { IfErr result (RefusesRemove self.old feature.now) }
         ensures err { OnErr result (self.new ≡ self.old) }
-        ensures was_ordered { AreInOrder self.old.rows }
+        ensures was_ordered { AreInOrder self.old.records }
         ensures steps { TakesUpTo meter.old meter.new 3 }
     {
-        let Some(count) = self.ledger.get(row, meter).copied() else {
+        let Some(count) = self.ledger.get(feature, meter).copied() else {
             return Err(EditFault::Absent);
         };
-        self.lengths.remove(length_class(row));
+        self.lengths.remove(length_class(feature));
         if count == 1 {
-            self.ledger.take(row, meter);
+            self.ledger.take(feature, meter);
         } else {
-            let _ = self.ledger.set(row, count - 1, meter);
+            let _ = self.ledger.set(feature, count - 1, meter);
         }
         self.len -= 1;
         Ok(())
@@ -361,9 +361,9 @@ impl<A: Allocator + Copy> Track<A> {
         new: Record<A>,
         meter: &mut Meter,
     ) -> Result<(), EditFault>
-        requires room { length self.old.rows ≤ self.old.limit }
+        requires room { length self.old.records ≤ self.old.limit }
         requires width { new.width ≡ self.old.width }
-        ensures there { OnOk result (0 < copies self.old.rows old.now) }
+        ensures there { OnOk result (0 < copies self.old.records old.now) }
         ensures ok { OnOk result (self.new ≡ with_replaced old.now new self.old) }
         ensures why { IfErr result (RefusesReplace self.old old.now new) }
         ensures err { OnErr result (self.new ≡ self.old) }

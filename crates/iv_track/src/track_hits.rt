@@ -17,7 +17,7 @@ use std::marker::Model;
 /// track the walk may still pass.
 #[derive(Drop)]
 pub struct TrackHits<'a, A: Allocator + Copy = Global> {
-    pub(crate) rows: TrackRecords<'a, A>,
+    pub(crate) records: TrackRecords<'a, A>,
     pub(crate) at: Region,
 }
 
@@ -29,23 +29,23 @@ impl<'a, A: Allocator + Copy> Model for TrackHits<'a, A> {
 
     ghost Value = { HitsLeft };
 
-    ghost view = { λ h. record { rows = hits h.rows h.at.seq h.at.start h.at.stop; passes = length (starting_before h.at h.rows) } };
+    ghost view = { λ h. record { records = hits h.records h.at.seq h.at.start h.at.stop; passes = length (starting_before h.at h.records) } };
 
-    ghost invariant = { λ h. AreInOrder h.rows };
+    ghost invariant = { λ h. AreInOrder h.records };
 }
 
 impl<'a, A: Allocator + Copy> TrackHits<'a, A> {
     /// The next record, `None` after the last. A call is at most one step for each record that it passes, and the last call
     /// at most another.
     pub fn next(&mut self, meter: &mut Meter) -> Option<&'a Record<A>>
-        ensures row { YieldsFirstRef (λ h. h.rows) self.old result self.new }
+        ensures feature { YieldsFirstRef (λ h. h.records) self.old result self.new }
         ensures steps { TakesForPassed meter.old meter.new self.old self.new (end_step result) }
     {
-        while let Some(row) = self.rows.next(meter) {
-            if self.at.overlaps(row) {
-                return Some(row);
+        while let Some(feature) = self.records.next(meter) {
+            if self.at.overlaps(feature) {
+                return Some(feature);
             }
-            if self.at.ends_before(row) {
+            if self.at.ends_before(feature) {
                 return None;
             }
         }

@@ -44,18 +44,18 @@ impl<'a, A: Allocator + Copy> TrackRecords<'a, A> {
 
     /// The next record, `None` after the last. A call is at most one step.
     pub fn next(&mut self, meter: &mut Meter) -> Option<&'a Record<A>>
-        ensures row { YieldsFirstRef (λ rows. rows) self.old result self.new }
+        ensures feature { YieldsFirstRef (λ records. records) self.old result self.new }
         ensures steps { TakesUpTo meter.old meter.new 1 }
     {
-        if let Some((row, left)) = self.held {
+        if let Some((feature, left)) = self.held {
             if left > 0 {
-                self.held = Some((row, left - 1));
-                return Some(row);
+                self.held = Some((feature, left - 1));
+                return Some(feature);
             }
         }
-        let (row, count) = self.entries.next(meter)?;
-        self.held = Some((row, *count - 1));
-        Some(row)
+        let (feature, count) = self.entries.next(meter)?;
+        self.held = Some((feature, *count - 1));
+        Some(feature)
     }
 
     /// The same walk once more, from where it is now. It is no step, and takes no memory.

@@ -7,21 +7,21 @@ use Rattle.std.proofs.lemmas.List.{take_more_set, map-append, length-map, length
 
 -- the words in an array of which the first few are in use
 abbrev pub shown : ℕ → List (Bor (List ℕ)) → List (List ℕ)
-shown count words = map (λ word. word.now) (take count words)
+shown count arguments = map (λ argument. argument.now) (take count arguments)
 
 -- a field that is a word
 abbrev pub some : List ℕ → Bool
-some word = not (length word == 0)
+some argument = not (length argument == 0)
 
 -- a word goes into the array
-pub word-taken : (count : ℕ) (words : List (Bor (List ℕ))) (field : Bor (List ℕ)) (fields later : List (List ℕ)) → count < length words → fields ≡ field.now ∷ later → 0 < length field.now
-    → shown (count + 1) (set words count field) ++ filter some later ≡ shown count words ++ filter some fields
-word-taken count words field fields later room are long =
+pub word-taken : (count : ℕ) (arguments : List (Bor (List ℕ))) (field : Bor (List ℕ)) (fields later : List (List ℕ)) → count < length arguments → fields ≡ field.now ∷ later → 0 < length field.now
+    → shown (count + 1) (set arguments count field) ++ filter some later ≡ shown count arguments ++ filter some fields
+word-taken count arguments field fields later room are long =
     let is : some field.now ≡ true = ap not (ne_eqb (length field.now) 0 (omega arith)) in
-    ap (λ (l : List (Bor (List ℕ))). map (λ (word : Bor (List ℕ)). word.now) l ++ filter some later) (take_more_set words count field room)
-    ∙ ap (λ (l : List (List ℕ)). l ++ filter some later) (map-append (λ (word : Bor (List ℕ)). word.now) (take count words) (field ∷ []))
-    ∙ append_assoc (shown count words) (field.now ∷ []) (filter some later)
-    ∙ ap (λ (l : List (List ℕ)). shown count words ++ l) (sym (ap (filter some) are ∙ cond-true (some field.now) (field.now ∷ filter some later) (filter some later) is))
+    ap (λ (l : List (Bor (List ℕ))). map (λ (argument : Bor (List ℕ)). argument.now) l ++ filter some later) (take_more_set arguments count field room)
+    ∙ ap (λ (l : List (List ℕ)). l ++ filter some later) (map-append (λ (argument : Bor (List ℕ)). argument.now) (take count arguments) (field ∷ []))
+    ∙ append_assoc (shown count arguments) (field.now ∷ []) (filter some later)
+    ∙ ap (λ (l : List (List ℕ)). shown count arguments ++ l) (sym (ap (filter some) are ∙ cond-true (some field.now) (field.now ∷ filter some later) (filter some later) is))
 
 -- an empty field is no word
 pub word-empty : (field : List ℕ) (fields later : List (List ℕ)) → fields ≡ field ∷ later → length field ≡ 0 → filter some later ≡ filter some fields
@@ -30,11 +30,11 @@ word-empty field fields later are none =
     sym (ap (filter some) are ∙ cond-false (some field) (field ∷ filter some later) (filter some later) is)
 
 -- words past the array are not looked at
-pub word-past : (count : ℕ) (words : List (Bor (List ℕ))) (more less : List (List ℕ)) → count ≡ 9 → count ≤ length words
-    → take 9 (shown count words ++ more) ≡ take 9 (shown count words ++ less)
-word-past count words more less full within =
-    let size : length (shown count words) ≡ count = length-map (take count words) (λ (word : Bor (List ℕ)). word.now) ∙ length-take-le count words within in
-    take-append-le 9 (shown count words) more (omega arith) ∙ sym (take-append-le 9 (shown count words) less (omega arith))
+pub word-past : (count : ℕ) (arguments : List (Bor (List ℕ))) (more less : List (List ℕ)) → count ≡ 9 → count ≤ length arguments
+    → take 9 (shown count arguments ++ more) ≡ take 9 (shown count arguments ++ less)
+word-past count arguments more less full within =
+    let size : length (shown count arguments) ≡ count = length-map (take count arguments) (λ (argument : Bor (List ℕ)). argument.now) ∙ length-take-le count arguments within in
+    take-append-le 9 (shown count arguments) more (omega arith) ∙ sym (take-append-le 9 (shown count arguments) less (omega arith))
 
 pub positive : (n : ℕ) → (n == 0) ≡ false → 0 < n
 positive zero none = absurd (cc none)

@@ -13,9 +13,9 @@ use Rattle.iv_view.specs.declared.view.KeptView.TheVariants as kept
 
 -- the text of a merge is that of the blocks that are kept for it
 pub merge-shown : {T E : Type 0} (part : Option Region) (v : KeptView) (options own : BlockOptions) → v ≡ kept.Merge options → keep.Blocks own ≡ state_key v
-    → (g : Sequences) (rows : List RecordValue) (old new : SinkState) (result : Result T E)
-    → Puts old new result (kept_text part (kept.Merge own) g rows) → Puts old new result (kept_text part v g rows)
-merge-shown part v options own is key g rows old new result put =
+    → (g : Sequences) (records : List RecordValue) (old new : SinkState) (result : Result T E)
+    → Puts old new result (kept_text part (kept.Merge own) g records) → Puts old new result (kept_text part v g records)
+merge-shown part v options own is key g records old new result put =
     let keys : keep.Blocks own ≡ keep.Blocks options = key ∙ ap state_key is in
     let same : own ≡ options = cc (keys) in
-    subst (λ (x : KeptView). Puts old new result (kept_text part x g rows)) (ap kept.Merge same ∙ sym is) put
+    subst (λ (x : KeptView). Puts old new result (kept_text part x g records)) (ap kept.Merge same ∙ sym is) put

@@ -10,4 +10,4 @@ mod MergeArgsLemmas
 mod SameLemmas
 mod SummaryLemmas
 pub mod NarrowingLemmas
-pub mod WordLemmas
+pub mod ArgumentLemmas

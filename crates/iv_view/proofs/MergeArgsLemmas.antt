@@ -15,40 +15,40 @@ one-up f (x ∷ xs) d h =
     rw n (ap (λ l. f x ∷ map f l) (sym (take_all (length xs) xs (omega arith))))
 
 -- a flag
-pub said-flag : (word : List ℕ) (words : List (List ℕ)) (said : MergeArgs) → bytes_eq word (codes "-s") ≡ true → said.stranded ≡ false
-    → said_by (word ∷ words) said ≡ said_by words (record said { stranded = true })
-said-flag word [] said is free =
-    cond-true (bytes_eq word (codes "-s")) (with_flag said) None is ∙ cond-false said.stranded None (Some (record said { stranded = true })) free
-said-flag word (next ∷ words) said is free =
-    cond-true (bytes_eq word (codes "-s")) (option_and_then (said_by (next ∷ words)) (with_flag said)) (option_and_then (said_by words) (with_option word next said)) is
-    ∙ ap (option_and_then (said_by (next ∷ words))) (cond-false said.stranded None (Some (record said { stranded = true })) free)
+pub said-flag : (argument : List ℕ) (arguments : List (List ℕ)) (said : MergeArgs) → bytes_eq argument (codes "-s") ≡ true → said.stranded ≡ false
+    → said_by (argument ∷ arguments) said ≡ said_by arguments (record said { stranded = true })
+said-flag argument [] said is free =
+    cond-true (bytes_eq argument (codes "-s")) (with_flag said) None is ∙ cond-false said.stranded None (Some (record said { stranded = true })) free
+said-flag argument (next ∷ arguments) said is free =
+    cond-true (bytes_eq argument (codes "-s")) (option_and_then (said_by (next ∷ arguments)) (with_flag said)) (option_and_then (said_by arguments) (with_option argument next said)) is
+    ∙ ap (option_and_then (said_by (next ∷ arguments))) (cond-false said.stranded None (Some (record said { stranded = true })) free)
 
 -- a flag that was there before
-pub said-twice : (word : List ℕ) (words : List (List ℕ)) (said : MergeArgs) → bytes_eq word (codes "-s") ≡ true → said.stranded ≡ true → said_by (word ∷ words) said ≡ None
-said-twice word [] said is there =
-    cond-true (bytes_eq word (codes "-s")) (with_flag said) None is ∙ cond-true said.stranded None (Some (record said { stranded = true })) there
-said-twice word (next ∷ words) said is there =
-    cond-true (bytes_eq word (codes "-s")) (option_and_then (said_by (next ∷ words)) (with_flag said)) (option_and_then (said_by words) (with_option word next said)) is
-    ∙ ap (option_and_then (said_by (next ∷ words))) (cond-true said.stranded None (Some (record said { stranded = true })) there)
+pub said-twice : (argument : List ℕ) (arguments : List (List ℕ)) (said : MergeArgs) → bytes_eq argument (codes "-s") ≡ true → said.stranded ≡ true → said_by (argument ∷ arguments) said ≡ None
+said-twice argument [] said is there =
+    cond-true (bytes_eq argument (codes "-s")) (with_flag said) None is ∙ cond-true said.stranded None (Some (record said { stranded = true })) there
+said-twice argument (next ∷ arguments) said is there =
+    cond-true (bytes_eq argument (codes "-s")) (option_and_then (said_by (next ∷ arguments)) (with_flag said)) (option_and_then (said_by arguments) (with_option argument next said)) is
+    ∙ ap (option_and_then (said_by (next ∷ arguments))) (cond-true said.stranded None (Some (record said { stranded = true })) there)
 
 -- an option and its value
-pub said-value : (word value : List ℕ) (words : List (List ℕ)) (said : MergeArgs) → bytes_eq word (codes "-s") ≡ false
-    → said_by (word ∷ value ∷ words) said ≡ option_and_then (said_by words) (with_option word value said)
-said-value word value words said other =
-    cond-false (bytes_eq word (codes "-s")) (option_and_then (said_by (value ∷ words)) (with_flag said)) (option_and_then (said_by words) (with_option word value said)) other
+pub said-value : (argument value : List ℕ) (arguments : List (List ℕ)) (said : MergeArgs) → bytes_eq argument (codes "-s") ≡ false
+    → said_by (argument ∷ value ∷ arguments) said ≡ option_and_then (said_by arguments) (with_option argument value said)
+said-value argument value arguments said other =
+    cond-false (bytes_eq argument (codes "-s")) (option_and_then (said_by (value ∷ arguments)) (with_flag said)) (option_and_then (said_by arguments) (with_option argument value said)) other
 
--- the words of a slice that are left after its first
+-- the arguments of a slice that are left after its first
 abbrev pub later : List (Bor (List ℕ)) → List (Bor (List ℕ))
 later ws = take (length ws - 1) (drop 1 ws)
 
 abbrev pub texts : List (Bor (List ℕ)) → List (List ℕ)
-texts ws = map (λ word. word.now) ws
+texts ws = map (λ argument. argument.now) ws
 
 pub going-flag : (ws : List (Bor (List ℕ))) (d : Bor (List ℕ)) (said : MergeArgs) (all : Option MergeArgs) → 1 ≤ length ws → bytes_eq (get_or ws 0 d).now (codes "-s") ≡ true → said.stranded ≡ false
     → said_by (texts ws) said ≡ all → said_by (texts (later ws)) (record said { stranded = true }) ≡ all
 going-flag ws d said all some is free known =
     sym (said-flag (get_or ws 0 d).now (texts (later ws)) said is free)
-    ∙ ap (λ (l : List (List ℕ)). said_by l said) (sym (one-up (λ word. word.now) ws d some))
+    ∙ ap (λ (l : List (List ℕ)). said_by l said) (sym (one-up (λ argument. argument.now) ws d some))
     ∙ known
 
 pub going-value : (ws : List (Bor (List ℕ))) (d e : Bor (List ℕ)) (said next : MergeArgs) (all : Option MergeArgs) → 1 ≤ length ws → 1 ≤ length (later ws)
@@ -57,6 +57,6 @@ pub going-value : (ws : List (Bor (List ℕ))) (d e : Bor (List ℕ)) (said next
 going-value ws d e said next all some more other taken known =
     ap (option_and_then (said_by (texts (later (later ws))))) (sym taken)
     ∙ sym (said-value (get_or ws 0 d).now (get_or (later ws) 0 e).now (texts (later (later ws))) said other)
-    ∙ ap (λ (l : List (List ℕ)). said_by ((get_or ws 0 d).now ∷ l) said) (sym (one-up (λ word. word.now) (later ws) e more))
-    ∙ ap (λ (l : List (List ℕ)). said_by l said) (sym (one-up (λ word. word.now) ws d some))
+    ∙ ap (λ (l : List (List ℕ)). said_by ((get_or ws 0 d).now ∷ l) said) (sym (one-up (λ argument. argument.now) (later ws) e more))
+    ∙ ap (λ (l : List (List ℕ)). said_by l said) (sym (one-up (λ argument. argument.now) ws d some))
     ∙ known

@@ -1,4 +1,4 @@
--- What words ask for on fewer than six columns, or without one of the files, is what they ask for with all of these, narrowed.
+-- What arguments ask for on fewer than six columns, or without one of the files, is what they ask for with all of these, narrowed.
 use Rattle.std.proofs.Common.{◌≡◌, ◌∙◌, ℕ, zero, suc, ◌<◌, Bool, true, false, inl, inr, List, [], ◌∷◌, Option, Some, None, map, length, replicate, refl, sym, ap, arith}
 use Rattle.std.specs.Prelude.{Result, Ok, Err, ◌&&◌, ◌-◌, ◌==◌, not, nat_le, nat_lt, if◌then◌else◌, option_and_then, codes}
 use Rattle.std.specs.Option.{option_map, ok_or}
@@ -15,16 +15,16 @@ use Rattle.iv_blocks.specs.Groups.{filled, listed}
 use Rattle.iv_blocks.specs.Inside.Groups.{unused}
 use Rattle.iv_blocks.specs.declared.options.BlockOptions.{BlockOptions}
 use Rattle.iv_blocks.specs.declared.options.Summaries.{Summaries}
-use Rattle.iv_depth.specs.declared.depth_rows.DepthRows.{DepthRows}
-use Rattle.iv_fasta.specs.declared.rows.FastaRows.{FastaRows}
-use Rattle.iv_pair.specs.declared.pair_rows.PairRows.{PairRows}
-use Rattle.iv_pair.specs.declared.pair_rows.PairRows.TheVariants as pair
+use Rattle.iv_depth.specs.declared.depth_rows.DepthOutput.{DepthOutput}
+use Rattle.iv_fasta.specs.declared.rows.FastaOutput.{FastaOutput}
+use Rattle.iv_pair.specs.declared.pair_rows.PairOutput.{PairOutput}
+use Rattle.iv_pair.specs.declared.pair_rows.PairOutput.TheVariants as pair
 use Rattle.iv_text.specs.Chains.{if_ok}
 use Rattle.iv_view.specs.Flags.{only_flag, beside_flag, genomecov_rows, intersect_said, fasta_said}
 use Rattle.iv_view.specs.Lists.{all_some, pairs}
 use Rattle.iv_view.specs.Merge.{MergeArgs, said_by, nothing_said, distance_of, lists_of, summary_within, merge_options, cluster_distance}
 use Rattle.iv_view.specs.NarrowedViews.{number_of, has_columns, narrowed_options, as_merge, narrowed}
-use Rattle.iv_view.specs.Views.{read_words, or_bad_words, beside_second, beside_fasta}
+use Rattle.iv_view.specs.Views.{read_arguments, or_bad_arguments, beside_second, beside_fasta}
 use Rattle.iv_view.specs.declared.view.View.{View}
 use Rattle.iv_view.specs.declared.view.View.TheVariants as view
 use Rattle.iv_view.specs.declared.view.KeptView.TheVariants as kept
@@ -255,43 +255,43 @@ module _ (width : ℕ) (has_second has_bases : Bool) where
       by (Err why) = refl
       by (Ok options) = refl
 
-  narrowed-cluster : (asked : Option ℕ) → or_bad_words (option_map kept.Cluster asked) ≡ here (or_bad_words (option_map kept.Cluster asked))
+  narrowed-cluster : (asked : Option ℕ) → or_bad_arguments (option_map kept.Cluster asked) ≡ here (or_bad_arguments (option_map kept.Cluster asked))
   narrowed-cluster None = refl
   narrowed-cluster (Some distance) = refl
 
-  narrowed-complement : (asked : Option Bool) → or_bad_words (option_map kept.Complement asked) ≡ here (or_bad_words (option_map kept.Complement asked))
+  narrowed-complement : (asked : Option Bool) → or_bad_arguments (option_map kept.Complement asked) ≡ here (or_bad_arguments (option_map kept.Complement asked))
   narrowed-complement None = refl
   narrowed-complement (Some limited) = refl
 
-  narrowed-genomecov : (asked : Option DepthRows) → or_bad_words (option_map kept.Genomecov asked) ≡ here (or_bad_words (option_map kept.Genomecov asked))
+  narrowed-genomecov : (asked : Option DepthOutput) → or_bad_arguments (option_map kept.Genomecov asked) ≡ here (or_bad_arguments (option_map kept.Genomecov asked))
   narrowed-genomecov None = refl
   narrowed-genomecov (Some shown) = refl
 
-  narrowed-paired : (asked : Option PairRows) → beside_second has_second asked ≡ here (beside_second true asked)
+  narrowed-paired : (asked : Option PairOutput) → beside_second has_second asked ≡ here (beside_second true asked)
   narrowed-paired None = refl
-  narrowed-paired (Some rows) = refl
+  narrowed-paired (Some output) = refl
 
-  narrowed-fasta : (asked : Option FastaRows) → beside_fasta width has_bases asked ≡ here (beside_fasta 6 true asked)
+  narrowed-fasta : (asked : Option FastaOutput) → beside_fasta width has_bases asked ≡ here (beside_fasta 6 true asked)
   narrowed-fasta None = refl
   narrowed-fasta (Some shown) =
       sym (ap here (cond-false (shown.stranded && nat_lt 6 6) (Err fault.NoStrand) (Ok (view.Written (written.Getfasta shown))) (and_right shown.stranded (nat_lt 6 6) refl)))
 
-  words-narrowed : (words : List (List ℕ)) → read_words width has_second has_bases words ≡ here (read_words 6 true true words)
+  words-narrowed : (arguments : List (List ℕ)) → read_arguments width has_second has_bases arguments ≡ here (read_arguments 6 true true arguments)
   words-narrowed [] = refl
-  words-narrowed (word ∷ words) =
-      either (bytes_eq word (codes "merge")) _ _ _ _ (narrowed-merge (said_by words nothing_said))
-      (either (bytes_eq word (codes "cluster")) _ _ _ _ (narrowed-cluster (cluster_distance (said_by words nothing_said)))
-      (either (bytes_eq word (codes "complement")) _ _ _ _ (narrowed-complement (only_flag (codes "-L") words))
-      (either (bytes_eq word (codes "genomecov")) _ _ _ _ (narrowed-genomecov (genomecov_rows words))
-      (either (bytes_eq word (codes "intersect")) _ _ _ _ (narrowed-paired (option_map pair.Intersect (beside_flag (codes "-wa") intersect_said words)))
-      (either (bytes_eq word (codes "subtract")) _ _ _ _ (narrowed-paired (option_map pair.Subtract (only_flag (codes "-A") words)))
-      (either (bytes_eq word (codes "getfasta")) _ _ _ _ (narrowed-fasta (beside_flag (codes "-s") fasta_said words))
-      (either (bytes_eq word (codes "records") && length words == 0) _ _ _ _ refl refl)))))))
+  words-narrowed (argument ∷ arguments) =
+      either (bytes_eq argument (codes "merge")) _ _ _ _ (narrowed-merge (said_by arguments nothing_said))
+      (either (bytes_eq argument (codes "cluster")) _ _ _ _ (narrowed-cluster (cluster_distance (said_by arguments nothing_said)))
+      (either (bytes_eq argument (codes "complement")) _ _ _ _ (narrowed-complement (only_flag (codes "-L") arguments))
+      (either (bytes_eq argument (codes "genomecov")) _ _ _ _ (narrowed-genomecov (genomecov_rows arguments))
+      (either (bytes_eq argument (codes "intersect")) _ _ _ _ (narrowed-paired (option_map pair.Intersect (beside_flag (codes "-wa") intersect_said arguments)))
+      (either (bytes_eq argument (codes "subtract")) _ _ _ _ (narrowed-paired (option_map pair.Subtract (only_flag (codes "-A") arguments)))
+      (either (bytes_eq argument (codes "getfasta")) _ _ _ _ (narrowed-fasta (beside_flag (codes "-s") fasta_said arguments))
+      (either (bytes_eq argument (codes "records") && length arguments == 0) _ _ _ _ refl refl)))))))
 
   -- what a view that was read is narrowed to
-  pub view-narrowed : (words : List (List ℕ)) (v : View) → read_words 6 true true words ≡ Ok v → narrowed width has_second has_bases v ≡ read_words width has_second has_bases words
-  view-narrowed words v is = sym (words-narrowed words ∙ ap here is)
+  pub view-narrowed : (arguments : List (List ℕ)) (v : View) → read_arguments 6 true true arguments ≡ Ok v → narrowed width has_second has_bases v ≡ read_arguments width has_second has_bases arguments
+  view-narrowed arguments v is = sym (words-narrowed arguments ∙ ap here is)
 
   -- a fault stays
-  pub fault-narrowed : (words : List (List ℕ)) (why : Fault) → read_words 6 true true words ≡ Err why → read_words width has_second has_bases words ≡ Err why
-  fault-narrowed words why is = words-narrowed words ∙ ap here is
+  pub fault-narrowed : (arguments : List (List ℕ)) (why : Fault) → read_arguments 6 true true arguments ≡ Err why → read_arguments width has_second has_bases arguments ≡ Err why
+  fault-narrowed arguments why is = words-narrowed arguments ∙ ap here is

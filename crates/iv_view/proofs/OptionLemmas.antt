@@ -1,4 +1,4 @@
--- The options of `merge` and `cluster`: what their words mean, in any order.
+-- The options of `merge` and `cluster`: what their arguments mean, in any order.
 use Rattle.std.proofs.Common.{◌≡◌, ◌∙◌, ◌↔◌, ◌⊎◌, inl, inr, ℕ, zero, suc, ◌<◌, Bool, true, false, true≢false, cond, List, [], ◌∷◌, ◌++◌, Option, Some, None, map, length, get_or, set, swap, refl, sym, ap, subst, arith, append-nil, IsPermutation}
 use Rattle.std.specs.Prelude.{if◌then◌else◌, option_and_then, codes, slice_get}
 use Rattle.std.specs.Option.{is_some, option_to_list}
@@ -6,7 +6,7 @@ use Rattle.std.specs.Str.{bytes_eq}
 use Rattle.std.proofs.lemmas.Slice.Eq.{bytes_eq-Decides}
 use Rattle.std.proofs.lemmas.List.Sorted.{IsPermutation-refl, IsPermutation-sym, IsPermutation-trans, IsPermutation-keeps, IsPermutation-middle, IsPermutation-to_front, IsPermutation-append_left, IsPermutation-append_right}
 use Rattle.iv_view.specs.Merge.{MergeArgs, said_by, with_flag, with_option, unless_given, nothing_said}
-use Rattle.iv_view.specs.Inside.MergeOptions.{MergeOption, Distance, Columns, Ops, Stranded, words_of, option_words, options_of}
+use Rattle.iv_view.specs.Inside.MergeOptions.{MergeOption, Distance, Columns, Ops, Stranded, words_of, option_arguments, options_of}
 
 some-same : {A : Type 0} (a b : A) → Some a ≡ Some b → a ≡ b
 some-same a b is = cc
@@ -55,16 +55,16 @@ nothing-more : (o : Option MergeArgs) → o ≡ option_and_then (said_by []) o
 nothing-more None = refl
 nothing-more (Some said) = refl
 
--- the first option is taken, and then the other words are read
-said-first : (a : MergeOption) (words : List (List ℕ)) (said : MergeArgs) → said_by (words_of a ++ words) said ≡ option_and_then (said_by words) (taken a said)
-said-first (Distance value) words said = refl
-said-first (Columns value) words said = refl
-said-first (Ops value) words said = refl
+-- the first option is taken, and then the other arguments are read
+said-first : (a : MergeOption) (arguments : List (List ℕ)) (said : MergeArgs) → said_by (words_of a ++ arguments) said ≡ option_and_then (said_by arguments) (taken a said)
+said-first (Distance value) arguments said = refl
+said-first (Columns value) arguments said = refl
+said-first (Ops value) arguments said = refl
 said-first Stranded [] said = nothing-more (with_flag said)
-said-first Stranded (next ∷ words) said = refl
+said-first Stranded (next ∷ arguments) said = refl
 
-said-after : (a : MergeOption) (words : List (List ℕ)) (said : MergeArgs) → said_by (words_of a ++ words) said ≡ option_and_then (said_by words) (unless (has a said) (given a said))
-said-after a words said = said-first a words said ∙ ap (option_and_then (said_by words)) (taken-is a said)
+said-after : (a : MergeOption) (arguments : List (List ℕ)) (said : MergeArgs) → said_by (words_of a ++ arguments) said ≡ option_and_then (said_by arguments) (unless (has a said) (given a said))
+said-after a arguments said = said-first a arguments said ∙ ap (option_and_then (said_by arguments)) (taken-is a said)
 
 -- ---- two options
 
@@ -129,26 +129,26 @@ then-same f g is (Some s) = is s
 
 -- options that mean the same, whatever was given before them
 abbrev pub SayTheSame : List MergeOption → List MergeOption → Type 0
-SayTheSame xs ys = (said : MergeArgs) → said_by (option_words xs) said ≡ said_by (option_words ys) said
+SayTheSame xs ys = (said : MergeArgs) → said_by (option_arguments xs) said ≡ said_by (option_arguments ys) said
 
 same-after : (a : MergeOption) (xs ys : List MergeOption) → SayTheSame xs ys → SayTheSame (a ∷ xs) (a ∷ ys)
 same-after a xs ys same said =
-    said-first a (option_words xs) said
-    ∙ then-same (said_by (option_words xs)) (said_by (option_words ys)) same (taken a said)
-    ∙ sym (said-first a (option_words ys) said)
+    said-first a (option_arguments xs) said
+    ∙ then-same (said_by (option_arguments xs)) (said_by (option_arguments ys)) same (taken a said)
+    ∙ sym (said-first a (option_arguments ys) said)
 
 pub same-front : (front xs ys : List MergeOption) → SayTheSame xs ys → SayTheSame (front ++ xs) (front ++ ys)
 same-front [] xs ys same = same
 same-front (a ∷ front) xs ys same = same-after a (front ++ xs) (front ++ ys) (same-front front xs ys same)
 
-two-first : (a b : MergeOption) (xs : List MergeOption) (said : MergeArgs) → said_by (option_words (a ∷ b ∷ xs)) said ≡ option_and_then (said_by (option_words xs)) (option_and_then (taken b) (taken a said))
+two-first : (a b : MergeOption) (xs : List MergeOption) (said : MergeArgs) → said_by (option_arguments (a ∷ b ∷ xs)) said ≡ option_and_then (said_by (option_arguments xs)) (option_and_then (taken b) (taken a said))
 two-first a b xs said =
-    said-first a (option_words (b ∷ xs)) said
-    ∙ then-then (said_by (option_words xs)) (taken b) (said_by (option_words (b ∷ xs))) (said-first b (option_words xs)) (taken a said)
+    said-first a (option_arguments (b ∷ xs)) said
+    ∙ then-then (said_by (option_arguments xs)) (taken b) (said_by (option_arguments (b ∷ xs))) (said-first b (option_arguments xs)) (taken a said)
 
 -- neighbours may be exchanged
 pub same-swapped : (a b : MergeOption) (xs : List MergeOption) → SayTheSame (a ∷ b ∷ xs) (b ∷ a ∷ xs)
-same-swapped a b xs said = two-first a b xs said ∙ ap (option_and_then (said_by (option_words xs))) (swapped a b said) ∙ sym (two-first b a xs said)
+same-swapped a b xs said = two-first a b xs said ∙ ap (option_and_then (said_by (option_arguments xs))) (swapped a b said) ∙ sym (two-first b a xs said)
 
 -- an option is exchanged with the first
 same-moved : (xs : List MergeOption) (j : ℕ) (x d : MergeOption) → j < length xs → SayTheSame (get_or xs j d ∷ set xs j x) (x ∷ xs)
@@ -180,7 +180,7 @@ same-permuted xs ys = IsPermutation-keeps xs (λ l. SayTheSame l xs) (λ said. r
 abbrev said_of : (d c o : Option (List ℕ)) (s : Bool) → MergeArgs
 said_of d c o s = record { distance = d; columns = c; ops = o; stranded = s }
 
-own-said : (d c o : Option (List ℕ)) (s : Bool) → said_by (option_words (options_of (said_of d c o s))) nothing_said ≡ Some (said_of d c o s)
+own-said : (d c o : Option (List ℕ)) (s : Bool) → said_by (option_arguments (options_of (said_of d c o s))) nothing_said ≡ Some (said_of d c o s)
 own-said None None None false = refl
 own-said None None None true = refl
 own-said None None (Some o) false = refl
@@ -198,55 +198,55 @@ own-said (Some d) (Some c) None true = refl
 own-said (Some d) (Some c) (Some o) false = refl
 own-said (Some d) (Some c) (Some o) true = refl
 
--- ---- words that mean something
+-- ---- arguments that mean something
 
--- the words are those of some options
+-- the arguments are those of some options
 abbrev AreOptions : List (List ℕ) → Type 0
-AreOptions words = (options : List MergeOption) × (words ≡ option_words options)
+AreOptions arguments = (options : List MergeOption) × (arguments ≡ option_arguments options)
 
 then-some : (f : MergeArgs → Option MergeArgs) (o : Option MergeArgs) (new : MergeArgs) → option_and_then f o ≡ Some new → (mid : MergeArgs) × (f mid ≡ Some new)
 then-some f None new is = absurd (none≢some new is)
 then-some f (Some mid) new is = (mid, is)
 
--- the word is that of an option with this value
+-- the argument is that of an option with this value
 abbrev IsNamed : List ℕ → List ℕ → Type 0
-IsNamed word value = (a : MergeOption) × (word ∷ value ∷ [] ≡ words_of a)
+IsNamed argument value = (a : MergeOption) × (argument ∷ value ∷ [] ≡ words_of a)
 
-named : (word value : List ℕ) (old new : MergeArgs) → with_option word value old ≡ Some new → IsNamed word value
-named word value old new is = by (bytes_eq word (codes "-d")) refl (bytes_eq word (codes "-c")) refl (bytes_eq word (codes "-o")) refl is
+named : (argument value : List ℕ) (old new : MergeArgs) → with_option argument value old ≡ Some new → IsNamed argument value
+named argument value old new is = by (bytes_eq argument (codes "-d")) refl (bytes_eq argument (codes "-c")) refl (bytes_eq argument (codes "-o")) refl is
   where
-    by : (b : Bool) → bytes_eq word (codes "-d") ≡ b → (c : Bool) → bytes_eq word (codes "-c") ≡ c → (d : Bool) → bytes_eq word (codes "-o") ≡ d
+    by : (b : Bool) → bytes_eq argument (codes "-d") ≡ b → (c : Bool) → bytes_eq argument (codes "-c") ≡ c → (d : Bool) → bytes_eq argument (codes "-o") ≡ d
         → (if b then unless_given old.distance (given (Distance value) old) else (if c then unless_given old.columns (given (Columns value) old) else (if d then unless_given old.ops (given (Ops value) old) else None))) ≡ Some new
-        → IsNamed word value
-    by true e c f d g is = (Distance value, ap (λ (w : List ℕ). w ∷ value ∷ []) ((bytes_eq-Decides word (codes "-d")).0 e))
-    by false e true f d g is = (Columns value, ap (λ (w : List ℕ). w ∷ value ∷ []) ((bytes_eq-Decides word (codes "-c")).0 f))
-    by false e false f true g is = (Ops value, ap (λ (w : List ℕ). w ∷ value ∷ []) ((bytes_eq-Decides word (codes "-o")).0 g))
+        → IsNamed argument value
+    by true e c f d g is = (Distance value, ap (λ (w : List ℕ). w ∷ value ∷ []) ((bytes_eq-Decides argument (codes "-d")).0 e))
+    by false e true f d g is = (Columns value, ap (λ (w : List ℕ). w ∷ value ∷ []) ((bytes_eq-Decides argument (codes "-c")).0 f))
+    by false e false f true g is = (Ops value, ap (λ (w : List ℕ). w ∷ value ∷ []) ((bytes_eq-Decides argument (codes "-o")).0 g))
     by false e false f false g is = absurd (none≢some new is)
 
-read-one : (word : List ℕ) (old new : MergeArgs) (b : Bool) → bytes_eq word (codes "-s") ≡ b → (if b then with_flag old else None) ≡ Some new → AreOptions (word ∷ [])
-read-one word old new true e is = (Stranded ∷ [], ap (λ (w : List ℕ). w ∷ []) ((bytes_eq-Decides word (codes "-s")).0 e))
-read-one word old new false e is = absurd (none≢some new is)
+read-one : (argument : List ℕ) (old new : MergeArgs) (b : Bool) → bytes_eq argument (codes "-s") ≡ b → (if b then with_flag old else None) ≡ Some new → AreOptions (argument ∷ [])
+read-one argument old new true e is = (Stranded ∷ [], ap (λ (w : List ℕ). w ∷ []) ((bytes_eq-Decides argument (codes "-s")).0 e))
+read-one argument old new false e is = absurd (none≢some new is)
 
-read-more : (word next : List ℕ) (words : List (List ℕ)) (old new : MergeArgs)
-    → ((mid : MergeArgs) → said_by (next ∷ words) mid ≡ Some new → AreOptions (next ∷ words)) → ((mid : MergeArgs) → said_by words mid ≡ Some new → AreOptions words)
-    → (b : Bool) → bytes_eq word (codes "-s") ≡ b → (o : Option MergeArgs) → with_option word next old ≡ o
-    → (if b then option_and_then (said_by (next ∷ words)) (with_flag old) else option_and_then (said_by words) o) ≡ Some new
-    → AreOptions (word ∷ next ∷ words)
-read-more word next words old new one two true e o at is =
-    let mid = then-some (said_by (next ∷ words)) (with_flag old) new is in
+read-more : (argument next : List ℕ) (arguments : List (List ℕ)) (old new : MergeArgs)
+    → ((mid : MergeArgs) → said_by (next ∷ arguments) mid ≡ Some new → AreOptions (next ∷ arguments)) → ((mid : MergeArgs) → said_by arguments mid ≡ Some new → AreOptions arguments)
+    → (b : Bool) → bytes_eq argument (codes "-s") ≡ b → (o : Option MergeArgs) → with_option argument next old ≡ o
+    → (if b then option_and_then (said_by (next ∷ arguments)) (with_flag old) else option_and_then (said_by arguments) o) ≡ Some new
+    → AreOptions (argument ∷ next ∷ arguments)
+read-more argument next arguments old new one two true e o at is =
+    let mid = then-some (said_by (next ∷ arguments)) (with_flag old) new is in
     let rest = one mid.0 mid.1 in
-    (Stranded ∷ rest.0, (λ i. (bytes_eq-Decides word (codes "-s")).0 e i ∷ rest.1 i))
-read-more word next words old new one two false e None at is = absurd (none≢some new is)
-read-more word next words old new one two false e (Some mid) at is =
+    (Stranded ∷ rest.0, (λ i. (bytes_eq-Decides argument (codes "-s")).0 e i ∷ rest.1 i))
+read-more argument next arguments old new one two false e None at is = absurd (none≢some new is)
+read-more argument next arguments old new one two false e (Some mid) at is =
     let rest = two mid is in
-    let name = named word next old mid at in
-    (name.0 ∷ rest.0, (λ i. word ∷ next ∷ rest.1 i) ∙ ap (λ (l : List (List ℕ)). l ++ option_words rest.0) name.1)
+    let name = named argument next old mid at in
+    (name.0 ∷ rest.0, (λ i. argument ∷ next ∷ rest.1 i) ∙ ap (λ (l : List (List ℕ)). l ++ option_arguments rest.0) name.1)
 
-read-options : (words : List (List ℕ)) (old new : MergeArgs) → said_by words old ≡ Some new → AreOptions words
+read-options : (arguments : List (List ℕ)) (old new : MergeArgs) → said_by arguments old ≡ Some new → AreOptions arguments
 read-options [] old new is = ([], refl)
-read-options (word ∷ []) old new is = read-one word old new (bytes_eq word (codes "-s")) refl is
-read-options (word ∷ next ∷ words) old new is =
-    read-more word next words old new (λ mid. read-options (next ∷ words) mid new) (λ mid. read-options words mid new) (bytes_eq word (codes "-s")) refl (with_option word next old) refl is
+read-options (argument ∷ []) old new is = read-one argument old new (bytes_eq argument (codes "-s")) refl is
+read-options (argument ∷ next ∷ arguments) old new is =
+    read-more argument next arguments old new (λ mid. read-options (next ∷ arguments) mid new) (λ mid. read-options arguments mid new) (bytes_eq argument (codes "-s")) refl (with_option argument next old) refl is
 
 -- ---- what they mean are just their options
 
@@ -299,45 +299,45 @@ given-options Stranded said free = by said.stranded free
 
 -- the options that were given before, and those that are read, are those that are given
 holds-first : (a : MergeOption) (options : List MergeOption) (old new : MergeArgs)
-    → ((mid : MergeArgs) → said_by (option_words options) mid ≡ Some new → IsPermutation (options ++ options_of mid) (options_of new))
-    → said_by (option_words (a ∷ options)) old ≡ Some new → IsPermutation (a ∷ (options ++ options_of old)) (options_of new)
-holds-first a options old new next is = by (has a old) refl (sym (said-after a (option_words options) old) ∙ is)
+    → ((mid : MergeArgs) → said_by (option_arguments options) mid ≡ Some new → IsPermutation (options ++ options_of mid) (options_of new))
+    → said_by (option_arguments (a ∷ options)) old ≡ Some new → IsPermutation (a ∷ (options ++ options_of old)) (options_of new)
+holds-first a options old new next is = by (has a old) refl (sym (said-after a (option_arguments options) old) ∙ is)
   where
-    by : (b : Bool) → has a old ≡ b → option_and_then (said_by (option_words options)) (unless (has a old) (given a old)) ≡ Some new
+    by : (b : Bool) → has a old ≡ b → option_and_then (said_by (option_arguments options)) (unless (has a old) (given a old)) ≡ Some new
         → IsPermutation (a ∷ (options ++ options_of old)) (options_of new)
     by true there is =
-        absurd (none≢some new (ap (λ (t : Bool). option_and_then (said_by (option_words options)) (unless t (given a old))) (sym there) ∙ is))
+        absurd (none≢some new (ap (λ (t : Bool). option_and_then (said_by (option_arguments options)) (unless t (given a old))) (sym there) ∙ is))
     by false free is =
-        let rest : said_by (option_words options) (given a old) ≡ Some new =
-        ap (λ (t : Bool). option_and_then (said_by (option_words options)) (unless t (given a old))) (sym free) ∙ is in
+        let rest : said_by (option_arguments options) (given a old) ≡ Some new =
+        ap (λ (t : Bool). option_and_then (said_by (option_arguments options)) (unless t (given a old))) (sym free) ∙ is in
         IsPermutation-trans (a ∷ (options ++ options_of old)) (options ++ a ∷ options_of old) (options_of new)
         (IsPermutation-sym (options ++ a ∷ options_of old) (a ∷ (options ++ options_of old)) (IsPermutation-middle options a (options_of old)))
         (IsPermutation-trans (options ++ a ∷ options_of old) (options ++ options_of (given a old)) (options_of new)
         (IsPermutation-append_right options (a ∷ options_of old) (options_of (given a old)) (given-options a old free))
         (next (given a old) rest))
 
-holds : (options : List MergeOption) (old new : MergeArgs) → said_by (option_words options) old ≡ Some new → IsPermutation (options ++ options_of old) (options_of new)
+holds : (options : List MergeOption) (old new : MergeArgs) → said_by (option_arguments options) old ≡ Some new → IsPermutation (options ++ options_of old) (options_of new)
 holds [] old new is = subst (λ (s : MergeArgs). IsPermutation (options_of old) (options_of s)) (some-same old new is) (IsPermutation-refl (options_of old))
 holds (a ∷ options) old new is = holds-first a options old new (λ mid. holds options mid new) is
 
--- the words are those of the options that are given, in some order
-abbrev pub AreWordsOf : List (List ℕ) → MergeArgs → Type 0
-AreWordsOf words said = (options : List MergeOption) × (words ≡ option_words options) × IsPermutation options (options_of said)
+-- the arguments are those of the options that are given, in some order
+abbrev pub AreArgumentsOf : List (List ℕ) → MergeArgs → Type 0
+AreArgumentsOf arguments said = (options : List MergeOption) × (arguments ≡ option_arguments options) × IsPermutation options (options_of said)
 
-said-options : (words : List (List ℕ)) (said : MergeArgs) → said_by words nothing_said ≡ Some said → AreWordsOf words said
-said-options words said is =
-    let read = read-options words nothing_said said is in
+said-options : (arguments : List (List ℕ)) (said : MergeArgs) → said_by arguments nothing_said ≡ Some said → AreArgumentsOf arguments said
+said-options arguments said is =
+    let read = read-options arguments nothing_said said is in
     let all : IsPermutation (read.0 ++ []) (options_of said) = holds read.0 nothing_said said (ap (λ (l : List (List ℕ)). said_by l nothing_said) (sym read.1) ∙ is) in
     (read.0, read.1, subst (λ (l : List MergeOption). IsPermutation l (options_of said)) (append-nil read.0) all)
 
-options-said : (words : List (List ℕ)) (said : MergeArgs) → AreWordsOf words said → said_by words nothing_said ≡ Some said
-options-said words said are =
+options-said : (arguments : List (List ℕ)) (said : MergeArgs) → AreArgumentsOf arguments said → said_by arguments nothing_said ≡ Some said
+options-said arguments said are =
     ap (λ (l : List (List ℕ)). said_by l nothing_said) are.1
     ∙ sym (same-permuted are.0 (options_of said) are.2 nothing_said)
     ∙ own-said said.distance said.columns said.ops said.stranded
 
-pub said-means : (words : List (List ℕ)) (said : MergeArgs) → (said_by words nothing_said ≡ Some said) ↔ AreWordsOf words said
-said-means words said = (said-options words said, options-said words said)
+pub said-means : (arguments : List (List ℕ)) (said : MergeArgs) → (said_by arguments nothing_said ≡ Some said) ↔ AreArgumentsOf arguments said
+said-means arguments said = (said-options arguments said, options-said arguments said)
 
 -- ---- an option that comes twice
 
@@ -347,22 +347,22 @@ still-has c b said there = elim (cases-of c b said) [
   | inr alike ↦ alike.0
 ]
 
-never-again : (middle after : List MergeOption) (b : MergeOption) (said : MergeArgs) → has b said ≡ true → said_by (option_words (middle ++ b ∷ after)) said ≡ None
+never-again : (middle after : List MergeOption) (b : MergeOption) (said : MergeArgs) → has b said ≡ true → said_by (option_arguments (middle ++ b ∷ after)) said ≡ None
 never-again [] after b said there =
-    said-after b (option_words after) said ∙ ap (λ (t : Bool). option_and_then (said_by (option_words after)) (unless t (given b said))) there
+    said-after b (option_arguments after) said ∙ ap (λ (t : Bool). option_and_then (said_by (option_arguments after)) (unless t (given b said))) there
 never-again (c ∷ middle) after b said there =
-    said-after c (option_words (middle ++ b ∷ after)) said
-    ∙ never-after (has c said) (given c said) (said_by (option_words (middle ++ b ∷ after))) (never-again middle after b (given c said) (still-has c b said there))
+    said-after c (option_arguments (middle ++ b ∷ after)) said
+    ∙ never-after (has c said) (given c said) (said_by (option_arguments (middle ++ b ∷ after))) (never-again middle after b (given c said) (still-has c b said there))
 
 then-never : (f : MergeArgs → Option MergeArgs) → ((s : MergeArgs) → f s ≡ None) → (o : Option MergeArgs) → option_and_then f o ≡ None
 then-never f never None = refl
 then-never f never (Some s) = never s
 
-never-front : (front rest : List MergeOption) → ((s : MergeArgs) → said_by (option_words rest) s ≡ None) → (said : MergeArgs) → said_by (option_words (front ++ rest)) said ≡ None
+never-front : (front rest : List MergeOption) → ((s : MergeArgs) → said_by (option_arguments rest) s ≡ None) → (said : MergeArgs) → said_by (option_arguments (front ++ rest)) said ≡ None
 never-front [] rest never said = never said
 never-front (c ∷ front) rest never said =
-    said-first c (option_words (front ++ rest)) said
-    ∙ then-never (said_by (option_words (front ++ rest))) (never-front front rest never) (taken c said)
+    said-first c (option_arguments (front ++ rest)) said
+    ∙ then-never (said_by (option_arguments (front ++ rest))) (never-front front rest never) (taken c said)
 
 two-words : (x y : List ℕ) → bytes_eq x x ≡ true → bytes_eq x y ≡ false → Some x ≡ Some y → ⊥
 two-words x y own other same = true≢false (sym own ∙ ap (bytes_eq x) (some-same x y same) ∙ other)
@@ -385,10 +385,10 @@ one-kind Stranded (Columns w) same said = absurd (two-words (codes "-s") (codes 
 one-kind Stranded (Ops w) same said = absurd (two-words (codes "-s") (codes "-o") refl refl same)
 one-kind Stranded Stranded same said = refl
 
-pub never-twice : (front middle after : List MergeOption) (a b : MergeOption) → slice_get (words_of a) 0 ≡ slice_get (words_of b) 0 → said_by (option_words (front ++ a ∷ (middle ++ b ∷ after))) nothing_said ≡ None
+pub never-twice : (front middle after : List MergeOption) (a b : MergeOption) → slice_get (words_of a) 0 ≡ slice_get (words_of b) 0 → said_by (option_arguments (front ++ a ∷ (middle ++ b ∷ after))) nothing_said ≡ None
 never-twice front middle after a b same =
     never-front front (a ∷ (middle ++ b ∷ after))
     (λ said.
-    said-after a (option_words (middle ++ b ∷ after)) said
-    ∙ never-after (has a said) (given a said) (said_by (option_words (middle ++ b ∷ after))) (never-again middle after b (given a said) (one-kind a b same said)))
+    said-after a (option_arguments (middle ++ b ∷ after)) said
+    ∙ never-after (has a said) (given a said) (said_by (option_arguments (middle ++ b ∷ after))) (never-again middle after b (given a said) (one-kind a b same said)))
     nothing_said

@@ -25,7 +25,7 @@ use Rattle.iv_text.specs.Named.{names_of, name_index}
 use Rattle.iv_text.specs.Number.{number}
 use Rattle.iv_text.specs.Inside.Number.{decimal_from}
 use Rattle.iv_text.specs.Ordered.{ordered}
-use Rattle.iv_text.specs.Read.{read, read_columns, row, column, has_fault, faults, bad_text, number_in, length_of, Fits}
+use Rattle.iv_text.specs.Read.{read, read_columns, feature, column, has_fault, faults, bad_text, number_in, length_of, Fits}
 use Rattle.iv_text.specs.Chains.{unless_fault}
 use Rattle.iv_text.specs.Inside.Read.{is_line_byte}
 use Rattle.iv_text.specs.RecordText.{record_text, strand_text}
@@ -154,7 +154,7 @@ text-columns name start stop cells p q r plain =
 
 alike : (g : Sequences) (w : ℕ) (cs ds : List (List ℕ)) → length ds ≡ length cs → column ds 0 ≡ column cs 0 → number (column ds 1) ≡ number (column cs 1) → number (column ds 2) ≡ number (column cs 2)
     → column ds 3 ≡ column cs 3 → column ds 4 ≡ column cs 4 → strand_of (column ds 5) ≡ strand_of (column cs 5) → read_columns g w ds ≡ read_columns g w cs
-alike g w cs ds long first start stop name score strand = λ i. unless_fault (find (λ f. same f i) faults) (Ok (rows i))
+alike g w cs ds long first start stop name score strand = λ i. unless_fault (find (λ f. same f i) faults) (Ok (records i))
   where
     same : (f : Fault) → has_fault g w ds f ≡ has_fault g w cs f
     same fault.Columns = ap (λ (n : ℕ). not (n == w)) long
@@ -168,8 +168,8 @@ alike g w cs ds long first start stop name score strand = λ i. unless_fault (fi
     same fault.Strand = ap (λ (s : Option Strand). nat_le 6 w && is_none s) strand
     same other = refl
 
-    rows : row g w ds ≡ row g w cs
-    rows = λ i. record {
+    records : feature g w ds ≡ feature g w cs
+    records = λ i. record {
       seq = unwrap_or (name_index g (first i)) 0;
       start = unwrap_or (start i) 0;
       stop = unwrap_or (stop i) 0;
@@ -231,11 +231,11 @@ cell-at n cells j P within past = elim (cases_lt j n) [
 
 -- columns without a fault, printed and read again, are the same record
 row-again : (g : Sequences) (w : ℕ) (cs : List (List ℕ)) → 3 ≤ w → w ≤ 6 → ((k : ℕ) → HasNoTab (column cs k)) → find (has_fault g w cs) faults ≡ None
-    → read g w (record_text g (row g w cs)) ≡ Ok (row g w cs)
+    → read g w (record_text g (feature g w cs)) ≡ Ok (feature g w cs)
 unfolding text_of
 row-again g w cs low high plain none =
     let free = passed (has_fault g w cs) faults none in
-    let r : RecordValue = row g w cs in
+    let r : RecordValue = feature g w cs in
     let many : length cs ≡ w = same_count (length cs) w free.0 in
     let named : sequence_name g r.seq ≡ column cs 0 = name-at g (column cs 0) r.seq (some-is (name_index g (column cs 0)) free.1.0) in
     let starts : number (column cs 1) ≡ Some r.start = some-is (number (column cs 1)) free.1.1.0 in
@@ -267,17 +267,17 @@ or_fault-parts (Some f) q r is = absurd (apart is)
 -- the text of the record of a line means it again
 pub line-again : (g : Sequences) (w : ℕ) (line : List ℕ) (r : RecordValue) → 3 ≤ w → w ≤ 6 → read g w line ≡ Ok r → read g w (record_text g r) ≡ Ok r
 line-again g w line r low high reads =
-    let parts = or_fault-parts (find (has_fault g w (columns line)) faults) (row g w (columns line)) r reads in
+    let parts = or_fault-parts (find (has_fault g w (columns line)) faults) (feature g w (columns line)) r reads in
     subst (λ (q : RecordValue). read g w (record_text g q) ≡ Ok q) parts.1 (row-again g w (columns line) low high (columns-tab line) parts.0)
 
 -- ---- other lengths
 
 -- a line means the same record while the names are the same and the record is within its sequence
 pub line-lengths : (g h : Sequences) (w : ℕ) (line : List ℕ) (r : RecordValue) → names_of h ≡ names_of g → Fits h w r → read g w line ≡ Ok r → read h w line ≡ Ok r
-line-lengths g h w line r named fits reads = (λ i. unless_fault (find (λ f. same f i) faults) (Ok (rows i))) ∙ reads
+line-lengths g h w line r named fits reads = (λ i. unless_fault (find (λ f. same f i) faults) (Ok (records i))) ∙ reads
   where
-    parts : (find (has_fault g w (columns line)) faults ≡ None) × (row g w (columns line) ≡ r)
-    parts = or_fault-parts (find (has_fault g w (columns line)) faults) (row g w (columns line)) r reads
+    parts : (find (has_fault g w (columns line)) faults ≡ None) × (feature g w (columns line) ≡ r)
+    parts = or_fault-parts (find (has_fault g w (columns line)) faults) (feature g w (columns line)) r reads
 
     ranks : name_index h (column (columns line) 0) ≡ name_index g (column (columns line) 0)
     ranks = ap (position (bytes_eq (column (columns line) 0))) named
@@ -294,8 +294,8 @@ line-lengths g h w line r named fits reads = (λ i. unless_fault (find (λ f. sa
     same fault.PastEnd = le-ltb (length_of h (column (columns line) 0)) (number_in (column (columns line) 2)) within ∙ sym ((passed (has_fault g w (columns line)) faults parts.0).1.1.1.1.1.0)
     same other = refl
 
-    rows : row h w (columns line) ≡ row g w (columns line)
-    rows = λ i. record {
+    records : feature h w (columns line) ≡ feature g w (columns line)
+    records = λ i. record {
       seq = unwrap_or (ranks i) 0;
       start = number_in (column (columns line) 1);
       stop = number_in (column (columns line) 2);
@@ -355,11 +355,11 @@ record AreParts (g : Sequences) (r : RecordValue) : Type 0 where
   text_is : record_text g r ≡ sequence_name g r.seq ++ 9 ∷ rest
   plain : All IsPlain rest
 
-row-parts : (g : Sequences) (w : ℕ) (cs : List (List ℕ)) → find (has_fault g w cs) faults ≡ None → AreParts g (row g w cs)
+row-parts : (g : Sequences) (w : ℕ) (cs : List (List ℕ)) → find (has_fault g w cs) faults ≡ None → AreParts g (feature g w cs)
 unfolding text_of
 row-parts g w cs none =
     let free = passed (has_fault g w cs) faults none in
-    let r : RecordValue = row g w cs in
+    let r : RecordValue = feature g w cs in
     let many : length cs ≡ w = same_count (length cs) w free.0 in
     let start_low : r.start < 10 ^ 10 = number-small (column cs 1) r.start (some-is (number (column cs 1)) free.1.1.0) in
     let stop_low : r.stop < 10 ^ 10 = number-small (column cs 2) r.stop (some-is (number (column cs 2)) free.1.1.1.0) in
@@ -378,7 +378,7 @@ row-parts g w cs none =
 
 line-parts : (g : Sequences) (w : ℕ) (r : RecordValue) → IsOfLine g w r → AreParts g r
 line-parts g w r of =
-    let parts = or_fault-parts (find (has_fault g w (columns of.0)) faults) (row g w (columns of.0)) r of.1 in
+    let parts = or_fault-parts (find (has_fault g w (columns of.0)) faults) (feature g w (columns of.0)) r of.1 in
     subst (AreParts g) parts.1 (row-parts g w (columns of.0) parts.0)
 
 strip-front : (xs : List ℕ) (b : ℕ) (bs : List ℕ) → strip_last 13 (xs ++ b ∷ bs) ≡ xs ++ strip_last 13 (b ∷ bs)
@@ -401,17 +401,17 @@ row-line g w r more is =
     lines-line (record_text g r) more (subst HasNoFeed (sym parts.text_is) plain)
     ∙ ap (λ (l : List ℕ). l ∷ lines more) (subst (λ (t : List ℕ). strip_last 13 t ≡ t) (sym parts.text_is) kept)
 
-rows-lines : (g : Sequences) (w : ℕ) (rows : List RecordValue) → All (IsBedRow g w) rows → lines (records_text g rows) ≡ map (record_text g) rows
+rows-lines : (g : Sequences) (w : ℕ) (records : List RecordValue) → All (IsBedRow g w) records → lines (records_text g records) ≡ map (record_text g) records
 rows-lines g w [] are = refl
-rows-lines g w (r ∷ rows) are =
-    row-line g w r (records_text g rows) (All-head (IsBedRow g w) r rows are)
-    ∙ ap (λ (ls : List (List ℕ)). record_text g r ∷ ls) (rows-lines g w rows (All-tail (IsBedRow g w) r rows are))
+rows-lines g w (r ∷ records) are =
+    row-line g w r (records_text g records) (All-head (IsBedRow g w) r records are)
+    ∙ ap (λ (ls : List (List ℕ)). record_text g r ∷ ls) (rows-lines g w records (All-tail (IsBedRow g w) r records are))
 
 -- ---- the file of such rows
 
 read-width : (g : Sequences) (w : ℕ) (line : List ℕ) (r : RecordValue) → read g w line ≡ Ok r → w ≡ length (columns line)
 read-width g w line r reads =
-    let parts = or_fault-parts (find (has_fault g w (columns line)) faults) (row g w (columns line)) r reads in
+    let parts = or_fault-parts (find (has_fault g w (columns line)) faults) (feature g w (columns line)) r reads in
     sym (same_count (length (columns line)) w (passed (has_fault g w (columns line)) faults parts.0).0)
 
 -- the next step, from what one more line gives
@@ -421,33 +421,33 @@ step g limit n d line rest r is =
     ap (λ (o : Result Draft LoadCause). elim o as (λ _. Result Draft LoadFault) [ Ok more ↦ after_records g limit (n + 1) more rest | Err c ↦ Err (record { line = n; cause = c }) ]) is
 
 module _ (g : Sequences) (limit w : ℕ) (low : 3 ≤ w) (high : w ≤ 6) where
-  row-taken_again : (d : Draft) (r : RecordValue) → IsBedRow g w r → w ≡ width_at d (record_text g r) → length d.rows < limit
-      → after_record g limit d (record_text g r) ≡ Ok (record { width = Some w; rows = d.rows ++ r ∷ [] })
+  row-taken_again : (d : Draft) (r : RecordValue) → IsBedRow g w r → w ≡ width_at d (record_text g r) → length d.records < limit
+      → after_record g limit d (record_text g r) ≡ Ok (record { width = Some w; records = d.records ++ r ∷ [] })
   row-taken_again d r is wide room =
-      row-taken g limit d (record_text g r) w (Ok (record { width = Some w; rows = d.rows ++ r ∷ [] })) is.unread wide low high
-      (ap (with_row limit w d.rows) (line-again g w is.of_line.0 r low high is.of_line.1) ∙ cond-false _ _ _ (lt-leb limit (length d.rows) room))
+      row-taken g limit d (record_text g r) w (Ok (record { width = Some w; records = d.records ++ r ∷ [] })) is.unread wide low high
+      (ap (with_row limit w d.records) (line-again g w is.of_line.0 r low high is.of_line.1) ∙ cond-false _ _ _ (lt-leb limit (length d.records) room))
 
-  rows-taken_again : (n : ℕ) (done rows : List RecordValue) → All (IsBedRow g w) rows → length done + length rows ≤ limit
-      → after_records g limit n (record { width = Some w; rows = done }) (map (record_text g) rows) ≡ Ok (record { width = Some w; rows = done ++ rows })
-  rows-taken_again n done [] are room = ap (λ (l : List RecordValue). Ok (record { width = Some w; rows = l })) (sym (append-nil done))
-  rows-taken_again n done (r ∷ rows) are room =
-      step g limit n (record { width = Some w; rows = done }) (record_text g r) (map (record_text g) rows) (Ok (record { width = Some w; rows = done ++ r ∷ [] }))
-      (row-taken_again (record { width = Some w; rows = done }) r (All-head (IsBedRow g w) r rows are) refl (omega arith))
-      ∙ rows-taken_again (n + 1) (done ++ r ∷ []) rows (All-tail (IsBedRow g w) r rows are) (omega (arith, length-append done (r ∷ [])))
-      ∙ ap (λ (l : List RecordValue). Ok (record { width = Some w; rows = l })) (append_assoc done (r ∷ []) rows)
+  rows-taken_again : (n : ℕ) (done records : List RecordValue) → All (IsBedRow g w) records → length done + length records ≤ limit
+      → after_records g limit n (record { width = Some w; records = done }) (map (record_text g) records) ≡ Ok (record { width = Some w; records = done ++ records })
+  rows-taken_again n done [] are room = ap (λ (l : List RecordValue). Ok (record { width = Some w; records = l })) (sym (append-nil done))
+  rows-taken_again n done (r ∷ records) are room =
+      step g limit n (record { width = Some w; records = done }) (record_text g r) (map (record_text g) records) (Ok (record { width = Some w; records = done ++ r ∷ [] }))
+      (row-taken_again (record { width = Some w; records = done }) r (All-head (IsBedRow g w) r records are) refl (omega arith))
+      ∙ rows-taken_again (n + 1) (done ++ r ∷ []) records (All-tail (IsBedRow g w) r records are) (omega (arith, length-append done (r ∷ [])))
+      ∙ ap (λ (l : List RecordValue). Ok (record { width = Some w; records = l })) (append_assoc done (r ∷ []) records)
 
   -- the file of rows that can be its lines has just these records
-  pub file-again : (empty : ℕ) (rows : List RecordValue) → All (IsBedRow g w) rows → 0 < length rows → length rows ≤ limit
-      → bed_of g empty limit (records_text g rows) ≡ Ok (record { width = w; rows = rows })
+  pub file-again : (empty : ℕ) (records : List RecordValue) → All (IsBedRow g w) records → 0 < length records → length records ≤ limit
+      → bed_of g empty limit (records_text g records) ≡ Ok (record { width = w; records = records })
   file-again empty [] are some room = absurd (omega arith)
-  file-again empty (r ∷ rows) are some room =
-      let first = All-head (IsBedRow g w) r rows are in
+  file-again empty (r ∷ records) are some room =
+      let first = All-head (IsBedRow g w) r records are in
       let wide : w ≡ length (columns (record_text g r)) = read-width g w (record_text g r) r (line-again g w first.of_line.0 r low high first.of_line.1) in
-      ap (λ (ls : List (List ℕ)). finished empty (after_records g limit 1 (record { width = None; rows = [] }) ls)) (rows-lines g w (r ∷ rows) are)
+      ap (λ (ls : List (List ℕ)). finished empty (after_records g limit 1 (record { width = None; records = [] }) ls)) (rows-lines g w (r ∷ records) are)
       ∙ ap (finished empty)
-      (step g limit 1 (record { width = None; rows = [] }) (record_text g r) (map (record_text g) rows) (Ok (record { width = Some w; rows = r ∷ [] }))
-      (row-taken_again (record { width = None; rows = [] }) r first wide (omega arith))
-      ∙ rows-taken_again 2 (r ∷ []) rows (All-tail (IsBedRow g w) r rows are) (omega arith))
+      (step g limit 1 (record { width = None; records = [] }) (record_text g r) (map (record_text g) records) (Ok (record { width = Some w; records = r ∷ [] }))
+      (row-taken_again (record { width = None; records = [] }) r first wide (omega arith))
+      ∙ rows-taken_again 2 (r ∷ []) records (All-tail (IsBedRow g w) r records are) (omega arith))
 
 -- ---- the records of a file
 
@@ -499,7 +499,7 @@ unread-same name xs ys =
 line-row : (g : Sequences) (w : ℕ) (line : List ℕ) (r : RecordValue) → 3 ≤ w → HasNoFeed line → is_unread line ≡ false → read g w line ≡ Ok r → IsBedRow g w r
 line-row g w line r low plain unread reads =
     let cs : List (List ℕ) = columns line in
-    let parts = or_fault-parts (find (has_fault g w cs) faults) (row g w cs) r reads in
+    let parts = or_fault-parts (find (has_fault g w cs) faults) (feature g w cs) r reads in
     let free = passed (has_fault g w cs) faults parts.0 in
     let many : length cs ≡ w = same_count (length cs) w free.0 in
     let named : sequence_name g r.seq ≡ column cs 0 = name-at g (column cs 0) r.seq (read-ranked g w line r reads) in
@@ -514,23 +514,23 @@ line-row g w line r low plain unread reads =
 
 -- what is known of a file: its records can be rows of a file of its width, and aren't more than the limit
 record IsKnown (g : Sequences) (limit : ℕ) (d : Draft) : Type 0 where
-  fit : MatchOption d.width (d.rows ≡ []) (λ w. (3 ≤ w) × (w ≤ 6) × (0 < length d.rows) × All (IsBedRow g w) d.rows)
-  few : length d.rows ≤ limit
+  fit : MatchOption d.width (d.records ≡ []) (λ w. (3 ≤ w) × (w ≤ 6) × (0 < length d.records) × All (IsBedRow g w) d.records)
+  few : length d.records ≤ limit
 
 module _ (g : Sequences) (limit : ℕ) where
-  known-row : (d : Draft) (line : List ℕ) (w : ℕ) (r : RecordValue) → IsKnown g limit d → w ≡ width_at d line → 3 ≤ w → w ≤ 6 → length d.rows < limit → IsBedRow g w r
-      → IsKnown g limit (record { width = Some w; rows = d.rows ++ r ∷ [] })
+  known-row : (d : Draft) (line : List ℕ) (w : ℕ) (r : RecordValue) → IsKnown g limit d → w ≡ width_at d line → 3 ≤ w → w ≤ 6 → length d.records < limit → IsBedRow g w r
+      → IsKnown g limit (record { width = Some w; records = d.records ++ r ∷ [] })
   known-row d line w r known is low high room new = record {
-    fit = (low, high, omega (arith, length-append d.rows (r ∷ [])), All-push (IsBedRow g w) d.rows r (old d.width known.fit is) new);
-    few = omega (arith, length-append d.rows (r ∷ []));
+    fit = (low, high, omega (arith, length-append d.records (r ∷ [])), All-push (IsBedRow g w) d.records r (old d.width known.fit is) new);
+    few = omega (arith, length-append d.records (r ∷ []));
   }
     where
-      old : (o : Option ℕ) → MatchOption o (d.rows ≡ []) (λ w. (3 ≤ w) × (w ≤ 6) × (0 < length d.rows) × All (IsBedRow g w) d.rows) → w ≡ unwrap_or o (length (columns line)) → All (IsBedRow g w) d.rows
+      old : (o : Option ℕ) → MatchOption o (d.records ≡ []) (λ w. (3 ≤ w) × (w ≤ 6) × (0 < length d.records) × All (IsBedRow g w) d.records) → w ≡ unwrap_or o (length (columns line)) → All (IsBedRow g w) d.records
       old None none same = subst (λ (l : List RecordValue). All (IsBedRow g w) l) (sym none) (All-nil (IsBedRow g w))
-      old (Some k) some same = subst (λ (n : ℕ). All (IsBedRow g n) d.rows) (sym same) some.3
+      old (Some k) some same = subst (λ (n : ℕ). All (IsBedRow g n) d.records) (sym same) some.3
 
   known-line : (d e : Draft) (line : List ℕ) → HasNoFeed line → IsKnown g limit d → after_record g limit d line ≡ Ok e → IsKnown g limit e
-  known-line d e line plain known is = by (is_unread line) refl (is_width (width_at d line)) refl (read g (width_at d line) line) refl (nat_le limit (length d.rows)) refl
+  known-line d e line plain known is = by (is_unread line) refl (is_width (width_at d line)) refl (read g (width_at d line) line) refl (nat_le limit (length d.records)) refl
     where
       same : (x : Draft) → after_record g limit d line ≡ Ok x → x ≡ e
       same x was = same-ok x e (sym was ∙ is)
@@ -538,18 +538,18 @@ module _ (g : Sequences) (limit : ℕ) where
       wide : is_width (width_at d line) ≡ true → (3 ≤ width_at d line) × (width_at d line ≤ 6)
       wide fits = let both = and_parts (nat_le 3 (width_at d line)) (nat_le (width_at d line) 6) fits in (leb-true 3 (width_at d line) both.0, leb-true (width_at d line) 6 both.1)
 
-      taken : (x : Result Draft LoadCause) → is_unread line ≡ false → is_width (width_at d line) ≡ true → with_row limit (width_at d line) d.rows (read g (width_at d line) line) ≡ x → after_record g limit d line ≡ x
+      taken : (x : Result Draft LoadCause) → is_unread line ≡ false → is_width (width_at d line) ≡ true → with_row limit (width_at d line) d.records (read g (width_at d line) line) ≡ x → after_record g limit d line ≡ x
       taken x unread fits gives = row-taken g limit d line (width_at d line) x unread refl (wide fits).0 (wide fits).1 gives
 
-      by : (t : Bool) → is_unread line ≡ t → (u : Bool) → is_width (width_at d line) ≡ u → (x : Result RecordValue Fault) → read g (width_at d line) line ≡ x → (v : Bool) → nat_le limit (length d.rows) ≡ v → IsKnown g limit e
+      by : (t : Bool) → is_unread line ≡ t → (u : Bool) → is_width (width_at d line) ≡ u → (x : Result RecordValue Fault) → read g (width_at d line) line ≡ x → (v : Bool) → nat_le limit (length d.records) ≡ v → IsKnown g limit e
       by true unread u fits x reads v full = subst (IsKnown g limit) (same d (row-unread g limit d line unread)) known
       by false unread false fits x reads v full = absurd (ok-err e cause.Columns (sym is ∙ row-columns g limit d line unread fits))
-      by false unread true fits (Err f) reads v full = absurd (ok-err e (cause.Record f) (sym is ∙ taken (Err (cause.Record f)) unread fits (ap (with_row limit (width_at d line) d.rows) reads)))
-      by false unread true fits (Ok r) reads true full = absurd (ok-err e cause.TooMany (sym is ∙ taken (Err cause.TooMany) unread fits (ap (with_row limit (width_at d line) d.rows) reads ∙ cond-true _ _ _ full)))
+      by false unread true fits (Err f) reads v full = absurd (ok-err e (cause.Record f) (sym is ∙ taken (Err (cause.Record f)) unread fits (ap (with_row limit (width_at d line) d.records) reads)))
+      by false unread true fits (Ok r) reads true full = absurd (ok-err e cause.TooMany (sym is ∙ taken (Err cause.TooMany) unread fits (ap (with_row limit (width_at d line) d.records) reads ∙ cond-true _ _ _ full)))
       by false unread true fits (Ok r) reads false full =
           let w : ℕ = width_at d line in
-          subst (IsKnown g limit) (same (record { width = Some w; rows = d.rows ++ r ∷ [] }) (taken (Ok (record { width = Some w; rows = d.rows ++ r ∷ [] })) unread fits (ap (with_row limit (width_at d line) d.rows) reads ∙ cond-false _ _ _ full)))
-          (known-row d line w r known refl (wide fits).0 (wide fits).1 (leb-false limit (length d.rows) full) (line-row g w line r (wide fits).0 plain unread reads))
+          subst (IsKnown g limit) (same (record { width = Some w; records = d.records ++ r ∷ [] }) (taken (Ok (record { width = Some w; records = d.records ++ r ∷ [] })) unread fits (ap (with_row limit (width_at d line) d.records) reads ∙ cond-false _ _ _ full)))
+          (known-row d line w r known refl (wide fits).0 (wide fits).1 (leb-false limit (length d.records) full) (line-row g w line r (wide fits).0 plain unread reads))
 
   known-lines : (n : ℕ) (d e : Draft) (ls : List (List ℕ)) → All HasNoFeed ls → IsKnown g limit d → after_records g limit n d ls ≡ Ok e → IsKnown g limit e
   known-lines n d e [] plain known is = subst (IsKnown g limit) (same-ok d e is) known
@@ -560,29 +560,29 @@ module _ (g : Sequences) (limit : ℕ) where
       by (Err c) was rest = absurd (ok-err e (record { line = n; cause = c }) (sym is ∙ step g limit n d line ls (Err c) was))
 
 -- all records that are in order, from all records
-all-ordered : (P : RecordValue → Type 0) (rows : List RecordValue) → All P rows → All P (ordered rows)
-all-ordered P rows all = All-from_recursion P (ordered rows) (all-all_added record_cmp P rows [] (recursion_from_All P rows all) tt)
+all-ordered : (P : RecordValue → Type 0) (records : List RecordValue) → All P records → All P (ordered records)
+all-ordered P records all = All-from_recursion P (ordered records) (all-all_added record_cmp P records [] (recursion_from_All P records all) tt)
 
 -- the records of a file in order, printed and read again, are the same records
 pub bed-again : (g : Sequences) (empty limit : ℕ) (text : List ℕ) (b : Bed) → bed_of g empty limit text ≡ Ok b
-    → bed_of g empty limit (records_text g (ordered b.rows)) ≡ Ok (record { width = b.width; rows = ordered b.rows })
-bed-again g empty limit text b is = by (after_records g limit 1 (record { width = None; rows = [] }) (lines text)) refl
+    → bed_of g empty limit (records_text g (ordered b.records)) ≡ Ok (record { width = b.width; records = ordered b.records })
+bed-again g empty limit text b is = by (after_records g limit 1 (record { width = None; records = [] }) (lines text)) refl
   where
     Goal : Bed → Type 0
-    Goal c = bed_of g empty limit (records_text g (ordered c.rows)) ≡ Ok (record { width = c.width; rows = ordered c.rows })
+    Goal c = bed_of g empty limit (records_text g (ordered c.records)) ≡ Ok (record { width = c.width; records = ordered c.records })
 
-    again : (o : Option ℕ) (rows : List RecordValue) → MatchOption o (rows ≡ []) (λ w. (3 ≤ w) × (w ≤ 6) × (0 < length rows) × All (IsBedRow g w) rows) → length rows ≤ limit
-        → bed_of g empty limit (records_text g (ordered rows)) ≡ Ok (record { width = unwrap_or o empty; rows = ordered rows })
-    again None rows none few =
-        subst (λ (l : List RecordValue). bed_of g empty limit (records_text g (ordered l)) ≡ Ok (record { width = empty; rows = ordered l })) (sym none) refl
-    again (Some w) rows some few =
-        let size : length (ordered rows) ≡ length rows = length-all_added record_cmp rows [] ∙ omega arith in
-        file-again g limit w some.0 some.1 empty (ordered rows) (all-ordered (IsBedRow g w) rows some.3) (omega (arith, some.2)) (omega arith)
+    again : (o : Option ℕ) (records : List RecordValue) → MatchOption o (records ≡ []) (λ w. (3 ≤ w) × (w ≤ 6) × (0 < length records) × All (IsBedRow g w) records) → length records ≤ limit
+        → bed_of g empty limit (records_text g (ordered records)) ≡ Ok (record { width = unwrap_or o empty; records = ordered records })
+    again None records none few =
+        subst (λ (l : List RecordValue). bed_of g empty limit (records_text g (ordered l)) ≡ Ok (record { width = empty; records = ordered l })) (sym none) refl
+    again (Some w) records some few =
+        let size : length (ordered records) ≡ length records = length-all_added record_cmp records [] ∙ omega arith in
+        file-again g limit w some.0 some.1 empty (ordered records) (all-ordered (IsBedRow g w) records some.3) (omega (arith, some.2)) (omega arith)
 
-    by : (x : Result Draft LoadFault) → after_records g limit 1 (record { width = None; rows = [] }) (lines text) ≡ x → bed_of g empty limit (records_text g (ordered b.rows)) ≡ Ok (record { width = b.width; rows = ordered b.rows })
+    by : (x : Result Draft LoadFault) → after_records g limit 1 (record { width = None; records = [] }) (lines text) ≡ x → bed_of g empty limit (records_text g (ordered b.records)) ≡ Ok (record { width = b.width; records = ordered b.records })
     by (Err f) was = absurd (ok-err b f (sym is ∙ ap (finished empty) was))
     by (Ok d) was =
-        let known : IsKnown g limit d = known-lines g limit 1 (record { width = None; rows = [] }) d (lines text) (lines-feed text) (record { fit = refl; few = omega arith }) was in
-        let same : record { width = unwrap_or d.width empty; rows = d.rows } ≡ b = same-ok (record { width = unwrap_or d.width empty; rows = d.rows }) b (sym (ap (finished empty) was) ∙ is) in
-        subst (λ (c : Bed). bed_of g empty limit (records_text g (ordered c.rows)) ≡ Ok (record { width = c.width; rows = ordered c.rows })) same
-        (again d.width d.rows known.fit known.few)
+        let known : IsKnown g limit d = known-lines g limit 1 (record { width = None; records = [] }) d (lines text) (lines-feed text) (record { fit = refl; few = omega arith }) was in
+        let same : record { width = unwrap_or d.width empty; records = d.records } ≡ b = same-ok (record { width = unwrap_or d.width empty; records = d.records }) b (sym (ap (finished empty) was) ∙ is) in
+        subst (λ (c : Bed). bed_of g empty limit (records_text g (ordered c.records)) ≡ Ok (record { width = c.width; records = ordered c.records })) same
+        (again d.width d.records known.fit known.few)

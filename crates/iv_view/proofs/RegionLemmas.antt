@@ -18,15 +18,15 @@ use Rattle.iv_view.specs.Views.{written_rows}
 use Rattle.iv_view.specs.declared.written_view.WrittenView.{WrittenView}
 
 -- the rows of the first record are before those of the others
-pub first-rows : (v : WrittenView) (g : Sequences) (r : RecordValue) (rows second : List RecordValue) (bases : Bases)
-    → flat_map (written_rows v g second bases) (r ∷ rows) ≡ flat_map (written_rows v g second bases) (r ∷ []) ++ flat_map (written_rows v g second bases) rows
-first-rows v g r rows second bases = flat_map-append (written_rows v g second bases) (r ∷ []) rows
+pub first-rows : (v : WrittenView) (g : Sequences) (r : RecordValue) (records second : List RecordValue) (bases : Bases)
+    → flat_map (written_rows v g second bases) (r ∷ records) ≡ flat_map (written_rows v g second bases) (r ∷ []) ++ flat_map (written_rows v g second bases) records
+first-rows v g r records second bases = flat_map-append (written_rows v g second bases) (r ∷ []) records
 
 -- the records that share a position with an interval of one position are those that cover it
-pub first-depth : (rows : List RecordValue) (seq p : ℕ) → length (hits rows seq p (p + 1)) ≡ depth rows seq p
-first-depth rows seq p =
-    ap {B = ℕ} (λ (l : List RecordValue). length l) (filter-agree (overlaps seq p (p + 1)) (covers seq p) rows (λ q m. same_tests _ _ (to q) (back q)))
-    ∙ length-filter (covers seq p) rows
+pub first-depth : (records : List RecordValue) (seq p : ℕ) → length (hits records seq p (p + 1)) ≡ depth records seq p
+first-depth records seq p =
+    ap {B = ℕ} (λ (l : List RecordValue). length l) (filter-agree (overlaps seq p (p + 1)) (covers seq p) records (λ q m. same_tests _ _ (to q) (back q)))
+    ∙ length-filter (covers seq p) records
   where
     to : (q : RecordValue) → overlaps seq p (p + 1) q ≡ true → covers seq p q ≡ true
     to q is =
@@ -41,11 +41,11 @@ first-depth rows seq p =
         overlaps_from seq p (p + 1) q parts.0 (omega (arith, low)) parts.2
 
 -- those near the first position of a region are near the region
-pub near-first : (at : Region) (rows : List RecordValue) → at.start < at.stop
-    → length (near (record { seq = at.seq; start = at.start; stop = at.start + 1 }) rows) ≤ length (near at rows)
-near-first at rows some = filter-weaker
-    (λ r. (r.seq == at.seq) && (nat_lt r.start (at.start + 1) && nat_lt at.start (r.start + 2 * longest rows)))
-    (λ r. (r.seq == at.seq) && (nat_lt r.start at.stop && nat_lt at.start (r.start + 2 * longest rows))) rows
+pub near-first : (at : Region) (records : List RecordValue) → at.start < at.stop
+    → length (near (record { seq = at.seq; start = at.start; stop = at.start + 1 }) records) ≤ length (near at records)
+near-first at records some = filter-weaker
+    (λ r. (r.seq == at.seq) && (nat_lt r.start (at.start + 1) && nat_lt at.start (r.start + 2 * longest records)))
+    (λ r. (r.seq == at.seq) && (nat_lt r.start at.stop && nat_lt at.start (r.start + 2 * longest records))) records
     (λ q m is.
     let a = and_parts _ _ is in
     let b = and_parts _ _ a.1 in

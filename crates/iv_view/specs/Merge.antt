@@ -1,4 +1,4 @@
--- The views `merge` and `cluster`: their words.
+-- The views `merge` and `cluster`: their arguments.
 use Rattle.std.specs.Prelude.{ℕ, Bool, true, false, nat_le, nat_lt, ◌&&◌, ◌||◌, if◌then◌else◌, List, [], ◌∷◌, map, Option, None, Some, Result, Ok, Err, codes, option_and_then}
 use Rattle.std.specs.Option.{option_map, option_zip, is_some, ok_or, unwrap_or}
 use Rattle.std.specs.Str.{bytes_eq}
@@ -34,22 +34,22 @@ abbrev pub unless_given : Option (List ℕ) → MergeArgs → Option MergeArgs
 unless_given None said = Some said
 unless_given (Some value) said = None
 
--- with a value for the option that a word is, unless it had one before
+-- with a value for the option that an argument is, unless it had one before
 abbrev pub with_option : List ℕ → List ℕ → MergeArgs → Option MergeArgs
-with_option word value said =
-    if bytes_eq word (codes "-d") then unless_given said.distance (record said { distance = Some value })
-    else if bytes_eq word (codes "-c") then unless_given said.columns (record said { columns = Some value })
-    else if bytes_eq word (codes "-o") then unless_given said.ops (record said { ops = Some value })
+with_option argument value said =
+    if bytes_eq argument (codes "-d") then unless_given said.distance (record said { distance = Some value })
+    else if bytes_eq argument (codes "-c") then unless_given said.columns (record said { columns = Some value })
+    else if bytes_eq argument (codes "-o") then unless_given said.ops (record said { ops = Some value })
     else None
 
--- the options of words, with those before them: each word is `-s`, or an option with its value after it, and none comes twice
+-- the options of arguments, with those before them: each argument is `-s`, or an option with its value after it, and none comes twice
 abbrev pub said_by : List (List ℕ) → MergeArgs → Option MergeArgs
 said_by [] said = Some said
-said_by (word ∷ []) said = if bytes_eq word (codes "-s") then with_flag said else None
-said_by (word ∷ next ∷ words) said =
-    if bytes_eq word (codes "-s")
-    then option_and_then (said_by (next ∷ words)) (with_flag said)
-    else option_and_then (said_by words) (with_option word next said)
+said_by (argument ∷ []) said = if bytes_eq argument (codes "-s") then with_flag said else None
+said_by (argument ∷ next ∷ arguments) said =
+    if bytes_eq argument (codes "-s")
+    then option_and_then (said_by (next ∷ arguments)) (with_flag said)
+    else option_and_then (said_by arguments) (with_option argument next said)
 
 -- the distance that a value means: a number up to 1,000,000,000, and 0 if there is none
 abbrev pub distance_of : Option (List ℕ) → Option ℕ
@@ -66,7 +66,7 @@ abbrev pub summary_within : ℕ → ℕ × Op → Option ColumnSummary
 summary_within width asked =
     option_map (λ column. record { column = column; op = asked.1 }) (if nat_le asked.0 width then column_numbered asked.0 else None)
 
--- the options of a merge on a track of this width that words after `merge` mean, or their first fault: bad words, columns and operations
+-- the options of a merge on a track of this width that arguments after `merge` mean, or their first fault: bad arguments, columns and operations
 -- that don't pair off among them; then a column that isn't there; and then no strands to keep apart
 abbrev pub merge_options : ℕ → Option MergeArgs → Result BlockOptions Fault
 merge_options width given =
@@ -78,7 +78,7 @@ merge_options width given =
     if said.stranded && nat_lt width 6 then Err fault.NoStrand
     else Ok (record { distance = distance; stranded = said.stranded; summaries = filled summaries }))))))
 
--- the distance of a cluster that words after `cluster` mean: they are `-d` and its value, or none
+-- the distance of a cluster that arguments after `cluster` mean: they are `-d` and its value, or none
 abbrev pub cluster_distance : Option MergeArgs → Option ℕ
 cluster_distance given =
     option_and_then (λ said. if said.stranded || is_some said.columns || is_some said.ops then None else distance_of said.distance) given

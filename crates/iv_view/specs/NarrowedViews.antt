@@ -46,6 +46,6 @@ narrowed width has_second has_bases (view.Kept (kept.Merge options)) = as_merge 
 narrowed width has_second has_bases (view.Kept (kept.Cluster distance)) = Ok (view.Kept (kept.Cluster distance))
 narrowed width has_second has_bases (view.Kept (kept.Complement limited)) = Ok (view.Kept (kept.Complement limited))
 narrowed width has_second has_bases (view.Kept (kept.Genomecov shown)) = Ok (view.Kept (kept.Genomecov shown))
-narrowed width has_second has_bases (view.Written (written.Paired rows)) = beside_second has_second (Some rows)
+narrowed width has_second has_bases (view.Written (written.Paired output)) = beside_second has_second (Some output)
 narrowed width has_second has_bases (view.Written (written.Getfasta shown)) = beside_fasta width has_bases (Some shown)
 narrowed width has_second has_bases (view.Written written.Records) = Ok (view.Written written.Records)

@@ -23,8 +23,8 @@ pub record IsWithin (g : Sequences) (at : Region) : Type 0 where
 -- may share a position with the region, and five more; of `cluster` one for each record that may share a position with the region and
 -- each block up to its end, and four more
 abbrev pub PrintsInWithin : Region → KeptView → Sequences → List RecordValue → ℕ → ℕ → Type 0
-PrintsInWithin at (kept.Merge options) g rows old new = TakesUpTo old new (3 * length (sides options.stranded) + length (blocks_in options g rows at.seq at.start at.stop))
-PrintsInWithin at (kept.Cluster distance) g rows old new = TakesUpTo old new (4 + length (near at rows) + blocks_until distance g rows at.seq at.stop)
-PrintsInWithin at (kept.Complement limited) g rows old new = TakesUpTo old new (2 + length (gaps_in limited g rows at.seq at.start at.stop))
-PrintsInWithin at (kept.Genomecov shown) g rows old new =
-    TakesUpTo old new (5 + length (near at rows) + 2 * length (covered_runs_in (depth rows at.seq) (sequence_length g at.seq) at.start at.stop))
+PrintsInWithin at (kept.Merge options) g records old new = TakesUpTo old new (3 * length (sides options.stranded) + length (blocks_in options g records at.seq at.start at.stop))
+PrintsInWithin at (kept.Cluster distance) g records old new = TakesUpTo old new (4 + length (near at records) + blocks_until distance g records at.seq at.stop)
+PrintsInWithin at (kept.Complement limited) g records old new = TakesUpTo old new (2 + length (gaps_in limited g records at.seq at.start at.stop))
+PrintsInWithin at (kept.Genomecov shown) g records old new =
+    TakesUpTo old new (5 + length (near at records) + 2 * length (covered_runs_in (depth records at.seq) (sequence_length g at.seq) at.start at.stop))

@@ -18,7 +18,7 @@ use crate::view::{KeptView, View};
 use iv_blocks::{BlockOptions, Blocks};
 use iv_bytes::{Sink, WriteFault};
 use iv_cover::Kept;
-use iv_depth::{Depth, DepthRows};
+use iv_depth::{Depth, DepthOutput};
 use iv_text::{Genome, RecordRef};
 use iv_track::{Meter, Region, Track};
 use std::alloc::{AllocError, Allocator, Global};
@@ -67,10 +67,10 @@ impl KeptView {
         sink: &mut S,
     ) -> Result<(), WriteFault>
         requires kept { what_is_kept state.now ≡ kept_for self }
-        requires right { IsRight state.now (names_of genome.now) track.now.rows }
-        requires fit { All (Fits genome.now track.now.width) track.now.rows }
-        ensures text { Puts (S.state sink.old) (S.state sink.new) result (kept_text None self genome.now track.now.rows) }
-        ensures steps { PrintsWithin self genome.now track.now.rows meter.old meter.new }
+        requires right { IsRight state.now (names_of genome.now) track.now.records }
+        requires fit { All (Fits genome.now track.now.width) track.now.records }
+        ensures text { Puts (S.state sink.old) (S.state sink.new) result (kept_text None self genome.now track.now.records) }
+        ensures steps { PrintsWithin self genome.now track.now.records meter.old meter.new }
     {
         match (self, state) {
             (KeptView::Merge(_), KeptState::Blocks(blocks)) => {
@@ -106,10 +106,10 @@ impl KeptView {
     ) -> Result<(), WriteFault>
         requires kept { what_is_kept state.now ≡ kept_for self }
         requires within { IsWithin genome.now at }
-        requires right { IsRight state.now (names_of genome.now) track.now.rows }
-        requires fit { All (Fits genome.now track.now.width) track.now.rows }
-        ensures text { Puts (S.state sink.old) (S.state sink.new) result (kept_text (Some at) self genome.now track.now.rows) }
-        ensures steps { PrintsInWithin at self genome.now track.now.rows meter.old meter.new }
+        requires right { IsRight state.now (names_of genome.now) track.now.records }
+        requires fit { All (Fits genome.now track.now.width) track.now.records }
+        ensures text { Puts (S.state sink.old) (S.state sink.new) result (kept_text (Some at) self genome.now track.now.records) }
+        ensures steps { PrintsInWithin at self genome.now track.now.records meter.old meter.new }
     {
         match (self, state) {
             (KeptView::Merge(_), KeptState::Blocks(blocks)) => {
@@ -132,7 +132,7 @@ impl KeptView {
 
 /// Prints the rows of depth of a region.
 fn print_depth_in<A: Allocator + Copy, S: Sink>(
-    shown: DepthRows,
+    shown: DepthOutput,
     at: Region,
     depth: &Depth<A>,
     track: &Track<A>,
@@ -141,10 +141,10 @@ fn print_depth_in<A: Allocator + Copy, S: Sink>(
     sink: &mut S,
 ) -> Result<(), WriteFault>
     requires within { IsWithin genome.now at }
-    requires right { AreChangesOf track.now.rows depth.now }
-    requires fit { All (Fits genome.now track.now.width) track.now.rows }
-    ensures text { Puts (S.state sink.old) (S.state sink.new) result (depth_text_in shown genome.now track.now.rows at.seq at.start at.stop) }
-    ensures steps { TakesUpTo meter.old meter.new (5 + length (near at track.now.rows) + 2 * length (covered_runs_in (depth_of track.now.rows at.seq) (sequence_length genome.now at.seq) at.start at.stop)) }
+    requires right { AreChangesOf track.now.records depth.now }
+    requires fit { All (Fits genome.now track.now.width) track.now.records }
+    ensures text { Puts (S.state sink.old) (S.state sink.new) result (depth_text_in shown genome.now track.now.records at.seq at.start at.stop) }
+    ensures steps { TakesUpTo meter.old meter.new (5 + length (near at track.now.records) + 2 * length (covered_runs_in (depth_of track.now.records at.seq) (sequence_length genome.now at.seq) at.start at.stop)) }
 {
     let first = track.depth_at(at.seq, at.start, meter);
     depth.print_depth_in(
@@ -203,12 +203,12 @@ impl<A: Allocator + Copy> Kept<A> for KeptState<A> {
         &mut self,
         track: &Track<A>,
         genome: &Genome<A>,
-        row: &RecordRef<'_>,
+        feature: &RecordRef<'_>,
         meter: &mut Meter,
     ) -> Result<(), AllocError> {
         match self {
-            KeptState::Blocks(blocks) => blocks.added(track, genome, row, meter),
-            KeptState::Depth(depth) => depth.added(track, genome, row, meter),
+            KeptState::Blocks(blocks) => blocks.added(track, genome, feature, meter),
+            KeptState::Depth(depth) => depth.added(track, genome, feature, meter),
         }
     }
 
@@ -216,12 +216,12 @@ impl<A: Allocator + Copy> Kept<A> for KeptState<A> {
         &mut self,
         track: &Track<A>,
         genome: &Genome<A>,
-        row: &RecordRef<'_>,
+        feature: &RecordRef<'_>,
         meter: &mut Meter,
     ) -> Result<(), AllocError> {
         match self {
-            KeptState::Blocks(blocks) => blocks.removed(track, genome, row, meter),
-            KeptState::Depth(depth) => depth.removed(track, genome, row, meter),
+            KeptState::Blocks(blocks) => blocks.removed(track, genome, feature, meter),
+            KeptState::Depth(depth) => depth.removed(track, genome, feature, meter),
         }
     }
 }

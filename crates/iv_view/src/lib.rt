@@ -1,4 +1,4 @@
-//! The views of a track: the words that ask for one, their faults, and the text that each means.
+//! The views of a track: the arguments that ask for one, their faults, and the text that each means.
 #![tactic(auto)]
 
 mod flags;
@@ -12,8 +12,8 @@ mod written_view;
 
 pub use kept_state::{KeptState, StateKey};
 pub use lemmas::{
-    no_option_twice, options_in_any_order, records_are_read_again, words_are_options,
+    arguments_are_options, no_option_twice, options_in_any_order, records_are_read_again,
 };
-pub use view::{Beside, KeptView, View, ViewFault};
+pub use view::{Available, KeptView, View, ViewFault};
 pub use words::Words;
 pub use written_view::WrittenView;

@@ -24,11 +24,11 @@ const MOST_DISTANCE: u64 = 1_000_000_000;
 /// A list has at most this many items.
 const MOST_ITEMS: usize = 16;
 
-/// The options that the words after `merge` mean, for records of six columns.
-pub(crate) fn read_merge(words: &[&[u8]]) -> Result<BlockOptions, ViewFault>
-    ensures { result ≡ merge_options 6 (said_by (map (λ word. word.now) words.now) nothing_said) }
+/// The options that the arguments after `merge` mean, for records of six columns.
+pub(crate) fn read_merge(arguments: &[&[u8]]) -> Result<BlockOptions, ViewFault>
+    ensures { result ≡ merge_options 6 (said_by (map (λ argument. argument.now) arguments.now) nothing_said) }
 {
-    let said = MergeArgs::read(words).ok_or(ViewFault::Words)?;
+    let said = MergeArgs::read(arguments).ok_or(ViewFault::Words)?;
     let distance = read_distance(said.distance).ok_or(ViewFault::Words)?;
     let lists = read_lists(said.columns, said.ops).ok_or(ViewFault::Words)?;
     let summaries = read_summaries(lists.columns.as_slice(), lists.ops.as_slice())?;
@@ -39,11 +39,11 @@ pub(crate) fn read_merge(words: &[&[u8]]) -> Result<BlockOptions, ViewFault>
     })
 }
 
-/// The distance that the words after `cluster` mean: `-d` and its value, or none.
-pub(crate) fn read_cluster(words: &[&[u8]]) -> Option<u32>
-    ensures { result ≡ cluster_distance (said_by (map (λ word. word.now) words.now) nothing_said) }
+/// The distance that the arguments after `cluster` mean: `-d` and its value, or none.
+pub(crate) fn read_cluster(arguments: &[&[u8]]) -> Option<u32>
+    ensures { result ≡ cluster_distance (said_by (map (λ argument. argument.now) arguments.now) nothing_said) }
 {
-    let said = MergeArgs::read(words)?;
+    let said = MergeArgs::read(arguments)?;
     if said.stranded || said.columns.is_some() || said.ops.is_some() {
         return None;
     }
@@ -69,14 +69,14 @@ impl<'a> Model for MergeArgs<'a> {
 }
 
 impl<'a> MergeArgs<'a> {
-    /// The options of words: each word is `-s`, or an option with its value after it, and none comes twice.
-    fn read(words: &[&'a [u8]]) -> Option<MergeArgs<'a>>
-        ensures { result ≡ said_by (map (λ word. word.now) words.now) nothing_said }
+    /// The options of arguments: each argument is `-s`, or an option with its value after it, and none comes twice.
+    fn read(arguments: &[&'a [u8]]) -> Option<MergeArgs<'a>>
+        ensures { result ≡ said_by (map (λ argument. argument.now) arguments.now) nothing_said }
     {
         let mut said = MergeArgs::nothing();
-        let mut rest = words;
-        'options: while let [word, after @ ..] = rest {
-            if *word == b"-s".as_slice() {
+        let mut rest = arguments;
+        'options: while let [argument, after @ ..] = rest {
+            if *argument == b"-s".as_slice() {
                 if said.stranded {
                     return None;
                 }
@@ -86,7 +86,7 @@ impl<'a> MergeArgs<'a> {
                 let [value, others @ ..] = after else {
                     return None;
                 };
-                said.take(word, value)?;
+                said.take(argument, value)?;
                 rest = others;
             }
         }
@@ -146,7 +146,7 @@ fn read_distance(value: Option<&[u8]>) -> Option<u32>
     Some(distance as u32)
 }
 
-/// The numbers of columns, and the operations, that the words ask for.
+/// The numbers of columns, and the operations, that the arguments ask for.
 #[derive(Drop)]
 struct Lists {
     columns: ArrayVec<u64, MOST_ITEMS>,

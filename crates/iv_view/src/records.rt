@@ -20,8 +20,8 @@ pub(crate) fn print_records<A: Allocator + Copy, S: Sink>(
     meter: &mut Meter,
     sink: &mut S,
 ) -> Result<(), WriteFault>
-    ensures text { Puts (S.state sink.old) (S.state sink.new) result (records_text genome.now track.now.rows) }
-    ensures steps { TakesUpTo meter.old meter.new (2 + different_records track.now.rows) }
+    ensures text { Puts (S.state sink.old) (S.state sink.new) result (records_text genome.now track.now.records) }
+    ensures steps { TakesUpTo meter.old meter.new (2 + different_records track.now.records) }
 {
     let mut entries = track.entries(0, 0, meter);
     'entries: while let Some((record, copies)) = entries.next(meter) {
@@ -33,14 +33,14 @@ pub(crate) fn print_records<A: Allocator + Copy, S: Sink>(
 /// Puts the row of a record, once for each of its copies.
 fn put_copies<A: Allocator + Copy, S: Sink>(
     genome: &Genome<A>,
-    row: &Record<A>,
+    feature: &Record<A>,
     copies: u32,
     sink: &mut S,
 ) -> Result<(), WriteFault>
-    ensures { Puts (S.state sink.old) (S.state sink.new) result (records_text genome.now (replicate copies row.now)) }
+    ensures { Puts (S.state sink.old) (S.state sink.new) result (records_text genome.now (replicate copies feature.now)) }
 {
     'copies: for _ in 0..copies {
-        put_line(sink, genome, &row.as_ref())?;
+        put_line(sink, genome, &feature.as_ref())?;
     }
     Ok(())
 }

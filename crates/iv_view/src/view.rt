@@ -1,15 +1,15 @@
 //! The kinds of view.
 ghost use Rattle.std.specs.Prelude.{◌≡◌, true, map};
-ghost use Rattle.iv_view.specs.Views.{read_words, or_bad_words as kept_or_bad_words, beside_second as beside_a_second, beside_fasta as beside_a_fasta};
+ghost use Rattle.iv_view.specs.Views.{read_arguments, or_bad_arguments as kept_or_bad_arguments, beside_second as beside_a_second, beside_fasta as beside_a_fasta};
 ghost use Rattle.iv_view.specs.NarrowedViews.{narrowed as narrowed_view};
 
 use crate::flags::{read_complement, read_genomecov, read_getfasta, read_intersect, read_subtract};
 use crate::merge::{narrow_merge, read_cluster, read_merge};
 use crate::written_view::WrittenView;
 use iv_blocks::BlockOptions;
-use iv_depth::DepthRows;
-use iv_fasta::FastaRows;
-use iv_pair::PairRows;
+use iv_depth::DepthOutput;
+use iv_fasta::FastaOutput;
+use iv_pair::PairOutput;
 use iv_text::Fault;
 use std::alloc::Allocator;
 
@@ -19,14 +19,14 @@ pub type ViewFault = Fault;
 
 /// What a view of a track can show: how many columns the records have, and which of the other two files there are.
 #[derive(Clone, Copy, Debug, PartialEq, Eq)]
-pub struct Beside {
+pub struct Available {
     pub width: u8,
     pub second: bool,
     pub fasta: bool,
 }
 
 /// All columns, and both files.
-const EVERYTHING: Beside = Beside {
+const EVERYTHING: Available = Available {
     width: 6,
     second: true,
     fasta: true,
@@ -51,117 +51,120 @@ pub enum KeptView {
     /// `complement`: what no record covers; if `limited`, only on sequences with a record.
     Complement { limited: bool },
     /// `genomecov`: how many records cover each position.
-    Genomecov(DepthRows),
+    Genomecov(DepthOutput),
 }
 
 impl View {
-    /// The view that words ask for, on a track of this width, beside a second file and a FASTA file or without.
+    /// The view that arguments ask for, on a track of this width, beside a second file and a FASTA file or without.
     ///
     /// # Errors
     ///
     /// `Words` if they ask for no view, then `Column`, then `NoStrand`, then `NoSecond` or `NoFasta`. No other fault comes:
-    /// reading words takes no memory.
+    /// reading arguments takes no memory.
     pub fn read<A: Allocator + Copy>(
         _alloc: A,
         width: u8,
         has_second: bool,
         has_fasta: bool,
-        words: &[&[u8]],
+        arguments: &[&[u8]],
     ) -> Result<View, ViewFault>
-        ensures { result ≡ read_words width has_second has_fasta (map (λ word. word.now) words.now) }
+        ensures { result ≡ read_arguments width has_second has_fasta (map (λ argument. argument.now) arguments.now) }
     {
-        let view = View::asked(words)?;
-        view.narrowed(Beside {
+        let view = View::asked(arguments)?;
+        view.narrowed(Available {
             width,
             second: has_second,
             fasta: has_fasta,
         })
     }
 
-    /// The view that words ask for, of records of six columns beside both files.
+    /// The view that arguments ask for, of records of six columns beside both files.
     ///
     /// # Errors
     ///
     /// `Words` if they ask for no view, then `Column`.
-    pub fn asked(words: &[&[u8]]) -> Result<View, ViewFault>
-        ensures { result ≡ read_words 6 true true (map (λ word. word.now) words.now) }
+    pub fn asked(arguments: &[&[u8]]) -> Result<View, ViewFault>
+        ensures { result ≡ read_arguments 6 true true (map (λ argument. argument.now) arguments.now) }
     {
-        let (word, options) = words.split_first().ok_or(ViewFault::Words)?;
-        if *word == b"merge".as_slice() {
+        let (argument, options) = arguments.split_first().ok_or(ViewFault::Words)?;
+        if *argument == b"merge".as_slice() {
             Ok(View::Kept(KeptView::Merge(read_merge(options)?)))
-        } else if *word == b"cluster".as_slice() {
-            or_bad_words(read_cluster(options).map(KeptView::Cluster))
-        } else if *word == b"complement".as_slice() {
-            or_bad_words(read_complement(options))
-        } else if *word == b"genomecov".as_slice() {
-            or_bad_words(read_genomecov(options).map(KeptView::Genomecov))
-        } else if *word == b"intersect".as_slice() {
-            beside_second(EVERYTHING, read_intersect(options).map(PairRows::Intersect))
-        } else if *word == b"subtract".as_slice() {
-            beside_second(EVERYTHING, read_subtract(options).map(PairRows::Subtract))
-        } else if *word == b"getfasta".as_slice() {
+        } else if *argument == b"cluster".as_slice() {
+            or_bad_arguments(read_cluster(options).map(KeptView::Cluster))
+        } else if *argument == b"complement".as_slice() {
+            or_bad_arguments(read_complement(options))
+        } else if *argument == b"genomecov".as_slice() {
+            or_bad_arguments(read_genomecov(options).map(KeptView::Genomecov))
+        } else if *argument == b"intersect".as_slice() {
+            beside_second(
+                EVERYTHING,
+                read_intersect(options).map(PairOutput::Intersect),
+            )
+        } else if *argument == b"subtract".as_slice() {
+            beside_second(EVERYTHING, read_subtract(options).map(PairOutput::Subtract))
+        } else if *argument == b"getfasta".as_slice() {
             beside_fasta(EVERYTHING, read_getfasta(options))
-        } else if *word == b"records".as_slice() && options.is_empty() {
+        } else if *argument == b"records".as_slice() && options.is_empty() {
             Ok(View::Written(WrittenView::Records))
         } else {
             Err(ViewFault::Words)
         }
     }
 
-    /// The view, which was read for records of six columns beside both files: what its words ask for here.
+    /// The view, which was read for records of six columns beside both files: what its arguments ask for here.
     ///
     /// # Errors
     ///
     /// `Column`, then `NoStrand`, then `NoSecond` or `NoFasta`.
-    pub fn narrowed(self, beside: Beside) -> Result<View, ViewFault>
-        ensures { result ≡ narrowed_view beside.width beside.second beside.fasta self }
+    pub fn narrowed(self, available: Available) -> Result<View, ViewFault>
+        ensures { result ≡ narrowed_view available.width available.second available.fasta self }
     {
         match self {
             View::Kept(KeptView::Merge(options)) => {
-                Ok(View::Kept(KeptView::Merge(narrow_merge(beside.width, options)?)))
+                Ok(View::Kept(KeptView::Merge(narrow_merge(available.width, options)?)))
             }
             View::Kept(
                 KeptView::Cluster(_) | KeptView::Complement { .. } | KeptView::Genomecov(_),
             ) => Ok(self),
-            View::Written(WrittenView::Paired(rows)) => beside_second(beside, Some(rows)),
-            View::Written(WrittenView::Getfasta(shown)) => beside_fasta(beside, Some(shown)),
+            View::Written(WrittenView::Paired(output)) => beside_second(available, Some(output)),
+            View::Written(WrittenView::Getfasta(shown)) => beside_fasta(available, Some(shown)),
             View::Written(WrittenView::Records) => Ok(self),
         }
     }
 }
 
-/// The view of which a state is kept, or a fault of the words if they ask for none.
-fn or_bad_words(view: Option<KeptView>) -> Result<View, ViewFault>
-    ensures { result ≡ kept_or_bad_words view }
+/// The view of which a state is kept, or a fault of the arguments if they ask for none.
+fn or_bad_arguments(view: Option<KeptView>) -> Result<View, ViewFault>
+    ensures { result ≡ kept_or_bad_arguments view }
 {
     Ok(View::Kept(view.ok_or(ViewFault::Words)?))
 }
 
-/// The view that needs a second file: a fault of the words if they ask for none, and then one if there is no second
+/// The view that needs a second file: a fault of the arguments if they ask for none, and then one if there is no second
 /// file.
-fn beside_second(beside: Beside, asked: Option<PairRows>) -> Result<View, ViewFault>
-    ensures { result ≡ beside_a_second beside.second asked }
+fn beside_second(available: Available, asked: Option<PairOutput>) -> Result<View, ViewFault>
+    ensures { result ≡ beside_a_second available.second asked }
 {
-    let Some(rows) = asked else {
+    let Some(output) = asked else {
         return Err(ViewFault::Words);
     };
-    if beside.second {
-        Ok(View::Written(WrittenView::Paired(rows)))
+    if available.second {
+        Ok(View::Written(WrittenView::Paired(output)))
     } else {
         Err(ViewFault::NoSecond)
     }
 }
 
-/// The view that needs a FASTA file: a fault of the words if they ask for none, then one if the track has no strands to show, and
+/// The view that needs a FASTA file: a fault of the arguments if they ask for none, then one if the track has no strands to show, and
 /// then one if there is no FASTA file.
-fn beside_fasta(beside: Beside, asked: Option<FastaRows>) -> Result<View, ViewFault>
-    ensures { result ≡ beside_a_fasta beside.width beside.fasta asked }
+fn beside_fasta(available: Available, asked: Option<FastaOutput>) -> Result<View, ViewFault>
+    ensures { result ≡ beside_a_fasta available.width available.fasta asked }
 {
     let shown = asked.ok_or(ViewFault::Words)?;
-    if shown.stranded && beside.width < 6 {
+    if shown.stranded && available.width < 6 {
         return Err(ViewFault::NoStrand);
     }
-    if !beside.fasta {
+    if !available.fasta {
         return Err(ViewFault::NoFasta);
     }
     Ok(View::Written(WrittenView::Getfasta(shown)))

@@ -11,7 +11,7 @@ const MOST_WORDS: usize = 9;
 /// The first words of a text, at most 9: its maximal runs without a space.
 #[derive(Drop)]
 pub struct Words<'a> {
-    words: [&'a [u8]; 9],
+    arguments: [&'a [u8]; 9],
     count: usize,
 }
 
@@ -20,7 +20,7 @@ impl<'a> Model for Words<'a> {
 
     ghost Value = { List (List ℕ) };
 
-    ghost view = { λ w. map (λ word. word.now) (take w.count w.words) };
+    ghost view = { λ w. map (λ argument. argument.now) (take w.count w.arguments) };
 
     ghost invariant = { λ w. w.count ≤ 9 };
 }
@@ -30,22 +30,22 @@ impl<'a> Words<'a> {
     pub fn of(text: &'a [u8]) -> Words<'a>
         ensures { result ≡ take 9 (words_of text.now) }
     {
-        let mut words: [&'a [u8]; 9] = [&[]; 9];
+        let mut arguments: [&'a [u8]; 9] = [&[]; 9];
         let mut count = 0;
         let mut fields = Fields::of(text, b' ');
         while let Some(field) = fields.next() {
             if !field.is_empty() && count < MOST_WORDS {
-                words[count] = field;
+                arguments[count] = field;
                 count += 1;
             }
         }
-        Words { words, count }
+        Words { arguments, count }
     }
 
     /// The words, in order.
     pub fn as_slice(&self) -> &[&'a [u8]]
-        ensures { map (λ word. word.now) result.now ≡ self.now }
+        ensures { map (λ argument. argument.now) result.now ≡ self.now }
     {
-        &self.words[..self.count]
+        &self.arguments[..self.count]
     }
 }

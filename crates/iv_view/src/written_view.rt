@@ -11,8 +11,8 @@ ghost use Rattle.iv_view.specs.declared.view.View.TheVariants.{Written};
 
 use crate::records::print_records;
 use iv_bytes::{Sink, WriteFault};
-use iv_fasta::{Fasta, FastaRows, put_fasta};
-use iv_pair::{PairRows, Second, print_fasta, print_pairs, put_pair_rows};
+use iv_fasta::{Fasta, FastaOutput, put_fasta};
+use iv_pair::{PairOutput, Second, print_fasta, print_pairs, put_pair_rows};
 use iv_text::{BedRecord, Genome, Record, put_line};
 use iv_track::{Meter, Region, Track};
 use std::alloc::Allocator;
@@ -21,9 +21,9 @@ use std::alloc::Allocator;
 #[derive(Clone, Copy, Debug, PartialEq, Eq)]
 pub enum WrittenView {
     /// `intersect` or `subtract`: the records of the track with those of the second file, or without what these cover.
-    Paired(PairRows),
+    Paired(PairOutput),
     /// `getfasta`: the bases of each record whose sequence the FASTA file has.
-    Getfasta(FastaRows),
+    Getfasta(FastaOutput),
     /// `records`: every record with all its columns.
     Records,
 }
@@ -44,12 +44,12 @@ impl WrittenView {
     ) -> Result<(), WriteFault>
         requires { IsTrue (needs_second (Written self)) → IsSome (option_copied second) }
         ensures text { Puts (S.state sink.old) (S.state sink.new) result
-            (flat_map (written_rows self genome.now (second_records (option_copied second.entry)) (unwrap_or (option_copied fasta.entry) [])) track.now.rows) }
-        ensures steps { WritesWithin self track.now.rows meter.old meter.new }
+            (flat_map (written_rows self genome.now (second_records (option_copied second.entry)) (unwrap_or (option_copied fasta.entry) [])) track.now.records) }
+        ensures steps { WritesWithin self track.now.records meter.old meter.new }
     {
         match self {
-            WrittenView::Paired(rows) => match second {
-                Some(second) => print_pairs(rows, track, second, genome, meter, sink),
+            WrittenView::Paired(output) => match second {
+                Some(second) => print_pairs(output, track, second, genome, meter, sink),
                 None => unreachable!(),
             },
             WrittenView::Getfasta(shown) => match fasta {
@@ -77,12 +77,12 @@ impl WrittenView {
         requires some { at.start < at.stop }
         requires second { IsTrue (needs_second (Written self)) → IsSome (option_copied second) }
         ensures text { Puts (S.state sink.old) (S.state sink.new) result
-            (flat_map (written_rows self genome.now (second_records (option_copied second.entry)) (unwrap_or (option_copied fasta.entry) [])) (hits_in track.now.rows at.seq at.start at.stop)) }
-        ensures steps { TakesUpTo meter.old meter.new (2 + length (near at track.now.rows)) }
+            (flat_map (written_rows self genome.now (second_records (option_copied second.entry)) (unwrap_or (option_copied fasta.entry) [])) (hits_in track.now.records at.seq at.start at.stop)) }
+        ensures steps { TakesUpTo meter.old meter.new (2 + length (near at track.now.records)) }
     {
         let mut hits = track.hits(at, meter);
-        'rows: while let Some(row) = hits.next(meter) {
-            self.put_rows(row, second, fasta, genome, sink)?;
+        'records: while let Some(feature) = hits.next(meter) {
+            self.put_rows(feature, second, fasta, genome, sink)?;
         }
         Ok(())
     }
@@ -90,7 +90,7 @@ impl WrittenView {
     /// Puts the rows of one record.
     fn put_rows<A: Allocator + Copy, S: Sink>(
         self,
-        row: &Record<A>,
+        feature: &Record<A>,
         second: Option<&Second<A>>,
         fasta: Option<&Fasta<A>>,
         genome: &Genome<A>,
@@ -98,33 +98,33 @@ impl WrittenView {
     ) -> Result<(), WriteFault>
         requires { IsTrue (needs_second (Written self)) → IsSome (option_copied second) }
         ensures { Puts (S.state sink.old) (S.state sink.new) result
-            (flat_map (written_rows self genome.now (second_records (option_copied second.entry)) (unwrap_or (option_copied fasta.entry) [])) (row.now ∷ [])) }
+            (flat_map (written_rows self genome.now (second_records (option_copied second.entry)) (unwrap_or (option_copied fasta.entry) [])) (feature.now ∷ [])) }
     {
         match self {
-            WrittenView::Paired(rows) => match second {
-                Some(second) => put_pair(rows, row, second, genome, sink),
+            WrittenView::Paired(output) => match second {
+                Some(second) => put_pair(output, feature, second, genome, sink),
                 None => unreachable!(),
             },
             WrittenView::Getfasta(shown) => match fasta {
-                Some(fasta) => put_fasta(shown, genome, row, fasta, sink),
+                Some(fasta) => put_fasta(shown, genome, feature, fasta, sink),
                 None => Ok(()),
             },
-            WrittenView::Records => put_line(sink, genome, &row.as_ref()),
+            WrittenView::Records => put_line(sink, genome, &feature.as_ref()),
         }
     }
 }
 
 /// Puts the rows of one record beside its hits.
 fn put_pair<A: Allocator + Copy, S: Sink>(
-    rows: PairRows,
-    row: &Record<A>,
+    output: PairOutput,
+    feature: &Record<A>,
     second: &Second<A>,
     genome: &Genome<A>,
     sink: &mut S,
 ) -> Result<(), WriteFault>
-    ensures { Puts (S.state sink.old) (S.state sink.new) result (pair_rows rows genome.now row.now second.now.rows) }
+    ensures { Puts (S.state sink.old) (S.state sink.new) result (pair_rows output genome.now feature.now second.now.records) }
 {
-    row.lemma_of_interval();
-    let hits = second.hits(row.seq(), row.start(), row.stop());
-    put_pair_rows(rows, genome, row, hits, sink)
+    feature.lemma_of_interval();
+    let hits = second.hits(feature.seq(), feature.start(), feature.stop());
+    put_pair_rows(output, genome, feature, hits, sink)
 }

@@ -104,15 +104,15 @@ midway-end {V} Done old now place mid past =
 -- ---- views that become stale
 
 -- views of which more are stale take no more steps
-pub stales-steps : (old new : List (List ℕ × Shown)) (rows : List RecordValue) (r : RecordValue) → Stales old new → all_steps new rows r ≤ all_steps old rows r
-stales-steps [] [] rows r less = omega arith
-stales-steps [] (w ∷ new) rows r less = absurd less
-stales-steps (v ∷ old) [] rows r less = absurd less
-stales-steps (v ∷ old) (w ∷ new) rows r less =
-    omega (arith, one v.1 w.1 less.0.1 less.0.2, stales-steps old new rows r less.1)
+pub stales-steps : (old new : List (List ℕ × Shown)) (records : List RecordValue) (r : RecordValue) → Stales old new → all_steps new records r ≤ all_steps old records r
+stales-steps [] [] records r less = omega arith
+stales-steps [] (w ∷ new) records r less = absurd less
+stales-steps (v ∷ old) [] records r less = absurd less
+stales-steps (v ∷ old) (w ∷ new) records r less =
+    omega (arith, one v.1 w.1 less.0.1 less.0.2, stales-steps old new records r less.1)
   where
-    one : (v w : Shown) → w.view ≡ v.view → (v.stale ≡ true → w.stale ≡ true) → view_steps w rows r ≤ view_steps v rows r
-    one v w view stays = by v.stale w.stale _ _ (ap (λ (s : View). repair_steps_of s rows r) view) stays
+    one : (v w : Shown) → w.view ≡ v.view → (v.stale ≡ true → w.stale ≡ true) → view_steps w records r ≤ view_steps v records r
+    one v w view stays = by v.stale w.stale _ _ (ap (λ (s : View). repair_steps_of s records r) view) stays
       where
         by : (b c : Bool) (m n : ℕ) → n ≡ m → (b ≡ true → c ≡ true) → (if c then 0 else n) ≤ (if b then 0 else m)
         by true true m n same stays = omega arith

@@ -69,40 +69,40 @@ any-some_left p xs ys y is =
     any-at p xs y there.0 there.1
 
 -- an iterator over what passes a test gives one exactly if some element passes
-first-any : {H : Type 0} (items : H → List RecordValue) (p : RecordValue → Bool) (rows : List RecordValue) (left rest : H) (r : Option (Bor RecordValue))
-    → items left ≡ filter p rows → YieldsFirstRef items left r rest → is_some r ≡ list_any p rows
-first-any items p rows left rest None is gives = sym (any-none_left p rows (sym is ∙ gives.0))
-first-any items p rows left rest (Some q) is gives = sym (any-some_left p rows (items rest) q.now (sym is ∙ gives))
+first-any : {H : Type 0} (items : H → List RecordValue) (p : RecordValue → Bool) (records : List RecordValue) (left rest : H) (r : Option (Bor RecordValue))
+    → items left ≡ filter p records → YieldsFirstRef items left r rest → is_some r ≡ list_any p records
+first-any items p records left rest None is gives = sym (any-none_left p records (sym is ∙ gives.0))
+first-any items p records left rest (Some q) is gives = sym (any-some_left p records (items rest) q.now (sym is ∙ gives))
 
-pub hit-past : {H : Type 0} (items : H → List RecordValue) (seq n end : ℕ) (rows : List RecordValue) (left rest : H) (r : Option (Bor RecordValue))
-    → All (λ q. q.start < q.stop) rows → All (λ q. q.seq ≡ seq → q.stop ≤ end) rows
-    → items left ≡ filter (overlaps seq n end) rows → YieldsFirstRef items left r rest → is_some r ≡ list_any (reaches_past seq n) rows
-hit-past items seq n end rows left rest r some within is gives =
-    first-any items (overlaps seq n end) rows left rest r is gives
-    ∙ any-agree (overlaps seq n end) (reaches_past seq n) rows (λ q m.
-    cut-overlaps seq n end q (all-mem (λ (x : RecordValue). x.start < x.stop) rows some q m) (all-mem (λ (x : RecordValue). x.seq ≡ seq → x.stop ≤ end) rows within q m))
+pub hit-past : {H : Type 0} (items : H → List RecordValue) (seq n end : ℕ) (records : List RecordValue) (left rest : H) (r : Option (Bor RecordValue))
+    → All (λ q. q.start < q.stop) records → All (λ q. q.seq ≡ seq → q.stop ≤ end) records
+    → items left ≡ filter (overlaps seq n end) records → YieldsFirstRef items left r rest → is_some r ≡ list_any (reaches_past seq n) records
+hit-past items seq n end records left rest r some within is gives =
+    first-any items (overlaps seq n end) records left rest r is gives
+    ∙ any-agree (overlaps seq n end) (reaches_past seq n) records (λ q m.
+    cut-overlaps seq n end q (all-mem (λ (x : RecordValue). x.start < x.stop) records some q m) (all-mem (λ (x : RecordValue). x.seq ≡ seq → x.stop ≤ end) records within q m))
 
 -- ---- the records of a session's track, and their ends
 
 module _ (g : Sequences) (t : Tracked) (is : IsTrackOn g t) where
-  is_placed : (q : RecordValue) → Mem q t.rows → (q.start < q.stop) × IsWithin g q.seq q.stop
-  is_placed q m = let fits = all-mem (Fits g t.width) t.rows is.fit q m in (fits.is_placed.some, fits.is_placed.within)
+  is_placed : (q : RecordValue) → Mem q t.records → (q.start < q.stop) × IsWithin g q.seq q.stop
+  is_placed q m = let fits = all-mem (Fits g t.width) t.records is.fit q m in (fits.is_placed.some, fits.is_placed.within)
 
-  pub rows-some : All (λ q. q.start < q.stop) t.rows
-  rows-some = mem-all (λ (q : RecordValue). q.start < q.stop) t.rows (λ q m. (is_placed q m).0)
+  pub rows-some : All (λ q. q.start < q.stop) t.records
+  rows-some = mem-all (λ (q : RecordValue). q.start < q.stop) t.records (λ q m. (is_placed q m).0)
 
-  pub rows-within : (seq end : ℕ) → end ≡ unwrap_or (length_at g seq) 0 → All (λ q. q.seq ≡ seq → q.stop ≤ end) t.rows
-  rows-within seq end at = mem-all (λ (q : RecordValue). q.seq ≡ seq → q.stop ≤ end) t.rows (λ q m same.
+  pub rows-within : (seq end : ℕ) → end ≡ unwrap_or (length_at g seq) 0 → All (λ q. q.seq ≡ seq → q.stop ≤ end) t.records
+  rows-within seq end at = mem-all (λ (q : RecordValue). q.seq ≡ seq → q.stop ≤ end) t.records (λ q m same.
       let top : q.stop ≤ unwrap_or (length_at g q.seq) 0 = (is_placed q m).1.1 in
       let here : unwrap_or (length_at g q.seq) 0 ≡ end = ap (λ (k : ℕ). unwrap_or (length_at g k) 0) same ∙ sym at in
       omega (arith, top, here))
 
   -- none is past a length that isn't below that of the sequence
-  pub none-past : (seq n end : ℕ) → end ≡ unwrap_or (length_at g seq) 0 → end ≤ n → list_any (reaches_past seq n) t.rows ≡ false
-  none-past seq n end at low = any-from_none (reaches_past seq n) t.rows (λ q m. false_from_ne_true (reaches_past seq n q) (λ yes.
+  pub none-past : (seq n end : ℕ) → end ≡ unwrap_or (length_at g seq) 0 → end ≤ n → list_any (reaches_past seq n) t.records ≡ false
+  none-past seq n end at low = any-from_none (reaches_past seq n) t.records (λ q m. false_from_ne_true (reaches_past seq n q) (λ yes.
       let parts = past_parts seq n q yes in
       let past : n < q.stop = parts.1 in
-      let top : q.stop ≤ end = all-mem (λ (x : RecordValue). x.seq ≡ seq → x.stop ≤ end) t.rows (rows-within seq end at) q m parts.0 in
+      let top : q.stop ≤ end = all-mem (λ (x : RecordValue). x.seq ≡ seq → x.stop ≤ end) t.records (rows-within seq end at) q m parts.0 in
       absurd (omega (arith, past, top, low))))
 
 pub second-none_past : (g : Sequences) (second : Option Tracked) → IfSome second (IsTrackOn g) → (seq n end : ℕ) → end ≡ unwrap_or (length_at g seq) 0 → end ≤ n
@@ -118,13 +118,13 @@ no_record-past inside s views seq n end same is at low =
     ∙ ap (λ (t : State). has_record_past t seq n) same
 
 -- a record of the track is past it
-pub track-past : (inside s : State) (seq n : ℕ) → inside ≡ s → list_any (reaches_past seq n) inside.track.rows ≡ true → true ≡ has_record_past s seq n
+pub track-past : (inside s : State) (seq n : ℕ) → inside ≡ s → list_any (reaches_past seq n) inside.track.records ≡ true → true ≡ has_record_past s seq n
 track-past inside s seq n same past =
-    sym (or_left (list_any (reaches_past seq n) inside.track.rows) (list_any (reaches_past seq n) (second_records inside.second)) past)
+    sym (or_left (list_any (reaches_past seq n) inside.track.records) (list_any (reaches_past seq n) (second_records inside.second)) past)
     ∙ ap (λ (t : State). has_record_past t seq n) same
 
 -- none is, and so the second file is looked at
-pub second-past : (inside s : State) (second : Option Tracked) (seq n : ℕ) (answer : Bool) → inside ≡ s → list_any (reaches_past seq n) inside.track.rows ≡ false → inside.second ≡ second
+pub second-past : (inside s : State) (second : Option Tracked) (seq n : ℕ) (answer : Bool) → inside ≡ s → list_any (reaches_past seq n) inside.track.records ≡ false → inside.second ≡ second
     → answer ≡ list_any (reaches_past seq n) (second_records second) → answer ≡ has_record_past s seq n
 second-past inside s second seq n answer same none is answered =
     answered ∙ ap (λ (o : Option Tracked). list_any (reaches_past seq n) (second_records o)) (sym is)
@@ -157,12 +157,12 @@ fits-stays g width seq n q is not = record {
   beside = is.beside;
 }
 
-track-resized : (g : Sequences) (t : Tracked) (seq n : ℕ) → IsTrackOn g t → list_any (reaches_past seq n) t.rows ≡ false → IsTrackOn (with_length g seq n) t
+track-resized : (g : Sequences) (t : Tracked) (seq n : ℕ) → IsTrackOn g t → list_any (reaches_past seq n) t.records ≡ false → IsTrackOn (with_length g seq n) t
 track-resized g t seq n is none = record {
   low = is.low;
   high = is.high;
-  fit = mem-all (Fits (with_length g seq n) t.width) t.rows (λ q m.
-      fits-stays g t.width seq n q (all-mem (Fits g t.width) t.rows is.fit q m) (any-none (reaches_past seq n) t.rows none q m));
+  fit = mem-all (Fits (with_length g seq n) t.width) t.records (λ q m.
+      fits-stays g t.width seq n q (all-mem (Fits g t.width) t.records is.fit q m) (any-none (reaches_past seq n) t.records none q m));
   few = is.few;
 }
 
@@ -175,7 +175,7 @@ second-resized g (Some t) seq n is none = track-resized g t seq n is none
 pub session-resized : (inside s : State) (g : Sequences) (views : List (List ℕ × Shown)) (seq n : ℕ) → inside ≡ s → IsSession inside.genome inside.track inside.second views
     → g ≡ with_length inside.genome seq n → has_record_past s seq n ≡ false → IsSession g inside.track inside.second views
 session-resized inside s g views seq n same is new none =
-    let clear = or_parts (list_any (reaches_past seq n) inside.track.rows) (list_any (reaches_past seq n) (second_records inside.second))
+    let clear = or_parts (list_any (reaches_past seq n) inside.track.records) (list_any (reaches_past seq n) (second_records inside.second))
     (ap (λ (t : State). has_record_past t seq n) same ∙ none) in
     subst (λ (h : Sequences). IsSession h inside.track inside.second views) (sym new) (record {
       track_is = track-resized inside.genome inside.track seq n is.track_is clear.0;

@@ -20,7 +20,7 @@ use Rattle.iv_view.specs.declared.view.View.{View}
 use Rattle.iv_view.specs.declared.view.View.TheVariants as view
 use Rattle.iv_view.specs.declared.written_view.WrittenView.{WrittenView}
 use Rattle.iv_view.specs.KeptStates.{state_key_of}
-use Rattle.iv_view.specs.Views.{read_words}
+use Rattle.iv_view.specs.Views.{read_arguments}
 use Rattle.iv_workspace.specs.OpenViews.{Shown, Stales, Freshens, all_current, with_current}
 use Rattle.iv_workspace.specs.Views.{is_view_name, view_named, view_asked}
 use Rattle.iv_workspace.proofs.OpenViewLemmas.{all-current, freshens-all, freshens-one}
@@ -28,35 +28,35 @@ use Rattle.iv_workspace.specs.States.{State, tracked}
 use Rattle.iv_workspace.specs.Inside.States.{IsTrackOn, IsServed, AreServed, IsWrittenFresh, AreWrittenFresh, IsSession}
 
 -- the records fit with one more that fits
-pub fit-added : (g : Sequences) (t : Tracked) (r : RecordValue) → IsTrackOn g t → Fits g t.width r → All (Fits g t.width) (added t.rows r)
-fit-added g t r is fits = All-added (Fits g t.width) t.rows r is.fit fits
+pub fit-added : (g : Sequences) (t : Tracked) (r : RecordValue) → IsTrackOn g t → Fits g t.width r → All (Fits g t.width) (added t.records r)
+fit-added g t r is fits = All-added (Fits g t.width) t.records r is.fit fits
 
 -- with one more record that fits it is still a session's track, if there was room
 pub track-added : (g : Sequences) (t : Tracked) (r : RecordValue)
-    → IsTrackOn g t → Fits g t.width r → length t.rows < t.limit → IsTrackOn g (record t { rows = added t.rows r })
+    → IsTrackOn g t → Fits g t.width r → length t.records < t.limit → IsTrackOn g (record t { records = added t.records r })
 track-added g t r is fits room = record {
   low = is.low;
   high = is.high;
   fit = fit-added g t r is fits;
-  few = omega (arith, length-added record_cmp t.rows r);
+  few = omega (arith, length-added record_cmp t.records r);
 }
 
 -- with one copy less too
 pub track-removed : (g : Sequences) (t : Tracked) (r : RecordValue)
-    → IsTrackOn g t → 0 < copies t.rows r → IsTrackOn g (record t { rows = removed t.rows r })
+    → IsTrackOn g t → 0 < copies t.records r → IsTrackOn g (record t { records = removed t.records r })
 track-removed g t r is there = record {
   low = is.low;
   high = is.high;
-  fit = All-removed (Fits g t.width) t.rows r is.fit;
-  few = omega (arith, length-removed record_cmp t.rows r there, is.few);
+  fit = All-removed (Fits g t.width) t.records r is.fit;
+  few = omega (arith, length-removed record_cmp t.records r there, is.few);
 }
 
 -- a record that replaces another needs no room
 pub track-replaced : (g : Sequences) (t : Tracked) (r q : RecordValue)
-    → IsTrackOn g t → 0 < copies t.rows r → Fits g t.width q → IsTrackOn g (record t { rows = added (removed t.rows r) q })
+    → IsTrackOn g t → 0 < copies t.records r → Fits g t.width q → IsTrackOn g (record t { records = added (removed t.records r) q })
 track-replaced g t r q is there fits =
-    track-added g (record t { rows = removed t.rows r }) q (track-removed g t r is there) fits
-    (omega (arith, length-removed record_cmp t.rows r there, is.few))
+    track-added g (record t { records = removed t.records r }) q (track-removed g t r is there) fits
+    (omega (arith, length-removed record_cmp t.records r there, is.few))
 
 -- the views of a session are changed
 pub views-changed : (change : List (List ℕ × Shown) → List (List ℕ × Shown)) (inside s : State) (more : List (List ℕ × Shown)) → inside ≡ s → more ≡ change inside.views
@@ -76,46 +76,46 @@ edited change inside s t more same is less =
 
 -- a track before and after a record q was added, and after one copy of r was then taken out
 pub record Replaced (g : Sequences) (old mid new : Tracked) (r q : RecordValue) : Type 0 where
-  pub fit : All (Fits g mid.width) mid.rows
-  pub again : mid.rows ≡ added new.rows r
+  pub fit : All (Fits g mid.width) mid.records
+  pub again : mid.records ≡ added new.records r
   pub track_is : IsTrackOn g new
   pub width : new.width ≡ old.width
-  pub is : new ≡ record old { rows = added (removed old.rows r) q }
+  pub is : new ≡ record old { records = added (removed old.records r) q }
 
-pub staged-there : (old mid : Tracked) (r q : RecordValue) → 0 < copies old.rows r → mid ≡ record old { rows = added old.rows q } → 0 < copies mid.rows r
-staged-there old mid r q there is = subst (λ (t : Tracked). 0 < copies t.rows r) (sym is) (omega (arith, there, copies-added record_cmp old.rows q r))
+pub staged-there : (old mid : Tracked) (r q : RecordValue) → 0 < copies old.records r → mid ≡ record old { records = added old.records q } → 0 < copies mid.records r
+staged-there old mid r q there is = subst (λ (t : Tracked). 0 < copies t.records r) (sym is) (omega (arith, there, copies-added record_cmp old.records q r))
 
-pub replaced : (g : Sequences) (old mid new : Tracked) (r q : RecordValue) → IsTrackOn g old → AreInOrder old.rows → 0 < copies old.rows r → Fits g old.width q
-    → mid ≡ record old { rows = added old.rows q } → new ≡ record mid { rows = removed mid.rows r } → Replaced g old mid new r q
+pub replaced : (g : Sequences) (old mid new : Tracked) (r q : RecordValue) → IsTrackOn g old → AreInOrder old.records → 0 < copies old.records r → Fits g old.width q
+    → mid ≡ record old { records = added old.records q } → new ≡ record mid { records = removed mid.records r } → Replaced g old mid new r q
 replaced g old mid new r q session order there fits first second =
-    let one : Tracked = record old { rows = added old.rows q } in
-    let two : Tracked = record one { rows = removed one.rows r } in
-    let last : new ≡ two = second ∙ ap (λ (t : Tracked). record t { rows = removed t.rows r }) first in
-    let swap : two.rows ≡ added (removed old.rows r) q = removed-added record_cmp records_total rows_exact old.rows q r order there in
+    let one : Tracked = record old { records = added old.records q } in
+    let two : Tracked = record one { records = removed one.records r } in
+    let last : new ≡ two = second ∙ ap (λ (t : Tracked). record t { records = removed t.records r }) first in
+    let swap : two.records ≡ added (removed old.records r) q = removed-added record_cmp records_total rows_exact old.records q r order there in
     let whole : Replaced g old one two r q = record {
       fit = fit-added g old q session fits;
-      again = added-removed one.rows r (in_order-added record_cmp records_total old.rows q order) (staged-there old one r q there refl);
-      track_is = subst (λ (l : List RecordValue). IsTrackOn g (record old { rows = l })) (sym swap) (track-replaced g old r q session there fits);
+      again = added-removed one.records r (in_order-added record_cmp records_total old.records q order) (staged-there old one r q there refl);
+      track_is = subst (λ (l : List RecordValue). IsTrackOn g (record old { records = l })) (sym swap) (track-replaced g old r q session there fits);
       width = refl;
-      is = ap (λ (l : List RecordValue). record old { rows = l }) swap;
+      is = ap (λ (l : List RecordValue). record old { records = l }) swap;
     } in
     subst (λ (t : Tracked). Replaced g old t new r q) (sym first) (subst (λ (t : Tracked). Replaced g old one t r q) (sym last) whole)
 
 -- the same, by the records of the session and their copies
-pub replaced-in : (inside s : State) (mid new : Tracked) (before r after q : RecordValue) → inside ≡ s → before ≡ r → after ≡ q → IsTrackOn inside.genome inside.track → AreInOrder inside.track.rows
-    → 0 < copies inside.track.rows before → Fits s.genome s.track.width q → mid ≡ record inside.track { rows = added inside.track.rows after } → new ≡ record mid { rows = removed mid.rows before }
+pub replaced-in : (inside s : State) (mid new : Tracked) (before r after q : RecordValue) → inside ≡ s → before ≡ r → after ≡ q → IsTrackOn inside.genome inside.track → AreInOrder inside.track.records
+    → 0 < copies inside.track.records before → Fits s.genome s.track.width q → mid ≡ record inside.track { records = added inside.track.records after } → new ≡ record mid { records = removed mid.records before }
     → Replaced inside.genome inside.track mid new r q
 replaced-in inside s mid new before r after q same first next session order there fits staged taken =
     let old : Tracked = inside.track in
-    replaced inside.genome old mid new r q session order (subst (λ (x : RecordValue). 0 < copies old.rows x) first there) (subst (λ (t : State). Fits t.genome t.track.width q) (sym same) fits)
-    (staged ∙ ap (λ (x : RecordValue). record old { rows = added old.rows x }) next)
-    (taken ∙ ap (λ (x : RecordValue). record mid { rows = removed mid.rows x }) first)
+    replaced inside.genome old mid new r q session order (subst (λ (x : RecordValue). 0 < copies old.records x) first there) (subst (λ (t : State). Fits t.genome t.track.width q) (sym same) fits)
+    (staged ∙ ap (λ (x : RecordValue). record old { records = added old.records x }) next)
+    (taken ∙ ap (λ (x : RecordValue). record mid { records = removed mid.records x }) first)
 
 -- if the name has no fault, the words decide
-pub no-name_fault : (inside s : State) (name : List ℕ) (words : List (List ℕ)) (v : View) → inside ≡ s → is_view_name name ≡ true → is_some (view_named inside.views name) ≡ false
-    → length inside.views < 64 → read_words inside.track.width (is_some inside.second) (is_some inside.bases) words ≡ Ok v → view_asked s name words ≡ Ok v
-no-name_fault inside s name words v same good free few said =
-    subst (λ (t : State). view_asked t name words ≡ Ok v) same (rw (good, free, lt-leb 64 (length inside.views) few) said)
+pub no-name_fault : (inside s : State) (name : List ℕ) (arguments : List (List ℕ)) (v : View) → inside ≡ s → is_view_name name ≡ true → is_some (view_named inside.views name) ≡ false
+    → length inside.views < 64 → read_arguments inside.track.width (is_some inside.second) (is_some inside.bases) arguments ≡ Ok v → view_asked s name arguments ≡ Ok v
+no-name_fault inside s name arguments v same good free few said =
+    subst (λ (t : State). view_asked t name arguments ≡ Ok v) same (rw (good, free, lt-leb 64 (length inside.views) few) said)
 
 -- ---- views beside a second file
 
@@ -141,9 +141,9 @@ served-current second name old new are served = subst (AreServed second) (sym ar
 -- ---- written views
 
 -- a view of which nothing is kept is written from the records
-none-written : (v : View) → state_key_of v ≡ None → (rows : WrittenView) × (v ≡ view.Written rows)
+none-written : (v : View) → state_key_of v ≡ None → (records : WrittenView) × (v ≡ view.Written records)
 none-written (view.Kept v) none = absurd (cc (none))
-none-written (view.Written rows) none = (rows, refl)
+none-written (view.Written records) none = (records, refl)
 
 fresh-stales : (old new : List (List ℕ × Shown)) → Stales old new → AreWrittenFresh old → AreWrittenFresh new
 fresh-stales [] [] less fresh = tt
@@ -209,24 +209,24 @@ session-all_printed g track second old new whole are =
 
 -- ---- the tracks of files
 
-pub track-of_file : (g : Sequences) (file : Bed) (limit : ℕ) → (3 ≤ file.width) × (file.width ≤ 6) → All (Fits g file.width) file.rows → length file.rows ≤ limit
+pub track-of_file : (g : Sequences) (file : Bed) (limit : ℕ) → (3 ≤ file.width) × (file.width ≤ 6) → All (Fits g file.width) file.records → length file.records ≤ limit
     → IsTrackOn g (tracked file limit)
 track-of_file g file limit known fit few =
     let F : RecordValue → Type 0 = Fits g file.width in
     record {
       low = known.0;
       high = known.1;
-      fit = All-from_recursion F (ordered file.rows) (all-all_added record_cmp F file.rows [] (recursion_from_All F file.rows fit) tt);
-      few = few-ordered file.rows limit few;
+      fit = All-from_recursion F (ordered file.records) (all-all_added record_cmp F file.records [] (recursion_from_All F file.records fit) tt);
+      few = few-ordered file.records limit few;
     }
 
 pub second-of_file : (g : Sequences) (file : Option Bed) (limit : ℕ) → IfSome file (λ f. (3 ≤ f.width) × (f.width ≤ 6))
-    → IfSome file (λ f. All (Fits g f.width) f.rows) → IfSome file (λ f. length f.rows ≤ limit)
+    → IfSome file (λ f. All (Fits g f.width) f.records) → IfSome file (λ f. length f.records ≤ limit)
     → IfSome (option_map (λ f. tracked f limit) file) (IsTrackOn g)
 second-of_file g None limit known fit few = tt
 second-of_file g (Some file) limit known fit few = track-of_file g file limit known fit few
 
 -- the records of a file have its width
-pub widths-of_file : (g : Sequences) (file : Option Bed) → IfSome file (λ f. All (Fits g f.width) f.rows) → IfSome file (λ f. All (λ r. r.width ≡ f.width) f.rows)
+pub widths-of_file : (g : Sequences) (file : Option Bed) → IfSome file (λ f. All (Fits g f.width) f.records) → IfSome file (λ f. All (λ r. r.width ≡ f.width) f.records)
 widths-of_file g None fit = tt
 widths-of_file g (Some file) fit = λ i r within. (fit i r within).width_is

@@ -84,23 +84,23 @@ own-other {A} v what other owns = by v.state owns
 
 -- ---- repairs
 
-steps-append : (xs ys : List (List ℕ × Shown)) (rows : List RecordValue) (r : RecordValue) → all_steps (xs ++ ys) rows r ≡ all_steps xs rows r + all_steps ys rows r
-steps-append [] ys rows r = omega arith
-steps-append (x ∷ xs) ys rows r = omega (arith, steps-append xs ys rows r)
+steps-append : (xs ys : List (List ℕ × Shown)) (records : List RecordValue) (r : RecordValue) → all_steps (xs ++ ys) records r ≡ all_steps xs records r + all_steps ys records r
+steps-append [] ys records r = omega arith
+steps-append (x ∷ xs) ys records r = omega (arith, steps-append xs ys records r)
 
 both-true : (a b : Bool) → a && b ≡ true → (a ≡ true) × (b ≡ true)
 both-true true true e = (refl, refl)
 both-true true false e = absurd (cc (e))
 both-true false b e = absurd (cc (e))
 
-module _ {A : Type 0} (names : List (List ℕ)) (rows with_r : List RecordValue) (r : RecordValue) where
-  pub repaired-none : (before : ℕ) → AreRepaired {A = A} names rows with_r r true [] [] before before
+module _ {A : Type 0} (names : List (List ℕ)) (records with_r : List RecordValue) (r : RecordValue) where
+  pub repaired-none : (before : ℕ) → AreRepaired {A = A} names records with_r r true [] [] before before
   repaired-none before = record { unless = λ e. (refl, refl); stales = tt; right = tt; steps = record { no_less = omega arith; at_most = omega arith } }
 
   -- one more view is repaired
   pub repaired-push : (kept also : Bool) (old new : List (List ℕ × OpenView A)) (n : List ℕ) (v w : OpenView A) (before mid after : ℕ)
-      → AreRepaired names rows with_r r kept old new before mid → IsRepaired names rows with_r r also v w mid after
-      → AreRepaired names rows with_r r (kept && also) (old ++ (n, v) ∷ []) (new ++ (n, w) ∷ []) before after
+      → AreRepaired names records with_r r kept old new before mid → IsRepaired names records with_r r also v w mid after
+      → AreRepaired names records with_r r (kept && also) (old ++ (n, v) ∷ []) (new ++ (n, w) ∷ []) before after
   repaired-push kept also old new n v w before mid after all one =
       let seen_old : all_seen (old ++ (n, v) ∷ []) ≡ all_seen old ++ (n, seen v) ∷ [] = seen-append old ((n, v) ∷ []) in
       let seen_new : all_seen (new ++ (n, w) ∷ []) ≡ all_seen new ++ (n, seen w) ∷ [] = seen-append new ((n, w) ∷ []) in
@@ -116,41 +116,41 @@ module _ {A : Type 0} (names : List (List ℕ)) (rows with_r : List RecordValue)
               owned-append new ((n, w) ∷ []) ∙ ap₂ (λ (l : List (Option StateKey)) (o : Option StateKey). l ++ o ∷ []) before.1 here.1 ∙ sym (owned-append old ((n, v) ∷ [])),
             );
         stales = rw (seen_old, seen_new) (stales-append (all_seen old) (all_seen new) ((n, seen v) ∷ []) ((n, seen w) ∷ []) all.stales ((refl, one.same, one.stays, (λ written is. one.written (ap state_key_of is))), tt));
-        right = all-append (λ e. IsOwnRight e.1 names rows) new ((n, w) ∷ []) all.right (one.right, tt);
+        right = all-append (λ e. IsOwnRight e.1 names records) new ((n, w) ∷ []) all.right (one.right, tt);
         steps = record { no_less = omega (arith, all.steps.no_less, one.steps.no_less); at_most = omega (arith, all.steps.at_most, one.steps.at_most, steps_are) };
       }
 
   -- if none was lost, the views are right
-  pub repaired-kept : (old new : List (List ℕ × OpenView A)) (before after : ℕ) → AreRepaired names rows with_r r true old new before after
-      → HaveStates (all_owned old) (all_seen old) → AreRight new names rows
+  pub repaired-kept : (old new : List (List ℕ × OpenView A)) (before after : ℕ) → AreRepaired names records with_r r true old new before after
+      → HaveStates (all_owned old) (all_seen old) → AreRight new names records
   repaired-kept old new before after all have =
       let same = all.unless refl in
       (all.right, subst (λ (l : List (Option StateKey)). HaveStates l (all_seen new)) (sym same.1) (subst (HaveStates (all_owned old)) (sym same.0) have))
 
 -- during the repairs
-pub record Repairing {A : Type 0} (names : List (List ℕ)) (rows with_r : List RecordValue) (r : RecordValue) (kept : Bool) (old now : List (List ℕ × OpenView A)) (place before after : ℕ) : Type 0 where
-  pub mid : Midway (λ front done. AreRepaired names rows with_r r kept front done before after) old now place
+pub record Repairing {A : Type 0} (names : List (List ℕ)) (records with_r : List RecordValue) (r : RecordValue) (kept : Bool) (old now : List (List ℕ × OpenView A)) (place before after : ℕ) : Type 0 where
+  pub mid : Midway (λ front done. AreRepaired names records with_r r kept front done before after) old now place
 
-module _ {A : Type 0} (names : List (List ℕ)) (rows with_r : List RecordValue) (r : RecordValue) (old : List (List ℕ × OpenView A)) where
-  pub repairs-begin : (now : List (List ℕ × OpenView A)) (before : ℕ) → now ≡ old → Repairing names rows with_r r true old now 0 before before
-  repairs-begin now before same = record { mid = midway-begin _ old now same (repaired-none names rows with_r r before) }
+module _ {A : Type 0} (names : List (List ℕ)) (records with_r : List RecordValue) (r : RecordValue) (old : List (List ℕ × OpenView A)) where
+  pub repairs-begin : (now : List (List ℕ × OpenView A)) (before : ℕ) → now ≡ old → Repairing names records with_r r true old now 0 before before
+  repairs-begin now before same = record { mid = midway-begin _ old now same (repaired-none names records with_r r before) }
 
-  pub repairs-end : (kept : Bool) (now : List (List ℕ × OpenView A)) (place before after : ℕ) → Repairing names rows with_r r kept old now place before after → length now ≤ place
-      → AreRepaired names rows with_r r kept old now before after
-  repairs-end kept now place before after u past = midway-end (λ front done. AreRepaired names rows with_r r kept front done before after) old now place u.mid past
+  pub repairs-end : (kept : Bool) (now : List (List ℕ × OpenView A)) (place before after : ℕ) → Repairing names records with_r r kept old now place before after → length now ≤ place
+      → AreRepaired names records with_r r kept old now before after
+  repairs-end kept now place before after u past = midway-end (λ front done. AreRepaired names records with_r r kept front done before after) old now place u.mid past
 
-module _ {A : Type 0} (names : List (List ℕ)) (rows with_r : List RecordValue) (r : RecordValue) (old : List (List ℕ × OpenView A)) where
+module _ {A : Type 0} (names : List (List ℕ)) (records with_r : List RecordValue) (r : RecordValue) (old : List (List ℕ × OpenView A)) where
   pub repairs-at : (P : OpenView A → Type 0) (kept : Bool) (es : List (List ℕ × OpenView A)) (place before mid : ℕ) (v : OpenView A)
-      → Repairing names rows with_r r kept old es place before mid → slice_get (values_of es) place ≡ Some v → AllByRecursion (λ e. P e.1) old → P v
+      → Repairing names records with_r r kept old es place before mid → slice_get (values_of es) place ≡ Some v → AllByRecursion (λ e. P e.1) old → P v
   repairs-at P kept es place before mid v u found all = midway-at _ P old es place v u.mid found all
 
   pub repairs-next : (kept also : Bool) (es : List (List ℕ × OpenView A)) (place before mid after : ℕ) (v w : OpenView A)
-      → Repairing names rows with_r r kept old es place before mid → slice_get (values_of es) place ≡ Some v → IsRepaired names rows with_r r also v w mid after
-      → Repairing names rows with_r r (kept && also) old (set_value_at es place w) (place + 1) before after
+      → Repairing names records with_r r kept old es place before mid → slice_get (values_of es) place ≡ Some v → IsRepaired names records with_r r also v w mid after
+      → Repairing names records with_r r (kept && also) old (set_value_at es place w) (place + 1) before after
   repairs-next kept also es place before mid after v w u found one = record {
     mid = midway-next
-        (λ front done. AreRepaired names rows with_r r kept front done before mid) (λ front done. AreRepaired names rows with_r r (kept && also) front done before after)
-        old es place v w u.mid found (λ front done more n old_is all. repaired-push names rows with_r r kept also front done n v w before mid after all one);
+        (λ front done. AreRepaired names records with_r r kept front done before mid) (λ front done. AreRepaired names records with_r r (kept && also) front done before after)
+        old es place v w u.mid found (λ front done more n old_is all. repaired-push names records with_r r kept also front done n v w before mid after all one);
   }
 
 -- ---- views whose state is lost
@@ -158,12 +158,12 @@ module _ {A : Type 0} (names : List (List ℕ)) (rows with_r : List RecordValue)
 -- while views are marked, beside these states
 pub record Marking {A : Type 0} (states : List (Option StateKey)) (old new : List (List ℕ × OpenView A)) : Type 0 where
   pub owned_same : all_owned new ≡ all_owned old
-  pub right : (names : List (List ℕ)) (rows : List RecordValue) → AreOwnRight old names rows → AreOwnRight new names rows
+  pub right : (names : List (List ℕ)) (records : List RecordValue) → AreOwnRight old names records → AreOwnRight new names records
   pub stales : Stales (all_seen old) (all_seen new)
   pub have : HaveStates states (all_seen new)
 
 pub marking-none : {A : Type 0} (states : List (Option StateKey)) → Marking {A = A} states [] []
-marking-none states = record { owned_same = refl; right = λ names rows all. tt; stales = tt; have = tt }
+marking-none states = record { owned_same = refl; right = λ names records all. tt; stales = tt; have = tt }
 
 -- the view itself, stale unless its state is kept
 abbrev pub marked : {A : Type 0} → OpenView A → Bool → OpenView A
@@ -171,12 +171,12 @@ marked v stale = record v { stale = stale }
 
 module _ {A : Type 0} (states : List (Option StateKey)) (v : OpenView A) (b : Bool) where
   -- a view with a state of its own isn't marked
-  marked-right : (IsKept states v.view → b ≡ v.stale) → ((what : StateKey) → owned v ≡ Some what → IsOwned what states) → (names : List (List ℕ)) (rows : List RecordValue)
-      → IsOwnRight v names rows → IsOwnRight (marked v b) names rows
-  marked-right keeps among names rows = by v.state refl
+  marked-right : (IsKept states v.view → b ≡ v.stale) → ((what : StateKey) → owned v ≡ Some what → IsOwned what states) → (names : List (List ℕ)) (records : List RecordValue)
+      → IsOwnRight v names records → IsOwnRight (marked v b) names records
+  marked-right keeps among names records = by v.state refl
     where
-      by : (o : Option (KeptState A)) → v.state ≡ o → IfSome o (λ k. (v.stale ≡ false) × (state_key_of v.view ≡ Some (built_for k)) × IsRight k names rows)
-          → IfSome o (λ k. (b ≡ false) × (state_key_of v.view ≡ Some (built_for k)) × IsRight k names rows)
+      by : (o : Option (KeptState A)) → v.state ≡ o → IfSome o (λ k. (v.stale ≡ false) × (state_key_of v.view ≡ Some (built_for k)) × IsRight k names records)
+          → IfSome o (λ k. (b ≡ false) × (state_key_of v.view ≡ Some (built_for k)) × IsRight k names records)
       by None is right = tt
       by (Some k) is right =
           let own : owned v ≡ Some (built_for k) = ap (kept_with v.view) is ∙ right.1 in
@@ -193,10 +193,10 @@ module _ {A : Type 0} (states : List (Option StateKey)) (v : OpenView A) (b : Bo
       let seen_new : all_seen (new ++ (n, w) ∷ []) ≡ all_seen new ++ (n, seen w) ∷ [] = seen-append new ((n, w) ∷ []) in
       record {
         owned_same = owned-append new ((n, w) ∷ []) ∙ ap (λ (l : List (Option StateKey)). l ++ owned v ∷ []) all.owned_same ∙ sym (owned-append old ((n, v) ∷ []));
-        right = λ names rows right.
-            let front = all.right names rows (all-front (λ e. IsOwnRight e.1 names rows) old ((n, v) ∷ []) right) in
-            let here = (all-back (λ e. IsOwnRight e.1 names rows) old ((n, v) ∷ []) right).0 in
-            all-append (λ e. IsOwnRight e.1 names rows) new ((n, w) ∷ []) front (marked-right keeps among names rows here, tt);
+        right = λ names records right.
+            let front = all.right names records (all-front (λ e. IsOwnRight e.1 names records) old ((n, v) ∷ []) right) in
+            let here = (all-back (λ e. IsOwnRight e.1 names records) old ((n, v) ∷ []) right).0 in
+            all-append (λ e. IsOwnRight e.1 names records) new ((n, w) ∷ []) front (marked-right keeps among names records here, tt);
         stales = rw (seen_old, seen_new) (stales-append (all_seen old) (all_seen new) ((n, seen v) ∷ []) ((n, seen w) ∷ []) all.stales ((refl, refl, stays, (λ written is. keeps (kept-none states v.view (ap state_key_of is)))), tt));
         have = rw seen_new (all-append (λ e. e.1.stale ≡ false → IsKept states e.1.view) (all_seen new) ((n, seen w) ∷ []) all.have (lost, tt));
       }
@@ -285,11 +285,11 @@ module _ {A : Type 0} (views : List (List ℕ × OpenView A)) (es : List (List �
   view-at = subst (λ (l : List (List ℕ × OpenView A)). (n : List ℕ) × (slice_get l place ≡ Some (n, v)) × (drop place l ≡ (n, v) ∷ drop (place + 1) l)) same (at-place es place v found)
 
   -- its state is that of what is kept of it, and is right
-  pub state-at : (what : StateKey) (k : KeptState A) → v.state ≡ Some k → state_key_of v.view ≡ Some what → (names : List (List ℕ)) (rows : List RecordValue) → AreOwnRight views names rows
-      → (built_for k ≡ what) × IsRight k names rows
-  state-at what k is kept names rows right =
-      let own : IsOwnRight v names rows = all-at (λ u. IsOwnRight u names rows) views place (view-at.0, v) view-at.1 right in
-      let here = subst (λ (o : Option (KeptState A)). IfSome o (λ k. (v.stale ≡ false) × (state_key_of v.view ≡ Some (built_for k)) × IsRight k names rows)) is own in
+  pub state-at : (what : StateKey) (k : KeptState A) → v.state ≡ Some k → state_key_of v.view ≡ Some what → (names : List (List ℕ)) (records : List RecordValue) → AreOwnRight views names records
+      → (built_for k ≡ what) × IsRight k names records
+  state-at what k is kept names records right =
+      let own : IsOwnRight v names records = all-at (λ u. IsOwnRight u names records) views place (view-at.0, v) view-at.1 right in
+      let here = subst (λ (o : Option (KeptState A)). IfSome o (λ k. (v.stale ≡ false) × (state_key_of v.view ≡ Some (built_for k)) × IsRight k names records)) is own in
       let both : Some (built_for k) ≡ Some what = sym here.1 ∙ kept in
       let eq : built_for k ≡ what = cc (both) in
       (eq, here.2)
@@ -341,16 +341,16 @@ module _ {A : Type 0} (old new : List (List ℕ × OpenView A)) (place : ℕ) (v
   written-all P all = (all-back (λ e. P e.1) u.front ((u.name, v) ∷ u.more) (subst (λ (l : List (List ℕ × OpenView A)). AllByRecursion (λ e. P e.1) l) u.old_is all)).0
 
   -- the views are right, if that view is
-  written-right : (names : List (List ℕ)) (rows : List RecordValue) (states : List (Option StateKey)) → AreOwnRight old names rows → HaveStates states (all_seen old)
-      → ((what : StateKey) → IsOwned what states → IsOwned what (all_owned new)) → IsOwnRight w names rows → (w.stale ≡ false → IsKept (all_owned new) w.view) → AreRight new names rows
-  written-right names rows states right have grows own kept =
-      let P : List ℕ × OpenView A → Type 0 = λ e. IsOwnRight e.1 names rows in
-      let before = subst (λ (l : List (List ℕ × OpenView A)). AreOwnRight l names rows) u.old_is right in
+  written-right : (names : List (List ℕ)) (records : List RecordValue) (states : List (Option StateKey)) → AreOwnRight old names records → HaveStates states (all_seen old)
+      → ((what : StateKey) → IsOwned what states → IsOwned what (all_owned new)) → IsOwnRight w names records → (w.stale ≡ false → IsKept (all_owned new) w.view) → AreRight new names records
+  written-right names records states right have grows own kept =
+      let P : List ℕ × OpenView A → Type 0 = λ e. IsOwnRight e.1 names records in
+      let before = subst (λ (l : List (List ℕ × OpenView A)). AreOwnRight l names records) u.old_is right in
       let Q : List ℕ × Shown → Type 0 = λ e. e.1.stale ≡ false → IsKept (all_owned new) e.1.view in
       let more : HaveStates (all_owned new) (all_seen u.front ++ (u.name, seen v) ∷ all_seen u.more) =
       subst (HaveStates (all_owned new)) (ap all_seen u.old_is ∙ seen-append u.front ((u.name, v) ∷ u.more)) (have-more states (all_owned new) (all_seen old) grows have) in
       let seen_are : all_seen new ≡ all_seen u.front ++ (u.name, seen w) ∷ all_seen u.more = ap all_seen u.new_is ∙ seen-append u.front ((u.name, w) ∷ u.more) in (
-        subst (λ (l : List (List ℕ × OpenView A)). AreOwnRight l names rows) (sym u.new_is)
+        subst (λ (l : List (List ℕ × OpenView A)). AreOwnRight l names records) (sym u.new_is)
             (all-append P u.front ((u.name, w) ∷ u.more) (all-front P u.front ((u.name, v) ∷ u.more) before) (own, (all-back P u.front ((u.name, v) ∷ u.more) before).1)),
         subst (HaveStates (all_owned new)) (sym seen_are)
             (all-append Q (all_seen u.front) ((u.name, seen w) ∷ all_seen u.more) (all-front Q (all_seen u.front) ((u.name, seen v) ∷ all_seen u.more) more)
@@ -362,47 +362,47 @@ abbrev pub renewed : {A : Type 0} → View → Option (KeptState A) → OpenView
 renewed view state = record { view = view; stale = false; state = state }
 
 -- the state that was missing is right, and is what is kept of the view
-missing-own : {A : Type 0} (states : List (Option StateKey)) (view : View) (names : List (List ℕ)) (rows : List RecordValue) (state : Option (KeptState A))
-    → IsMissing states view names rows state → IsOwnRight (renewed view state) names rows
-missing-own states view names rows None missing = tt
-missing-own states view names rows (Some k) missing = (refl, missing.0, missing.1)
+missing-own : {A : Type 0} (states : List (Option StateKey)) (view : View) (names : List (List ℕ)) (records : List RecordValue) (state : Option (KeptState A))
+    → IsMissing states view names records state → IsOwnRight (renewed view state) names records
+missing-own states view names records None missing = tt
+missing-own states view names records (Some k) missing = (refl, missing.0, missing.1)
 
-missing-kept : {A : Type 0} (states more : List (Option StateKey)) (view : View) (names : List (List ℕ)) (rows : List RecordValue) (state : Option (KeptState A))
-    → IsMissing states view names rows state → ((what : StateKey) → IsOwned what states → IsOwned what more) → ((what : StateKey) → kept_with view state ≡ Some what → IsOwned what more) → IsKept more view
-missing-kept states more view names rows None missing grows own = kept-more states more view grows missing
-missing-kept states more view names rows (Some k) missing grows own = by (state_key_of view) refl
+missing-kept : {A : Type 0} (states more : List (Option StateKey)) (view : View) (names : List (List ℕ)) (records : List RecordValue) (state : Option (KeptState A))
+    → IsMissing states view names records state → ((what : StateKey) → IsOwned what states → IsOwned what more) → ((what : StateKey) → kept_with view state ≡ Some what → IsOwned what more) → IsKept more view
+missing-kept states more view names records None missing grows own = kept-more states more view grows missing
+missing-kept states more view names records (Some k) missing grows own = by (state_key_of view) refl
   where
     by : (o : Option StateKey) → state_key_of view ≡ o → IfSome o (λ what. IsOwned what more)
     by None is = tt
     by (Some what) is = own what is
 
 -- a view that was stale is rebuilt
-pub renewed-right : {A : Type 0} (names : List (List ℕ)) (rows : List RecordValue) (old new : List (List ℕ × OpenView A)) (place : ℕ) (v : OpenView A) (state : Option (KeptState A))
-    → Written old new place v (renewed v.view state) → v.stale ≡ true → IsMissing (all_owned old) v.view names rows state → AreRight old names rows → AreRight new names rows
-renewed-right {A} names rows old new place v state u stale missing right =
+pub renewed-right : {A : Type 0} (names : List (List ℕ)) (records : List RecordValue) (old new : List (List ℕ × OpenView A)) (place : ℕ) (v : OpenView A) (state : Option (KeptState A))
+    → Written old new place v (renewed v.view state) → v.stale ≡ true → IsMissing (all_owned old) v.view names records state → AreRight old names records → AreRight new names records
+renewed-right {A} names records old new place v state u stale missing right =
     let w : OpenView A = renewed v.view state in
-    let own : IsOwnRight v names rows = written-all old new place v w u (λ e. IsOwnRight e names rows) right.0 in
+    let own : IsOwnRight v names records = written-all old new place v w u (λ e. IsOwnRight e names records) right.0 in
     let grows = written-grows old new place v w u (λ what is. absurd (no-state v.state own what is)) in
-    written-right old new place v w u names rows (all_owned old) right.0 right.1 grows (missing-own (all_owned old) v.view names rows state missing)
-    (λ fresh. missing-kept (all_owned old) (all_owned new) v.view names rows state missing grows (written-owned old new place v w u))
+    written-right old new place v w u names records (all_owned old) right.0 right.1 grows (missing-own (all_owned old) v.view names records state missing)
+    (λ fresh. missing-kept (all_owned old) (all_owned new) v.view names records state missing grows (written-owned old new place v w u))
   where
-    no-state : (o : Option (KeptState A)) → IfSome o (λ k. (v.stale ≡ false) × (state_key_of v.view ≡ Some (built_for k)) × IsRight k names rows) → (what : StateKey) → kept_with v.view o ≡ Some what → ⊥
+    no-state : (o : Option (KeptState A)) → IfSome o (λ k. (v.stale ≡ false) × (state_key_of v.view ≡ Some (built_for k)) × IsRight k names records) → (what : StateKey) → kept_with v.view o ≡ Some what → ⊥
     no-state None own what is = cc (is)
     no-state (Some k) own what is = let both : true ≡ false = sym stale ∙ own.0 in cc (both)
 
 -- one more view, with the state that was missing
-pub opened-right : {A : Type 0} (names : List (List ℕ)) (rows : List RecordValue) (views : List (List ℕ × OpenView A)) (name : List ℕ) (view : View) (state : Option (KeptState A))
-    → IsMissing (all_owned views) view names rows state → AreRight views names rows → AreRight (views ++ (name, renewed view state) ∷ []) names rows
-opened-right {A} names rows views name view state missing right =
+pub opened-right : {A : Type 0} (names : List (List ℕ)) (records : List RecordValue) (views : List (List ℕ × OpenView A)) (name : List ℕ) (view : View) (state : Option (KeptState A))
+    → IsMissing (all_owned views) view names records state → AreRight views names records → AreRight (views ++ (name, renewed view state) ∷ []) names records
+opened-right {A} names records views name view state missing right =
     let w : OpenView A = renewed view state in
     let all : List (List ℕ × OpenView A) = views ++ (name, w) ∷ [] in
     let states_are : all_owned all ≡ all_owned views ++ owned w ∷ [] = owned-append views ((name, w) ∷ []) in
     let grows : (what : StateKey) → IsOwned what (all_owned views) → IsOwned what (all_owned all) = λ what a. subst (IsOwned what) (sym states_are) (among-front what (all_owned views) (owned w ∷ []) a) in
     let own : (what : StateKey) → kept_with view state ≡ Some what → IsOwned what (all_owned all) = owned-here views [] name w in (
-      all-append (λ e. IsOwnRight e.1 names rows) views ((name, w) ∷ []) right.0 (missing-own (all_owned views) view names rows state missing, tt),
+      all-append (λ e. IsOwnRight e.1 names records) views ((name, w) ∷ []) right.0 (missing-own (all_owned views) view names records state missing, tt),
       subst (HaveStates (all_owned all)) (sym (seen-append views ((name, w) ∷ [])))
           (all-append (λ e. e.1.stale ≡ false → IsKept (all_owned all) e.1.view) (all_seen views) ((name, seen w) ∷ []) (have-more (all_owned views) (all_owned all) (all_seen views) grows right.1)
-          (λ fresh. missing-kept (all_owned views) (all_owned all) view names rows state missing grows own, tt)),
+          (λ fresh. missing-kept (all_owned views) (all_owned all) view names records state missing grows own, tt)),
     )
 
 -- ---- a view that is closed
@@ -412,10 +412,10 @@ abbrev pub with_state : {A : Type 0} → OpenView A → KeptState A → OpenView
 with_state v k = record v { state = Some k }
 
 -- the first view that needs a state takes it over
-pub handed-right : {A : Type 0} (names : List (List ℕ)) (rows : List RecordValue) (old new : List (List ℕ × OpenView A)) (place : ℕ) (v : OpenView A) (k : KeptState A) (what : StateKey) (closed : View)
+pub handed-right : {A : Type 0} (names : List (List ℕ)) (records : List RecordValue) (old new : List (List ℕ × OpenView A)) (place : ℕ) (v : OpenView A) (k : KeptState A) (what : StateKey) (closed : View)
     → Written old new place v (with_state v k) → v.stale ≡ false → state_key_of v.view ≡ Some what → state_key_of closed ≡ Some what
-    → AreOwnRight old names rows → HaveStates (state_key_of closed ∷ all_owned old) (all_seen old) → (state_key_of closed ≡ Some (built_for k)) × IsRight k names rows → AreRight new names rows
-handed-right {A} names rows old new place v k what closed u fresh needs is right have state =
+    → AreOwnRight old names records → HaveStates (state_key_of closed ∷ all_owned old) (all_seen old) → (state_key_of closed ≡ Some (built_for k)) × IsRight k names records → AreRight new names records
+handed-right {A} names records old new place v k what closed u fresh needs is right have state =
     let w : OpenView A = with_state v k in
     let here : IsOwned what (all_owned new) = written-owned old new place v w u what needs in
     let grows = written-grows old new place v w u (λ that owns. same-state v.state that owns here) in
@@ -423,7 +423,7 @@ handed-right {A} names rows old new place v k what closed u fresh needs is right
       | inl is_that ↦ let same : Some what ≡ Some that = sym is ∙ is_that in let eq : what ≡ that = cc (same) in subst (λ (x : StateKey). IsOwned x (all_owned new)) eq here
       | inr before ↦ grows that before
     ] in
-    written-right old new place v w u names rows (state_key_of closed ∷ all_owned old) right have all
+    written-right old new place v w u names records (state_key_of closed ∷ all_owned old) right have all
     (fresh, needs ∙ sym is ∙ state.0, state.1)
     (λ _. subst (λ (o : Option StateKey). IfSome o (λ x. IsOwned x (all_owned new))) (sym needs) here)
   where
@@ -468,22 +468,22 @@ kept-of {A} name v what (e ∷ views) found a = by (bytes_eq name e.0) found a (
     ]
 
 -- the views without that of a name, whose state is beside theirs
-pub closed-right : {A : Type 0} (name : List ℕ) (views : List (List ℕ × OpenView A)) (v : OpenView A) (names : List (List ℕ)) (rows : List RecordValue) → lookup (bytes_eq name) views ≡ Some v → AreRight views names rows
-    → AreOwnRight (remove_entry (bytes_eq name) views) names rows × HaveStates (owned v ∷ all_owned (remove_entry (bytes_eq name) views)) (all_seen (remove_entry (bytes_eq name) views))
-    × IsOwnRight v names rows
-closed-right {A} name views v names rows found right =
+pub closed-right : {A : Type 0} (name : List ℕ) (views : List (List ℕ × OpenView A)) (v : OpenView A) (names : List (List ℕ)) (records : List RecordValue) → lookup (bytes_eq name) views ≡ Some v → AreRight views names records
+    → AreOwnRight (remove_entry (bytes_eq name) views) names records × HaveStates (owned v ∷ all_owned (remove_entry (bytes_eq name) views)) (all_seen (remove_entry (bytes_eq name) views))
+    × IsOwnRight v names records
+closed-right {A} name views v names records found right =
     let more = remove_entry (bytes_eq name) views in
     let have : HaveStates (owned v ∷ all_owned more) (all_seen views) = have-more (all_owned views) (owned v ∷ all_owned more) (all_seen views) (λ what a. kept-of name v what views found a) right.1 in (
-      all-removed (λ u. IsOwnRight u names rows) name views right.0,
+      all-removed (λ u. IsOwnRight u names records) name views right.0,
       subst (HaveStates (owned v ∷ all_owned more)) (sym (remove-seen name views)) (all-removed (λ u. u.stale ≡ false → IsKept (owned v ∷ all_owned more) u.view) name (all_seen views) have),
-      all-named (λ u. IsOwnRight u names rows) name views v found right.0,
+      all-named (λ u. IsOwnRight u names records) name views v found right.0,
     )
 
 -- what is of its own state
-pub own-kept : {A : Type 0} (v : OpenView A) (names : List (List ℕ)) (rows : List RecordValue) → IsOwnRight v names rows → IfSome v.state (λ k. (state_key_of v.view ≡ Some (built_for k)) × IsRight k names rows)
-own-kept {A} v names rows own = by v.state own
+pub own-kept : {A : Type 0} (v : OpenView A) (names : List (List ℕ)) (records : List RecordValue) → IsOwnRight v names records → IfSome v.state (λ k. (state_key_of v.view ≡ Some (built_for k)) × IsRight k names records)
+own-kept {A} v names records own = by v.state own
   where
-    by : (o : Option (KeptState A)) → IfSome o (λ k. (v.stale ≡ false) × (state_key_of v.view ≡ Some (built_for k)) × IsRight k names rows) → IfSome o (λ k. (state_key_of v.view ≡ Some (built_for k)) × IsRight k names rows)
+    by : (o : Option (KeptState A)) → IfSome o (λ k. (v.stale ≡ false) × (state_key_of v.view ≡ Some (built_for k)) × IsRight k names records) → IfSome o (λ k. (state_key_of v.view ≡ Some (built_for k)) × IsRight k names records)
     by None own = tt
     by (Some k) own = (own.1, own.2)
 
@@ -658,23 +658,23 @@ module _ {A : Type 0} (old : List (List ℕ × OpenView A)) (es : List (List ℕ
 
   -- it is rebuilt
   module _ (w : OpenView A) (state : Option (KeptState A)) (is : w ≡ renewed v.view state) where
-    pub renewed-in : (names : List (List ℕ)) (rows : List RecordValue) → v.stale ≡ true → IsMissing (all_owned old) v.view names rows state → AreRight old names rows → AreRight (set_value_at es place w) names rows
-    renewed-in names rows stale missing right =
-        subst (λ (x : OpenView A). AreRight (set_value_at es place x) names rows) (sym is)
-        (renewed-right names rows old (set_value_at es place (renewed v.view state)) place v state (written-in (renewed v.view state)) stale missing right)
+    pub renewed-in : (names : List (List ℕ)) (records : List RecordValue) → v.stale ≡ true → IsMissing (all_owned old) v.view names records state → AreRight old names records → AreRight (set_value_at es place w) names records
+    renewed-in names records stale missing right =
+        subst (λ (x : OpenView A). AreRight (set_value_at es place x) names records) (sym is)
+        (renewed-right names records old (set_value_at es place (renewed v.view state)) place v state (written-in (renewed v.view state)) stale missing right)
 
     pub renewed-seen : all_seen (set_value_at es place w) ≡ current_at place (all_seen old)
     renewed-seen = written-current old (set_value_at es place w) place v w (written-in w) (ap (λ (x : OpenView A). x.view) is) (ap (λ (x : OpenView A). x.stale) is)
 
   -- it takes a state over
   module _ (w : OpenView A) (k : KeptState A) (is : w ≡ with_state v k) where
-    pub handed-in : (what : StateKey) (closed : View) (names : List (List ℕ)) (rows : List RecordValue) → state_key_of closed ≡ Some what
-        → IfSome (slice_get old place) (λ u. (u.1.stale ≡ false) × (state_key_of u.1.view ≡ Some what)) → AreOwnRight old names rows → HaveStates (state_key_of closed ∷ all_owned old) (all_seen old)
-        → (state_key_of closed ≡ Some (built_for k)) × IsRight k names rows → AreRight (set_value_at es place w) names rows
-    handed-in what closed names rows kept needs right have state =
+    pub handed-in : (what : StateKey) (closed : View) (names : List (List ℕ)) (records : List RecordValue) → state_key_of closed ≡ Some what
+        → IfSome (slice_get old place) (λ u. (u.1.stale ≡ false) × (state_key_of u.1.view ≡ Some what)) → AreOwnRight old names records → HaveStates (state_key_of closed ∷ all_owned old) (all_seen old)
+        → (state_key_of closed ≡ Some (built_for k)) × IsRight k names records → AreRight (set_value_at es place w) names records
+    handed-in what closed names records kept needs right have state =
         let here = subst (λ (o : Option (List ℕ × OpenView A)). IfSome o (λ u. (u.1.stale ≡ false) × (state_key_of u.1.view ≡ Some what))) (view-at old es same place v found).1 needs in
-        subst (λ (x : OpenView A). AreRight (set_value_at es place x) names rows) (sym is)
-        (handed-right names rows old (set_value_at es place (with_state v k)) place v k what closed (written-in (with_state v k)) here.0 here.1 kept right have state)
+        subst (λ (x : OpenView A). AreRight (set_value_at es place x) names records) (sym is)
+        (handed-right names records old (set_value_at es place (with_state v k)) place v k what closed (written-in (with_state v k)) here.0 here.1 kept right have state)
 
     pub handed-seen : all_seen (set_value_at es place w) ≡ all_seen old
     handed-seen =

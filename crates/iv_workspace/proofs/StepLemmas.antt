@@ -23,85 +23,85 @@ use Rattle.iv_workspace.proofs.StateLemmas.{current_to, stale-among, stale-named
 -- ---- one view
 
 -- no view has the name, and no step was taken
-pub none-within : (part : Option Region) (o p : Option Shown) (g : Sequences) (rows : List RecordValue) (old new : ℕ) → o ≡ p → None ≡ p → (new ≡ old) ⊎ IsSomeAnd o (λ v. v.stale ≡ true) → NamedPrintsWithin part p g rows old new
-none-within part None None g rows old new same none (inl is) = is
-none-within part None None g rows old new same none (inr is) = absurd is
-none-within part None (Some w) g rows old new same none steps = absurd (cc same)
-none-within part (Some v) None g rows old new same none steps = absurd (cc same)
-none-within part (Some v) (Some w) g rows old new same none steps = absurd (cc none)
+pub none-within : (part : Option Region) (o p : Option Shown) (g : Sequences) (records : List RecordValue) (old new : ℕ) → o ≡ p → None ≡ p → (new ≡ old) ⊎ IsSomeAnd o (λ v. v.stale ≡ true) → NamedPrintsWithin part p g records old new
+none-within part None None g records old new same none (inl is) = is
+none-within part None None g records old new same none (inr is) = absurd is
+none-within part None (Some w) g records old new same none steps = absurd (cc same)
+none-within part (Some v) None g records old new same none steps = absurd (cc same)
+none-within part (Some v) (Some w) g records old new same none steps = absurd (cc none)
 
 -- a stale view may take as many as it needs
-pub stale-within : (part : Option Region) (p : Option Shown) (g : Sequences) (rows : List RecordValue) (old new : ℕ) (v : Shown) → Some v ≡ p → v.stale ≡ true → NamedPrintsWithin part p g rows old new
-stale-within part p g rows old new v is stale = subst (λ (o : Option Shown). NamedPrintsWithin part o g rows old new) is (λ fresh. absurd (cc (sym stale ∙ fresh)))
+pub stale-within : (part : Option Region) (p : Option Shown) (g : Sequences) (records : List RecordValue) (old new : ℕ) (v : Shown) → Some v ≡ p → v.stale ≡ true → NamedPrintsWithin part p g records old new
+stale-within part p g records old new v is stale = subst (λ (o : Option Shown). NamedPrintsWithin part o g records old new) is (λ fresh. absurd (cc (sym stale ∙ fresh)))
 
 -- a view was built again, or no step was taken before it was printed
 pub named-within : (part : Option Region) (inside s : State) (name : List ℕ) (old mid new : ℕ) (v : Shown) (view : View) → inside ≡ s → Some v ≡ view_named inside.views name → view ≡ v.view
-    → (mid ≡ old) ⊎ IsSomeAnd (view_named inside.views name) (λ v. v.stale ≡ true) → ViewPrintsWithin part view inside.genome inside.track.rows mid new
-    → NamedPrintsWithin part (view_named s.views name) s.genome s.track.rows old new
+    → (mid ≡ old) ⊎ IsSomeAnd (view_named inside.views name) (λ v. v.stale ≡ true) → ViewPrintsWithin part view inside.genome inside.track.records mid new
+    → NamedPrintsWithin part (view_named s.views name) s.genome s.track.records old new
 named-within part inside s name old mid new v view same found is steps within =
-    subst (λ (t : State). NamedPrintsWithin part (view_named t.views name) t.genome t.track.rows old new) same
-    (subst (λ (o : Option Shown). NamedPrintsWithin part o inside.genome inside.track.rows old new) found (by steps))
+    subst (λ (t : State). NamedPrintsWithin part (view_named t.views name) t.genome t.track.records old new) same
+    (subst (λ (o : Option Shown). NamedPrintsWithin part o inside.genome inside.track.records old new) found (by steps))
   where
-    by : (mid ≡ old) ⊎ IsSomeAnd (view_named inside.views name) (λ v. v.stale ≡ true) → v.stale ≡ false → ViewPrintsWithin part v.view inside.genome inside.track.rows old new
+    by : (mid ≡ old) ⊎ IsSomeAnd (view_named inside.views name) (λ v. v.stale ≡ true) → v.stale ≡ false → ViewPrintsWithin part v.view inside.genome inside.track.records old new
     by (inl begun) fresh =
-        subst (λ (n : ℕ). ViewPrintsWithin part v.view inside.genome inside.track.rows n new) begun
-        (subst (λ (w : View). ViewPrintsWithin part w inside.genome inside.track.rows mid new) is within)
+        subst (λ (n : ℕ). ViewPrintsWithin part v.view inside.genome inside.track.records n new) begun
+        (subst (λ (w : View). ViewPrintsWithin part w inside.genome inside.track.records mid new) is within)
     by (inr stale) fresh = absurd (cc (sym (subst (λ (o : Option Shown). IsSomeAnd o (λ v. v.stale ≡ true)) (sym found) stale) ∙ fresh))
 
 -- ---- all views
 
-none-taken : (part : Option Region) (v : View) (g : Sequences) (rows : List RecordValue) (n : ℕ) → ViewPrintsWithin part v g rows n n
-none-taken None (view.Kept (kept.Merge options)) g rows n = record { no_less = omega arith; at_most = omega arith }
-none-taken None (view.Kept (kept.Cluster distance)) g rows n = record { no_less = omega arith; at_most = omega arith }
-none-taken None (view.Kept (kept.Complement limited)) g rows n = record { no_less = omega arith; at_most = omega arith }
-none-taken None (view.Kept (kept.Genomecov shown)) g rows n = record { no_less = omega arith; at_most = omega arith }
-none-taken None (view.Written (written.Paired shown)) g rows n = tt
-none-taken None (view.Written (written.Getfasta shown)) g rows n = tt
-none-taken None (view.Written written.Records) g rows n = record { no_less = omega arith; at_most = omega arith }
-none-taken (Some at) (view.Kept (kept.Merge options)) g rows n = record { no_less = omega arith; at_most = omega arith }
-none-taken (Some at) (view.Kept (kept.Cluster distance)) g rows n = record { no_less = omega arith; at_most = omega arith }
-none-taken (Some at) (view.Kept (kept.Complement limited)) g rows n = record { no_less = omega arith; at_most = omega arith }
-none-taken (Some at) (view.Kept (kept.Genomecov shown)) g rows n = record { no_less = omega arith; at_most = omega arith }
-none-taken (Some at) (view.Written v) g rows n = record { no_less = omega arith; at_most = omega arith }
+none-taken : (part : Option Region) (v : View) (g : Sequences) (records : List RecordValue) (n : ℕ) → ViewPrintsWithin part v g records n n
+none-taken None (view.Kept (kept.Merge options)) g records n = record { no_less = omega arith; at_most = omega arith }
+none-taken None (view.Kept (kept.Cluster distance)) g records n = record { no_less = omega arith; at_most = omega arith }
+none-taken None (view.Kept (kept.Complement limited)) g records n = record { no_less = omega arith; at_most = omega arith }
+none-taken None (view.Kept (kept.Genomecov shown)) g records n = record { no_less = omega arith; at_most = omega arith }
+none-taken None (view.Written (written.Paired shown)) g records n = tt
+none-taken None (view.Written (written.Getfasta shown)) g records n = tt
+none-taken None (view.Written written.Records) g records n = record { no_less = omega arith; at_most = omega arith }
+none-taken (Some at) (view.Kept (kept.Merge options)) g records n = record { no_less = omega arith; at_most = omega arith }
+none-taken (Some at) (view.Kept (kept.Cluster distance)) g records n = record { no_less = omega arith; at_most = omega arith }
+none-taken (Some at) (view.Kept (kept.Complement limited)) g records n = record { no_less = omega arith; at_most = omega arith }
+none-taken (Some at) (view.Kept (kept.Genomecov shown)) g records n = record { no_less = omega arith; at_most = omega arith }
+none-taken (Some at) (view.Written v) g records n = record { no_less = omega arith; at_most = omega arith }
 
 -- a print that ends before them takes nothing for these
-pub nothing-taken : (part : Option Region) (views : List (List ℕ × Shown)) (g : Sequences) (rows : List RecordValue) (n : ℕ) → AllPrintWithin part views g rows n n
-nothing-taken part [] g rows n = refl
-nothing-taken part (v ∷ views) g rows n = (n, none-taken part v.1.view g rows n, nothing-taken part views g rows n)
+pub nothing-taken : (part : Option Region) (views : List (List ℕ × Shown)) (g : Sequences) (records : List RecordValue) (n : ℕ) → AllPrintWithin part views g records n n
+nothing-taken part [] g records n = refl
+nothing-taken part (v ∷ views) g records n = (n, none-taken part v.1.view g records n, nothing-taken part views g records n)
 
 -- the view at an index is printed
 pub next-within : (part : Option Region) (inside s : State) (i : ℕ) (v : List ℕ × Shown) (first old mid : ℕ) → inside ≡ s → Some v ≡ slice_get inside.views i
-    → ((m : ℕ) → AllPrintWithin part (drop i s.views) s.genome s.track.rows old m → AllPrintWithin part s.views s.genome s.track.rows first m)
-    → ViewPrintsWithin part v.1.view inside.genome inside.track.rows old mid
-    → (m : ℕ) → AllPrintWithin part (drop (i + 1) s.views) s.genome s.track.rows mid m → AllPrintWithin part s.views s.genome s.track.rows first m
+    → ((m : ℕ) → AllPrintWithin part (drop i s.views) s.genome s.track.records old m → AllPrintWithin part s.views s.genome s.track.records first m)
+    → ViewPrintsWithin part v.1.view inside.genome inside.track.records old mid
+    → (m : ℕ) → AllPrintWithin part (drop (i + 1) s.views) s.genome s.track.records mid m → AllPrintWithin part s.views s.genome s.track.records first m
 next-within part inside s i v first old mid same found so_far one m rest =
     let at : Some v ≡ slice_get s.views i = found ∙ ap (λ (t : State). slice_get t.views i) same in
     let low = slice_get_within s.views i v (sym at) in
     let is : get_or s.views i v ≡ v = get_or_from_slice_get s.views i v v (sym at) in
     let split : drop i s.views ≡ v ∷ drop (i + 1) s.views = drop-cons s.views i v low ∙ ap₂ (λ (q : List ℕ × Shown) (k : ℕ). q ∷ drop k s.views) is (sym (add-one i)) in
-    let here : ViewPrintsWithin part v.1.view s.genome s.track.rows old mid = subst (λ (t : State). ViewPrintsWithin part v.1.view t.genome t.track.rows old mid) same one in
-    so_far m (subst (λ (l : List (List ℕ × Shown)). AllPrintWithin part l s.genome s.track.rows old m) (sym split) (mid, here, rest))
+    let here : ViewPrintsWithin part v.1.view s.genome s.track.records old mid = subst (λ (t : State). ViewPrintsWithin part v.1.view t.genome t.track.records old mid) same one in
+    so_far m (subst (λ (l : List (List ℕ × Shown)). AllPrintWithin part l s.genome s.track.records old m) (sym split) (mid, here, rest))
 
 -- views take as much once they are current
-current-within : (part : Option Region) (views : List (List ℕ × Shown)) (g : Sequences) (rows : List RecordValue) (old new : ℕ) → AllPrintWithin part (all_current views) g rows old new → AllPrintWithin part views g rows old new
-current-within part [] g rows old new within = within
-current-within part (v ∷ views) g rows old new within = (within.0, within.1, current-within part views g rows within.0 new within.2)
+current-within : (part : Option Region) (views : List (List ℕ × Shown)) (g : Sequences) (records : List RecordValue) (old new : ℕ) → AllPrintWithin part (all_current views) g records old new → AllPrintWithin part views g records old new
+current-within part [] g records old new within = within
+current-within part (v ∷ views) g records old new within = (within.0, within.1, current-within part views g records within.0 new within.2)
 
 -- views were built again, or no step was taken before all were printed
 pub printed-within : (part : Option Region) (inside s : State) (more : List (List ℕ × Shown)) (old mid new : ℕ) → inside ≡ s → more ≡ all_current inside.views
-    → (mid ≡ old) ⊎ (0 < stale_count inside.views) → AllPrintWithin part more inside.genome inside.track.rows mid new
-    → stale_count s.views ≡ 0 → AllPrintWithin part s.views s.genome s.track.rows old new
+    → (mid ≡ old) ⊎ (0 < stale_count inside.views) → AllPrintWithin part more inside.genome inside.track.records mid new
+    → stale_count s.views ≡ 0 → AllPrintWithin part s.views s.genome s.track.records old new
 printed-within part inside s more old mid new same are steps within fresh =
-    subst (λ (t : State). AllPrintWithin part t.views t.genome t.track.rows old new) same
-    (current-within part inside.views inside.genome inside.track.rows old new (by steps))
+    subst (λ (t : State). AllPrintWithin part t.views t.genome t.track.records old new) same
+    (current-within part inside.views inside.genome inside.track.records old new (by steps))
   where
     none : stale_count inside.views ≡ 0
     none = ap (λ (t : State). stale_count t.views) same ∙ fresh
 
-    by : (mid ≡ old) ⊎ (0 < stale_count inside.views) → AllPrintWithin part (all_current inside.views) inside.genome inside.track.rows old new
+    by : (mid ≡ old) ⊎ (0 < stale_count inside.views) → AllPrintWithin part (all_current inside.views) inside.genome inside.track.records old new
     by (inl begun) =
-        subst (λ (n : ℕ). AllPrintWithin part (all_current inside.views) inside.genome inside.track.rows n new) begun
-        (subst (λ (l : List (List ℕ × Shown)). AllPrintWithin part l inside.genome inside.track.rows mid new) are within)
+        subst (λ (n : ℕ). AllPrintWithin part (all_current inside.views) inside.genome inside.track.records n new) begun
+        (subst (λ (l : List (List ℕ × Shown)). AllPrintWithin part l inside.genome inside.track.records mid new) are within)
     by (inr some) = absurd (omega (arith, some, none))
 
 -- ---- building again

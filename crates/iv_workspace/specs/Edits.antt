@@ -48,9 +48,9 @@ EditFits Fit (edit.Replace r q) = Fit r × Fit q
 
 -- what an edit needs of its track: room for one more record, or a copy of the one that is taken out
 abbrev pub Allows : Edit → Tracked → Type 0
-Allows (edit.Add r) t = length t.rows < t.limit
-Allows (edit.Remove r) t = 0 < copies t.rows r
-Allows (edit.Replace r q) t = 0 < copies t.rows r
+Allows (edit.Add r) t = length t.records < t.limit
+Allows (edit.Remove r) t = 0 < copies t.records r
+Allows (edit.Replace r q) t = 0 < copies t.records r
 
 -- the track after an edit
 abbrev pub edited : Edit → Tracked → Tracked
@@ -74,9 +74,9 @@ IsEdited target.Second e old new =
 
 -- the most steps that an edit takes: 8 in the track and those of the views for each record added or taken out; 16 in the second file
 abbrev pub most_steps : Target → Edit → State → ℕ
-most_steps target.First (edit.Add r) s = 8 + all_steps s.views (added s.track.rows r) r
-most_steps target.First (edit.Remove r) s = 8 + all_steps s.views s.track.rows r
-most_steps target.First (edit.Replace r q) s = 8 + all_steps s.views (added s.track.rows q) q + all_steps s.views (added s.track.rows q) r
+most_steps target.First (edit.Add r) s = 8 + all_steps s.views (added s.track.records r) r
+most_steps target.First (edit.Remove r) s = 8 + all_steps s.views s.track.records r
+most_steps target.First (edit.Replace r q) s = 8 + all_steps s.views (added s.track.records q) q + all_steps s.views (added s.track.records q) r
 most_steps target.Second e s = 16
 
 -- what an edit answers that is done: steps within its bound, and how many views are stale after it

@@ -29,7 +29,7 @@ with_current (v ∷ views) name = if bytes_eq name v.0 then (v.0, current v.1) �
 -- the views are the same, except that some kept views may have become stale
 abbrev pub Stales : List (List ℕ × Shown) → List (List ℕ × Shown) → Type 0
 Stales old new = AllZip (λ v w. (w.0 ≡ v.0) × (w.1.view ≡ v.1.view) × (v.1.stale ≡ true → w.1.stale ≡ true)
-    × ((rows : WrittenView) → v.1.view ≡ view.Written rows → w.1.stale ≡ v.1.stale)) old new
+    × ((records : WrittenView) → v.1.view ≡ view.Written records → w.1.stale ≡ v.1.stale)) old new
 
 -- the views are the same, except that some that were stale may have become current
 abbrev pub Freshens : List (List ℕ × Shown) → List (List ℕ × Shown) → Type 0
@@ -43,9 +43,9 @@ stale_count (v ∷ views) = (if v.1.stale then 1 else 0) + stale_count views
 -- how many steps the repair of an open view takes at most, with the record among the records: none of a stale one, and none of
 -- a written one
 abbrev pub view_steps : Shown → List RecordValue → RecordValue → ℕ
-view_steps v rows r = if v.stale then 0 else repair_steps_of v.view rows r
+view_steps v records r = if v.stale then 0 else repair_steps_of v.view records r
 
 -- how many steps the repairs of all views take at most, with the record among the records
 abbrev pub all_steps : List (List ℕ × Shown) → List RecordValue → RecordValue → ℕ
-all_steps [] rows r = 0
-all_steps (v ∷ views) rows r = view_steps v.1 rows r + all_steps views rows r
+all_steps [] records r = 0
+all_steps (v ∷ views) records r = view_steps v.1 records r + all_steps views records r

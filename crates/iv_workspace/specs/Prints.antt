@@ -52,17 +52,17 @@ PrintedAll part old new out0 out1 (Err (printing.Refused other)) = ⊥
 -- how many steps lie between two readings at most while a view is printed that is current, all of it or a region: as many as
 -- `KeptView::print` and `print_in` take for one of which something is kept, and as many as those of `WrittenView` for another one
 abbrev pub ViewPrintsWithin : Option Region → View → Sequences → List RecordValue → ℕ → ℕ → Type 0
-ViewPrintsWithin None (view.Kept v) g rows old new = PrintsWithin v g rows old new
-ViewPrintsWithin None (view.Written v) g rows old new = WritesWithin v rows old new
-ViewPrintsWithin (Some at) (view.Kept v) g rows old new = PrintsInWithin at v g rows old new
-ViewPrintsWithin (Some at) (view.Written v) g rows old new = TakesUpTo old new (2 + length (near at rows))
+ViewPrintsWithin None (view.Kept v) g records old new = PrintsWithin v g records old new
+ViewPrintsWithin None (view.Written v) g records old new = WritesWithin v records old new
+ViewPrintsWithin (Some at) (view.Kept v) g records old new = PrintsInWithin at v g records old new
+ViewPrintsWithin (Some at) (view.Written v) g records old new = TakesUpTo old new (2 + length (near at records))
 
 -- the same of the view that a name has: no step if no view has it; a stale view is built again first, and may take as many as it needs
 abbrev pub NamedPrintsWithin : Option Region → Option Shown → Sequences → List RecordValue → ℕ → ℕ → Type 0
-NamedPrintsWithin part None g rows old new = new ≡ old
-NamedPrintsWithin part (Some v) g rows old new = v.stale ≡ false → ViewPrintsWithin part v.view g rows old new
+NamedPrintsWithin part None g records old new = new ≡ old
+NamedPrintsWithin part (Some v) g records old new = v.stale ≡ false → ViewPrintsWithin part v.view g records old new
 
 -- the same of all these views, printed one after another: what each takes is within its own bound, and nothing else takes a step
 abbrev pub AllPrintWithin : Option Region → List (List ℕ × Shown) → Sequences → List RecordValue → ℕ → ℕ → Type 0
-AllPrintWithin part [] g rows old new = new ≡ old
-AllPrintWithin part (v ∷ views) g rows old new = (between : ℕ) × ViewPrintsWithin part v.1.view g rows old between × AllPrintWithin part views g rows between new
+AllPrintWithin part [] g records old new = new ≡ old
+AllPrintWithin part (v ∷ views) g records old new = (between : ℕ) × ViewPrintsWithin part v.1.view g records old between × AllPrintWithin part views g records between new

@@ -18,7 +18,7 @@ reaches_past seq n r = (r.seq == seq) && nat_lt n r.stop
 
 -- the track or the second file has a record on the sequence of this rank whose stop is above a length
 abbrev pub has_record_past : State → ℕ → ℕ → Bool
-has_record_past s seq n = list_any (reaches_past seq n) s.track.rows || list_any (reaches_past seq n) (second_records s.second)
+has_record_past s seq n = list_any (reaches_past seq n) s.track.records || list_any (reaches_past seq n) (second_records s.second)
 
 -- the FASTA file has the sequence of this rank, and another number of bases of it
 abbrev pub has_other_bases : Option Bases → ℕ → ℕ → Bool

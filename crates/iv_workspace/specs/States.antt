@@ -20,7 +20,7 @@ pub record State : Type 0 where
 
 -- the track of a file: its records in order, and how many it may hold
 abbrev pub tracked : Bed → ℕ → Tracked
-tracked file limit = record { rows = ordered file.rows; width = file.width; limit = limit }
+tracked file limit = record { records = ordered file.records; width = file.width; limit = limit }
 
 -- the session of a genome, a first file, and a second one and a FASTA file or none, with no view
 abbrev pub begun : Sequences → Bed → Option Bed → Option Bases → ℕ → State

@@ -8,7 +8,7 @@ use Rattle.iv_text.specs.Fault.{code_of}
 use Rattle.iv_text.specs.declared.fault.Fault.{Fault}
 use Rattle.iv_text.specs.declared.fault.Fault.TheVariants as fault
 use Rattle.iv_track.specs.declared.region.Region.{Region}
-use Rattle.iv_view.specs.Views.{read_words, second_records, shown_text}
+use Rattle.iv_view.specs.Views.{read_arguments, second_records, shown_text}
 use Rattle.iv_view.specs.declared.view.View.{View}
 use Rattle.iv_workspace.specs.OpenViews.{Shown}
 use Rattle.iv_workspace.specs.States.{State}
@@ -26,26 +26,26 @@ view_named views name = lookup (bytes_eq name) views
 -- the view that is opened under a name by these words, or the first fault: the name is no view's name; a view has it; 64 views are
 -- open; one of the words
 abbrev pub view_asked : State → List ℕ → List (List ℕ) → Result View Fault
-view_asked s name words =
+view_asked s name arguments =
     if not (is_view_name name) then Err fault.BadName
     else if is_some (view_named s.views name) then Err fault.Taken
     else if nat_le 64 (length s.views) then Err fault.TooMany
-    else read_words s.track.width (is_some s.second) (is_some s.bases) words
+    else read_arguments s.track.width (is_some s.second) (is_some s.bases) arguments
 
 -- the view of these words is opened under the name: it is the last, and current
 abbrev pub Opens : State → List ℕ → List (List ℕ) → State → Type 0
-Opens old name words new =
-    (view : View) × (view_asked old name words ≡ Ok view)
+Opens old name arguments new =
+    (view : View) × (view_asked old name arguments ≡ Ok view)
     × (new ≡ record old { views = old.views ++ (name, record { view = view; stale = false }) ∷ [] })
 
 -- why no view is opened: for the first fault; or an allocation failed, if there is none
 abbrev pub RefusesOpen : State → List ℕ → List (List ℕ) → Fault → Type 0
-RefusesOpen s name words f = (view_asked s name words ≡ Err f) ⊎ ((f ≡ fault.NoMemory) × IsOk (view_asked s name words))
+RefusesOpen s name arguments f = (view_asked s name arguments ≡ Err f) ⊎ ((f ≡ fault.NoMemory) × IsOk (view_asked s name arguments))
 
 -- what is printed of a view, all of it or a region: its text for the records as they are, beside the second file's records and the
 -- bases, if there are any
 abbrev pub text_in : Option Region → State → View → List ℕ
-text_in part s v = shown_text part v s.genome s.track.rows (second_records s.second) (unwrap_or s.bases [])
+text_in part s v = shown_text part v s.genome s.track.records (second_records s.second) (unwrap_or s.bases [])
 
 -- the same of all views, in order of opening, each under a line with its name
 abbrev pub all_text : Option Region → State → List ℕ

@@ -45,7 +45,7 @@ impl<A: Allocator + Copy> Model for Session<A> {
 
     ghost view = { λ s. record { genome = s.genome; track = s.track; second = s.second; bases = s.fasta; views = all_seen s.views } };
 
-    ghost invariant = { λ s. IsSession s.genome s.track s.second (all_seen s.views) × AreRight s.views (names_of s.genome) s.track.rows };
+    ghost invariant = { λ s. IsSession s.genome s.track s.second (all_seen s.views) × AreRight s.views (names_of s.genome) s.track.records };
 }
 
 /// The second file of the records of a BED file, if there is one.
@@ -54,8 +54,8 @@ fn second_of<A: Allocator + Copy>(
     file: Option<BedBatches<A>>,
     limit: u32,
 ) -> Result<Option<Second<A>>, AllocError>
-    requires widths { IfSome file (λ f. All (λ r. r.width ≡ f.width) f.rows) }
-    requires few { IfSome file (λ f. length f.rows ≤ limit) }
+    requires widths { IfSome file (λ f. All (λ r. r.width ≡ f.width) f.records) }
+    requires few { IfSome file (λ f. length f.records ≤ limit) }
     requires bounded { limit ≤ most_records }
     ensures value { IfOk result (λ second. second ≡ option_map (λ f. tracked f limit) file) }
     ensures known { IfSome file (λ f. IsWidth f.width) }
@@ -88,10 +88,10 @@ impl<A: Allocator + Copy> Session<A> {
         fasta: Option<Fasta<A>>,
         limit: u32,
     ) -> Result<Session<A>, AllocError>
-        requires fit { All (Fits genome first.width) first.rows }
-        requires few { length first.rows ≤ limit }
-        requires second_fit { IfSome second (λ file. All (Fits genome file.width) file.rows) }
-        requires second_few { IfSome second (λ file. length file.rows ≤ limit) }
+        requires fit { All (Fits genome first.width) first.records }
+        requires few { length first.records ≤ limit }
+        requires second_fit { IfSome second (λ file. All (Fits genome file.width) file.records) }
+        requires second_few { IfSome second (λ file. length file.records ≤ limit) }
         requires bounded { limit ≤ most_records }
         ensures { IfOk result (λ s. s ≡ begun genome first second fasta limit) }
     {
@@ -109,10 +109,10 @@ impl<A: Allocator + Copy> Session<A> {
         fasta: Option<Fasta<A>>,
         limit: u32,
     ) -> Result<Session<A>, AllocError>
-        requires fit { All (Fits genome first.width) first.rows }
-        requires few { length first.rows ≤ limit }
-        requires second_fit { IfSome second (λ file. All (Fits genome file.width) file.rows) }
-        requires second_few { IfSome second (λ file. length file.rows ≤ limit) }
+        requires fit { All (Fits genome first.width) first.records }
+        requires few { length first.records ≤ limit }
+        requires second_fit { IfSome second (λ file. All (Fits genome file.width) file.records) }
+        requires second_few { IfSome second (λ file. length file.records ≤ limit) }
         requires bounded { limit ≤ most_records }
         ensures { IfOk result (λ s. s ≡ begun genome first second fasta limit) }
     {
@@ -141,16 +141,16 @@ impl<A: Allocator + Copy> Session<A> {
 
     /// Whether a record is one of the session's width on its genome.
     /// It is for callers outside this repository.
-    pub fn fits(&self, row: &RecordRef<'_>) -> bool
-        ensures { IsTrue result ↔ Fits self.now.genome self.now.track.width row.now }
+    pub fn fits(&self, feature: &RecordRef<'_>) -> bool
+        ensures { IsTrue result ↔ Fits self.now.genome self.now.track.width feature.now }
     {
-        row.fits(&self.genome, self.track.width())
+        feature.fits(&self.genome, self.track.width())
     }
 
     /// How many records there are, copies counted.
     /// It is for callers outside this repository.
     pub fn len(&self) -> u32
-        ensures { result ≡ length self.now.track.rows }
+        ensures { result ≡ length self.now.track.records }
     {
         self.track.len()
     }
@@ -159,7 +159,7 @@ impl<A: Allocator + Copy> Session<A> {
     pub fn track(&self) -> &Track<A>
         ensures value { result.now ≡ self.now.track }
         ensures known { IsWidth self.now.track.width }
-        ensures fit { All (Fits self.now.genome self.now.track.width) self.now.track.rows }
+        ensures fit { All (Fits self.now.genome self.now.track.width) self.now.track.records }
     {
         &self.track
     }

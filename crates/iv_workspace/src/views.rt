@@ -121,9 +121,9 @@ impl<A: Allocator + Copy> Views<A> {
     ) -> Result<(), AllocError>
         requires fresh { lookup (bytes_eq name.now) self.old ≡ None }
         requires room { length self.old < 64 }
-        requires right { AreRight self.old (names_of genome.now) track.now.rows }
-        requires fit { All (Fits genome.now track.now.width) track.now.rows }
-        ensures right { OnOk result (AreRight self.new (names_of genome.now) track.now.rows) }
+        requires right { AreRight self.old (names_of genome.now) track.now.records }
+        requires fit { All (Fits genome.now track.now.width) track.now.records }
+        ensures right { OnOk result (AreRight self.new (names_of genome.now) track.now.records) }
         ensures ok { OnOk result (all_seen self.new ≡ all_seen self.old ++ (name.now, record { view = view; stale = false }) ∷ []) }
         ensures err { OnErr result (self.new ≡ self.old) }
     {
@@ -139,7 +139,7 @@ impl<A: Allocator + Copy> Views<A> {
     /// Takes the view of a name out, if there is one. The others keep their order, and a state that they need.
     pub(crate) fn remove(&mut self, name: &[u8])
         ensures seen { all_seen self.new ≡ remove_entry (bytes_eq name.now) (all_seen self.old) }
-        ensures right { (names : List (List ℕ)) (rows : List RecordValue) → AreRight self.old names rows → AreRight self.new names rows }
+        ensures right { (names : List (List ℕ)) (records : List RecordValue) → AreRight self.old names records → AreRight self.new names records }
     {
         let Some(closed) = self.views.remove(name) else {
             return;
@@ -162,9 +162,9 @@ impl<A: Allocator + Copy> Views<A> {
         genome: &Genome<A>,
         meter: &mut Meter,
     ) -> Result<Option<View>, AllocError>
-        requires right { AreRight self.old (names_of genome.now) track.now.rows }
-        requires fit { All (Fits genome.now track.now.width) track.now.rows }
-        ensures right { AreRight self.new (names_of genome.now) track.now.rows }
+        requires right { AreRight self.old (names_of genome.now) track.now.records }
+        requires fit { All (Fits genome.now track.now.width) track.now.records }
+        ensures right { AreRight self.new (names_of genome.now) track.now.records }
         ensures view { IfOk result (λ found. found ≡ option_map (λ v. v.view) (view_named (all_seen self.old) name.now)) }
         ensures ok { OnOk result (all_seen self.new ≡ with_current (all_seen self.old) name.now) }
         ensures none { IfOk result (λ found. IfNone found (self.new ≡ self.old)) }
@@ -188,9 +188,9 @@ impl<A: Allocator + Copy> Views<A> {
         genome: &Genome<A>,
         meter: &mut Meter,
     ) -> Result<(), AllocError>
-        requires right { AreRight self.old (names_of genome.now) track.now.rows }
-        requires fit { All (Fits genome.now track.now.width) track.now.rows }
-        ensures right { AreRight self.new (names_of genome.now) track.now.rows }
+        requires right { AreRight self.old (names_of genome.now) track.now.records }
+        requires fit { All (Fits genome.now track.now.width) track.now.records }
+        ensures right { AreRight self.new (names_of genome.now) track.now.records }
         ensures ok { OnOk result (all_seen self.new ≡ all_current (all_seen self.old)) }
         ensures err { OnErr result (Freshens (all_seen self.old) (all_seen self.new)) }
         ensures stale { OnErr result (0 < stale_count (all_seen self.old)) }
@@ -213,9 +213,9 @@ impl<A: Allocator + Copy> Views<A> {
         meter: &mut Meter,
     ) -> Result<(), AllocError>
         requires within { place < length self.old }
-        requires right { AreRight self.old (names_of genome.now) track.now.rows }
-        requires fit { All (Fits genome.now track.now.width) track.now.rows }
-        ensures right { AreRight self.new (names_of genome.now) track.now.rows }
+        requires right { AreRight self.old (names_of genome.now) track.now.records }
+        requires fit { All (Fits genome.now track.now.width) track.now.records }
+        ensures right { AreRight self.new (names_of genome.now) track.now.records }
         ensures ok { OnOk result (all_seen self.new ≡ current_at place (all_seen self.old)) }
         ensures err { OnErr result (self.new ≡ self.old) }
         ensures stale { OnErr result (IfSome (slice_get (all_seen self.old) place) (λ v. v.1.stale ≡ true)) }
@@ -246,12 +246,12 @@ impl<A: Allocator + Copy> Views<A> {
     ) -> Result<(), WriteFault>
         requires kept { IsKept (all_owned self.now) view }
         requires served { IsServed (option_copied second) view }
-        requires right { AreRight self.now (names_of genome.now) track.now.rows }
-        requires fit { All (Fits genome.now track.now.width) track.now.rows }
+        requires right { AreRight self.now (names_of genome.now) track.now.records }
+        requires fit { All (Fits genome.now track.now.width) track.now.records }
         requires within { IfSome part (IsWithin genome.now) }
         ensures text { Puts (S.state sink.old) (S.state sink.new) result
-            (shown_text part view genome.now track.now.rows (second_records (option_copied second.entry)) (unwrap_or (option_copied fasta.entry) [])) }
-        ensures steps { ViewPrintsWithin part view genome.now track.now.rows meter.old meter.new }
+            (shown_text part view genome.now track.now.records (second_records (option_copied second.entry)) (unwrap_or (option_copied fasta.entry) [])) }
+        ensures steps { ViewPrintsWithin part view genome.now track.now.records meter.old meter.new }
     {
         match view {
             View::Kept(kept) => {

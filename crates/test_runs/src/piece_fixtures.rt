@@ -2,7 +2,7 @@
 use crate::shot_fixtures::GENOME;
 use iv_args::{Plan, Slot};
 use iv_bytes::{MemSink, MemSource, Source};
-use iv_index::Span;
+use iv_locators::Span;
 use iv_run::{CliFault, FileFault, HeldRecords, IntervalsView, RunFiles, RunGenome};
 use iv_text::{LoadCause, LoadFault};
 use std::alloc::Allocator;

@@ -70,7 +70,7 @@ const WORDS: [&[u8]; 12] = [
 fn is_merge<'a>(plan: &Plan<'_, &'a RefusesNth<Global>>) -> bool {
     let view: [&[u8]; 6] = [b"merge", b"-d", b"7", b"-c", b"4,5", b"-s"];
     let has_files = (plan.file(Slot::Sizes) == Some(b"g")) & (plan.file(Slot::First) == Some(b"a"));
-    (plan.view_words() == view.as_slice()) & (plan.width() == 6) & has_files
+    (plan.view_arguments() == view.as_slice()) & (plan.width() == 6) & has_files
 }
 
 /// Whether reading those words gives their plan.

@@ -29,7 +29,7 @@ pub(crate) fn has_files(rt: &HostRuntime, plan: &Plan<'_>, names: &[u8]) -> Resu
 
 /// Whether a plan is that of this run, and these are the words of its view.
 fn is_run(plan: &Plan<'_>, run: Subcommand, view: &[&[u8]]) -> bool {
-    (plan.run() == run) & !plan.is_script() & (plan.view_words() == view)
+    (plan.run() == run) & !plan.is_script() & (plan.view_arguments() == view)
 }
 
 /// The same of words that are separated by spaces.

@@ -57,8 +57,8 @@ fn second_of<A: Allocator + Copy>(
     text: Option<&[u8]>,
 ) -> Result<Option<BedFile<A>>, Fail>
     requires { IsWidth width }
-    ensures fit { IfOk result (λ second. IfSome second (λ file. All (Fits genome.now file.width) file.rows)) }
-    ensures few { IfOk result (λ second. IfSome second (λ file. length file.rows ≤ limit)) }
+    ensures fit { IfOk result (λ second. IfSome second (λ file. All (Fits genome.now file.width) file.records)) }
+    ensures few { IfOk result (λ second. IfSome second (λ file. length file.records ≤ limit)) }
 {
     let Some(text) = text else {
         return Ok(None);

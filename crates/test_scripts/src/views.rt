@@ -1,7 +1,7 @@
 //! What words ask for as a view.
-use iv_depth::DepthRows;
-use iv_fasta::FastaRows;
-use iv_pair::{IntersectRows, PairRows};
+use iv_depth::DepthOutput;
+use iv_fasta::FastaOutput;
+use iv_pair::{IntersectOutput, PairOutput};
 use iv_session::ViewWords;
 use iv_view::{KeptView, ViewFault, WrittenView};
 use std::test::Fail;
@@ -23,15 +23,15 @@ fn words_of_kept_views(rt: HostRuntime) {
         ),
         (
             &[b"genomecov", b"-bg"],
-            KeptView::Genomecov(DepthRows::Covered),
+            KeptView::Genomecov(DepthOutput::Covered),
         ),
         (
             &[b"genomecov", b"-bga"],
-            KeptView::Genomecov(DepthRows::All),
+            KeptView::Genomecov(DepthOutput::All),
         ),
         (
             &[b"genomecov", b"-d"],
-            KeptView::Genomecov(DepthRows::EachPosition),
+            KeptView::Genomecov(DepthOutput::EachPosition),
         ),
     ] {
         assert!(rt; view_of(&rt, words) == Ok(ViewWords::Kept(want)));
@@ -43,34 +43,34 @@ fn words_of_written_views(rt: HostRuntime) {
     for (words, want) in [
         (
             [b"intersect".as_slice()].as_slice(),
-            PairRows::Intersect(IntersectRows::Shared),
+            PairOutput::Intersect(IntersectOutput::Shared),
         ),
         (
             &[b"intersect", b"-wa"],
-            PairRows::Intersect(IntersectRows::Whole),
+            PairOutput::Intersect(IntersectOutput::Whole),
         ),
         (
             &[b"intersect", b"-wb"],
-            PairRows::Intersect(IntersectRows::SharedAndHit),
+            PairOutput::Intersect(IntersectOutput::SharedAndHit),
         ),
         (
             &[b"intersect", b"-wb", b"-wa"],
-            PairRows::Intersect(IntersectRows::WholeAndHit),
+            PairOutput::Intersect(IntersectOutput::WholeAndHit),
         ),
         (
             &[b"intersect", b"-wa", b"-u"],
-            PairRows::Intersect(IntersectRows::IfHit),
+            PairOutput::Intersect(IntersectOutput::IfHit),
         ),
         (
             &[b"intersect", b"-v"],
-            PairRows::Intersect(IntersectRows::IfNoHit),
+            PairOutput::Intersect(IntersectOutput::IfNoHit),
         ),
         (
             &[b"intersect", b"-c", b"-wa"],
-            PairRows::Intersect(IntersectRows::Count),
+            PairOutput::Intersect(IntersectOutput::Count),
         ),
-        (&[b"subtract"], PairRows::Subtract(false)),
-        (&[b"subtract", b"-A"], PairRows::Subtract(true)),
+        (&[b"subtract"], PairOutput::Subtract(false)),
+        (&[b"subtract", b"-A"], PairOutput::Subtract(true)),
     ] {
         let want = ViewWords::Written(WrittenView::Paired(want));
         assert!(rt; view_of(&rt, words) == Ok(want));
@@ -87,7 +87,7 @@ fn words_of_getfasta(rt: HostRuntime) {
         (&[b"getfasta", b"-s", b"-tab"], true, true),
         (&[b"getfasta", b"-tab", b"-s"], true, true),
     ] {
-        let want = WrittenView::Getfasta(FastaRows { stranded, tab });
+        let want = WrittenView::Getfasta(FastaOutput { stranded, tab });
         let read = ViewWords::read(rt.alloc(), 6, false, true, words);
         assert!(rt; read == Ok(ViewWords::Written(want)));
     }

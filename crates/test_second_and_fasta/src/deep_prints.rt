@@ -3,7 +3,7 @@ ghost use Rattle.std.specs.Prelude.{◌<◌};
 
 use crate::second_fixtures::{SIZES, second_of};
 use iv_bytes::MemSink;
-use iv_pair::{IntersectRows, PairRows, print_pairs};
+use iv_pair::{IntersectOutput, PairOutput, print_pairs};
 use iv_text::{BedFile, Genome};
 use iv_track::{Meter, Track};
 use std::alloc::Global;
@@ -61,7 +61,7 @@ fn uncovered(rt: &HostRuntime) -> Result<String, Fail> {
 fn is_printed(
     rt: &HostRuntime,
     alloc: &RefusesNth<Global>,
-    rows: PairRows,
+    rows: PairOutput,
     number: u64,
     refusals: u64,
     want: &[u8],
@@ -80,7 +80,7 @@ fn is_printed(
 }
 
 /// Fails unless a print gives this text whichever of its allocations is refused, of which it has so many.
-fn check(rt: &HostRuntime, rows: PairRows, allocations: u64, want: &[u8]) -> Result<(), Fail> {
+fn check(rt: &HostRuntime, rows: PairOutput, allocations: u64, want: &[u8]) -> Result<(), Fail> {
     for number in 1..5u64 {
         let refusals = u64::from(number <= allocations);
         let alloc = RefusesNth::new(rt.alloc(), u64::MAX);
@@ -96,7 +96,7 @@ fn counts_beside_many_records_at_one_position(rt: HostRuntime) -> Result<(), Fai
     let want = counts(&rt)?;
     check(
         &rt,
-        PairRows::Intersect(IntersectRows::Count),
+        PairOutput::Intersect(IntersectOutput::Count),
         2,
         want.as_bytes(),
     )
@@ -105,5 +105,5 @@ fn counts_beside_many_records_at_one_position(rt: HostRuntime) -> Result<(), Fai
 #[test]
 fn parts_beside_many_records_at_one_position(rt: HostRuntime) -> Result<(), Fail> {
     let want = uncovered(&rt)?;
-    check(&rt, PairRows::Subtract(false), 1, want.as_bytes())
+    check(&rt, PairOutput::Subtract(false), 1, want.as_bytes())
 }

@@ -1,29 +1,29 @@
 //! What getfasta prints of files.
 use crate::fasta_fixtures::{fasta_of, holds, track_of};
 use iv_bytes::MemSink;
-use iv_fasta::{Fasta, FastaRows};
+use iv_fasta::{Fasta, FastaOutput};
 use iv_pair::print_fasta;
 use iv_text::Genome;
 use iv_track::{Meter, Track};
 use std::test::Fail;
 
 /// The four ways of getfasta, without options first.
-pub(crate) const PLAIN: FastaRows = FastaRows {
+pub(crate) const PLAIN: FastaOutput = FastaOutput {
     stranded: false,
     tab: false,
 };
 
-pub(crate) const TAB: FastaRows = FastaRows {
+pub(crate) const TAB: FastaOutput = FastaOutput {
     stranded: false,
     tab: true,
 };
 
-pub(crate) const STRANDED: FastaRows = FastaRows {
+pub(crate) const STRANDED: FastaOutput = FastaOutput {
     stranded: true,
     tab: false,
 };
 
-pub(crate) const STRANDED_TAB: FastaRows = FastaRows {
+pub(crate) const STRANDED_TAB: FastaOutput = FastaOutput {
     stranded: true,
     tab: true,
 };
@@ -48,7 +48,7 @@ struct Files<'f> {
 #[derive(Clone, Copy)]
 pub(crate) enum Prints<'t> {
     /// These texts, each in its way, seven bytes at a time.
-    Each(&'t [(FastaRows, &'t [u8])]),
+    Each(&'t [(FastaOutput, &'t [u8])]),
     /// This text, with strands, of which an output that is too small takes the front and then fails.
     Cut(&'t [u8]),
 }
@@ -63,7 +63,7 @@ struct Output {
 /// Whether a print puts this into an output, and is done or fails.
 fn puts(
     rt: &HostRuntime,
-    shown: FastaRows,
+    shown: FastaOutput,
     files: Files<'_>,
     output: Output,
     want: &[u8],
@@ -79,7 +79,7 @@ fn puts(
 fn put_each(
     rt: &HostRuntime,
     files: Files<'_>,
-    texts: &[(FastaRows, &[u8])],
+    texts: &[(FastaOutput, &[u8])],
 ) -> Result<bool, Fail> {
     let output = Output {
         room: 10_000,

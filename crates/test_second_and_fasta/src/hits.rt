@@ -19,10 +19,10 @@ pub(crate) fn hits_are<A: Allocator + Copy>(
     }
     let mut hits = second.hits(seq, start, stop);
     for place in want {
-        let Some(row) = hits.next() else {
+        let Some(feature) = hits.next() else {
             return false;
         };
-        if row.seq() != seq || (row.start(), row.stop()) != *place {
+        if feature.seq() != seq || (feature.start(), feature.stop()) != *place {
             return false;
         }
     }

@@ -35,11 +35,11 @@ fn add_line<A: Allocator + Copy>(
     second: &mut Second<A>,
     line: &[u8],
 ) -> Result<Answer, Fail> {
-    let row = record(alloc, genome, line)?;
-    if row.width() != second.width() {
+    let feature = record(alloc, genome, line)?;
+    if feature.width() != second.width() {
         return Err(Fail::new("another width"));
     }
-    Ok(second.add(row, &mut Meter::new()))
+    Ok(second.add(feature, &mut Meter::new()))
 }
 
 /// Removes the record of a line, and gives the answer.
@@ -49,8 +49,8 @@ fn remove_line<A: Allocator + Copy>(
     second: &mut Second<A>,
     line: &[u8],
 ) -> Result<Answer, Fail> {
-    let row = record(alloc, genome, line)?;
-    Ok(second.remove(&row, &mut Meter::new()))
+    let feature = record(alloc, genome, line)?;
+    Ok(second.remove(&feature, &mut Meter::new()))
 }
 
 /// Replaces a record by that of a line, and gives the answer.

@@ -3,7 +3,7 @@ use crate::fixtures::{alone, holds, in_session};
 use iv_blocks::{BlockOptions, Blocks};
 use iv_bytes::MemSink;
 use iv_cover::Kept;
-use iv_depth::{Depth, DepthRows};
+use iv_depth::{Depth, DepthOutput};
 use iv_track::Meter;
 use iv_workspace::Session;
 use std::test::Fail;
@@ -44,7 +44,7 @@ fn is_depth(rt: &HostRuntime, session: &Session, want: &[u8]) -> Result<bool, Fa
     let mut meter = Meter::new();
     let depth = Depth::build(rt.alloc(), (), track, genome, &mut meter)?;
     let mut sink = MemSink::new(rt.alloc(), 100, 3)?;
-    depth.print(DepthRows::Covered, track, genome, &mut meter, &mut sink)?;
+    depth.print(DepthOutput::Covered, track, genome, &mut meter, &mut sink)?;
     Ok(sink.bytes() == want)
 }
 

@@ -44,8 +44,8 @@ fn second_of<A: Allocator + Copy>(
     text: Option<&[u8]>,
 ) -> Option<Option<BedFile<A>>>
     requires { IsWidth width }
-    ensures fit { IfSome result (λ second. IfSome second (λ file. All (Fits genome.now file.width) file.rows)) }
-    ensures few { IfSome result (λ second. IfSome second (λ file. length file.rows ≤ limit)) }
+    ensures fit { IfSome result (λ second. IfSome second (λ file. All (Fits genome.now file.width) file.records)) }
+    ensures few { IfSome result (λ second. IfSome second (λ file. length file.records ≤ limit)) }
 {
     let Some(text) = text else {
         return Some(None);
@@ -132,12 +132,12 @@ pub(crate) fn answer<A: Allocator + Copy>(
 ) -> Result<Result<Accepted, EditFault>, RecordFault> {
     Ok(match edit {
         Edit::Add(line) => {
-            let row = session.read(line)?;
-            session.add(&row)
+            let feature = session.read(line)?;
+            session.add(&feature)
         }
         Edit::Remove(line) => {
-            let row = session.read(line)?;
-            session.remove(&row)
+            let feature = session.read(line)?;
+            session.remove(&feature)
         }
         Edit::Replace(old, new) => {
             let old = session.read(old)?;
@@ -154,12 +154,12 @@ pub(crate) fn answer_beside<A: Allocator + Copy>(
 ) -> Result<Result<Accepted, EditFault>, SecondFault> {
     Ok(match edit {
         Edit::Add(line) => {
-            let row = session.read_second(line)?;
-            session.add_second(&row)
+            let feature = session.read_second(line)?;
+            session.add_second(&feature)
         }
         Edit::Remove(line) => {
-            let row = session.read_second(line)?;
-            session.remove_second(&row)
+            let feature = session.read_second(line)?;
+            session.remove_second(&feature)
         }
         Edit::Replace(old, new) => {
             let old = session.read_second(old)?;

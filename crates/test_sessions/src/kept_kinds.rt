@@ -31,7 +31,7 @@ impl Kind {
     }
 
     /// The row of the record at a start.
-    fn row(self, rt: &HostRuntime, start: u32) -> Result<String, Fail> {
+    fn feature(self, rt: &HostRuntime, start: u32) -> Result<String, Fail> {
         let stop = start.saturating_add(10);
         Ok(match self {
             Kind::Blocks => format!(in rt.alloc(); "big\t{start}\t{stop}\n")?,
@@ -42,8 +42,8 @@ impl Kind {
 
     /// Puts the row of the record at a start at the end of a text.
     fn push_row(self, rt: &HostRuntime, text: &mut String, start: u32) -> Result<(), Fail> {
-        let row = self.row(rt, start)?;
-        text.push_str(row.as_str())?;
+        let feature = self.feature(rt, start)?;
+        text.push_str(feature.as_str())?;
         Ok(())
     }
 

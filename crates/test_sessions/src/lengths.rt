@@ -48,9 +48,9 @@ fn lengths_of_a_session(rt: HostRuntime) -> Result<(), Fail> {
 
 /// A record that was read before a resize may not fit after it.
 fn fits_no_more(session: &mut Session) -> Result<bool, Fail> {
-    let row = session.read(b"chr1\t90\t100")?;
-    let fitted = session.fits(&row);
-    Ok(fitted && answers(session, b"chr1", 99, None) && !session.fits(&row))
+    let feature = session.read(b"chr1\t90\t100")?;
+    let fitted = session.fits(&feature);
+    Ok(fitted && answers(session, b"chr1", 99, None) && !session.fits(&feature))
 }
 
 #[test]

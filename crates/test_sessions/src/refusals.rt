@@ -49,7 +49,8 @@ fn holds_lines(session: &Session<&RefusesNth<Global>>, first: u32, count: u32) -
     for start in first..first.saturating_add(count) {
         let (start, stop) = (u64::from(start), u64::from(start).saturating_add(10));
         match rows.next(&mut meter) {
-            Some(row) if (row.start(), row.stop(), row.name()) == (start, stop, b"name") => {}
+            Some(feature)
+                if (feature.start(), feature.stop(), feature.name()) == (start, stop, b"name") => {}
             _ => return false,
         }
     }

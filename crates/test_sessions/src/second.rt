@@ -155,11 +155,11 @@ fn edits_at_the_limit(rt: HostRuntime) -> Result<(), Fail> {
 
 /// Whether a session answers that it has no second file, whatever the line.
 fn has_none(session: &Session) -> Result<bool, Fail> {
-    let row = session.read(b"chr1\t1\t2")?;
+    let feature = session.read(b"chr1\t1\t2")?;
     Ok(
         session.second_width().is_none()
             && session.read_second(b"x").err() == Some(SecondFault::NoSecond)
-            && !session.fits_second(&row),
+            && !session.fits_second(&feature),
     )
 }
 

@@ -46,7 +46,7 @@ fn edits(rt: HostRuntime) -> Result<(), Fail> {
 /// How the session reads a line, and whether the record is one of a session with four columns.
 fn fault_of_line(session: &Session, other: &Session, line: &[u8]) -> (Option<RecordFault>, bool) {
     match session.read(line) {
-        Ok(row) => (None, other.fits(&row)),
+        Ok(feature) => (None, other.fits(&feature)),
         Err(fault) => (Some(fault), false),
     }
 }
@@ -85,7 +85,7 @@ fn records_that_are_read(rt: HostRuntime) -> Result<(), Fail> {
 fn numbers_of(session: &Session) -> (u32, u8, u32, Option<(u64, u64, u32)>) {
     let track = session.track();
     let found = match track.at_or_after(1, 0, &mut Meter::new()) {
-        Some((row, copies)) => Some((row.start(), row.stop(), copies)),
+        Some((feature, copies)) => Some((feature.start(), feature.stop(), copies)),
         None => None,
     };
     (session.len(), track.width(), track.limit(), found)

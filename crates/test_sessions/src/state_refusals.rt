@@ -61,7 +61,7 @@ fn is_edit_refused<'a>(
     number: u64,
 ) -> Result<bool, Fail>
     requires built { built_for state.old ≡ state_key case.view }
-    requires right { IsRight state.old (names_of session.old.genome) session.old.track.rows }
+    requires right { IsRight state.old (names_of session.old.genome) session.old.track.records }
 {
     let done = if case.is_add {
         is_added_beside(alloc, session, state, LINE, number)?
@@ -100,7 +100,7 @@ fn is_met_by<'a>(
     case: Case<'_>,
 ) -> Result<bool, Fail>
     requires built { built_for state.now ≡ state_key case.view }
-    requires right { IsRight state.now (names_of session.now.genome) session.now.track.rows }
+    requires right { IsRight state.now (names_of session.now.genome) session.now.track.records }
 {
     let is_met = alloc.has_refused();
     alloc.again(u64::MAX);

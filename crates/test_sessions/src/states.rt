@@ -50,7 +50,7 @@ pub(crate) fn built<A: Allocator + Copy>(
     view: KeptView,
 ) -> Result<KeptState<A>, AllocError>
     ensures built { IfOk result (λ s. built_for s ≡ state_key view) }
-    ensures right { IfOk result (λ s. IsRight s (names_of session.now.genome) session.now.track.rows) }
+    ensures right { IfOk result (λ s. IsRight s (names_of session.now.genome) session.now.track.records) }
 {
     let mut meter = Meter::new();
     KeptState::build(
@@ -72,7 +72,7 @@ pub(crate) fn prints<A: Allocator + Copy>(
     most: u64,
 ) -> Result<bool, Fail>
     requires built { built_for state.now ≡ state_key view }
-    requires right { IsRight state.now (names_of session.now.genome) session.now.track.rows }
+    requires right { IsRight state.now (names_of session.now.genome) session.now.track.records }
 {
     let mut meter = Meter::new();
     let mut sink = MemSink::new(rt.alloc(), want.len(), 999)?;
@@ -90,16 +90,16 @@ pub(crate) fn prints<A: Allocator + Copy>(
 fn is_added<A: Allocator + Copy>(
     session: &Session<A>,
     state: &mut KeptState<A>,
-    row: &RecordRef<'_>,
+    feature: &RecordRef<'_>,
 ) -> Result<bool, Fail>
-    requires right { IsRightWithout (λ s rows. IsRight s (names_of session.now.genome) rows) state.old session.now.track.rows row.now }
-    requires fits { Fits session.now.genome session.now.track.width row.now }
+    requires right { IsRightWithout (λ s rows. IsRight s (names_of session.now.genome) rows) state.old session.now.track.records feature.now }
+    requires fits { Fits session.now.genome session.now.track.width feature.now }
     ensures built { IfOk result (λ done. done ≡ true → built_for state.new ≡ built_for state.old) }
-    ensures right { IfOk result (λ done. done ≡ true → IsRight state.new (names_of session.now.genome) session.now.track.rows) }
+    ensures right { IfOk result (λ done. done ≡ true → IsRight state.new (names_of session.now.genome) session.now.track.records) }
 {
     let most = most_steps(state);
     let mut meter = Meter::new();
-    let done = state.added(session.track(), session.genome(), row, &mut meter);
+    let done = state.added(session.track(), session.genome(), feature, &mut meter);
     if meter.steps() > most {
         return Err(Fail::new("too many steps"));
     }
@@ -110,16 +110,16 @@ fn is_added<A: Allocator + Copy>(
 fn is_removed<A: Allocator + Copy>(
     session: &Session<A>,
     state: &mut KeptState<A>,
-    row: &RecordRef<'_>,
+    feature: &RecordRef<'_>,
 ) -> Result<bool, Fail>
-    requires right { IsRight state.old (names_of session.now.genome) (with_one session.now.track.rows row.now) }
-    requires fits { Fits session.now.genome session.now.track.width row.now }
+    requires right { IsRight state.old (names_of session.now.genome) (with_one session.now.track.records feature.now) }
+    requires fits { Fits session.now.genome session.now.track.width feature.now }
     ensures built { IfOk result (λ done. done ≡ true → built_for state.new ≡ built_for state.old) }
-    ensures right { IfOk result (λ done. done ≡ true → IsRight state.new (names_of session.now.genome) session.now.track.rows) }
+    ensures right { IfOk result (λ done. done ≡ true → IsRight state.new (names_of session.now.genome) session.now.track.records) }
 {
     let most = most_steps(state);
     let mut meter = Meter::new();
-    let done = state.removed(session.track(), session.genome(), row, &mut meter);
+    let done = state.removed(session.track(), session.genome(), feature, &mut meter);
     if meter.steps() > most {
         return Err(Fail::new("too many steps"));
     }
@@ -135,14 +135,14 @@ pub(crate) fn is_added_beside<'a>(
     line: &[u8],
     number: u64,
 ) -> Result<bool, Fail>
-    requires right { IsRight state.old (names_of session.old.genome) session.old.track.rows }
+    requires right { IsRight state.old (names_of session.old.genome) session.old.track.records }
     ensures built { IfOk result (λ done. done ≡ true → built_for state.new ≡ built_for state.old) }
-    ensures right { IfOk result (λ done. done ≡ true → IsRight state.new (names_of session.new.genome) session.new.track.rows) }
+    ensures right { IfOk result (λ done. done ≡ true → IsRight state.new (names_of session.new.genome) session.new.track.records) }
 {
-    let row = session.read(line)?;
-    session.add(&row)?;
+    let feature = session.read(line)?;
+    session.add(&feature)?;
     alloc.again(number.max(1));
-    is_added(session, state, &row)
+    is_added(session, state, &feature)
 }
 
 /// Takes the record of a line out of a session, and then out of what is kept, with the n-th allocation refused from there
@@ -154,16 +154,16 @@ pub(crate) fn is_removed_beside<'a>(
     line: &[u8],
     number: u64,
 ) -> Result<bool, Fail>
-    requires right { IsRight state.old (names_of session.old.genome) session.old.track.rows }
+    requires right { IsRight state.old (names_of session.old.genome) session.old.track.records }
     ensures built { IfOk result (λ done. done ≡ true → built_for state.new ≡ built_for state.old) }
-    ensures right { IfOk result (λ done. done ≡ true → IsRight state.new (names_of session.new.genome) session.new.track.rows) }
+    ensures right { IfOk result (λ done. done ≡ true → IsRight state.new (names_of session.new.genome) session.new.track.records) }
 {
-    let row = session.read(line)?;
+    let feature = session.read(line)?;
     // The order of the records is known once they are counted.
     let _count = session.track().len();
-    session.remove(&row)?;
+    session.remove(&feature)?;
     alloc.again(number.max(1));
-    is_removed(session, state, &row)
+    is_removed(session, state, &feature)
 }
 
 /// Puts the line of a record of this name at the end of a text. All have one interval.

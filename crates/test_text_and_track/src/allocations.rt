@@ -120,7 +120,7 @@ fn refused(rt: &HostRuntime, alloc: &RefusesNth<Global>, run: Run<'_>) -> Result
         Run::Keys => refused_keys(alloc),
         Run::Batches => refused_batches(alloc),
         Run::Calls(call) => refused_calls(rt, alloc, call),
-        Run::Copy(row, texts) => refused_copy(alloc, row, texts),
+        Run::Copy(feature, texts) => refused_copy(alloc, feature, texts),
         Run::Sink(room) => refused_sink(alloc, room),
         Run::Genome(text, count) => refused_genome(rt, alloc, text, count),
         Run::Damage(text, damage) => refused_damage(alloc, text, damage),

@@ -19,10 +19,10 @@ fn check_texts<A: Allocator>(record: &Record<A>, texts: (&[u8], &[u8])) -> Resul
 /// Copies a record with these texts, and answers how often an allocation failed, once or never.
 pub(crate) fn refused_copy(
     alloc: &RefusesNth<Global>,
-    row: &RecordRef<'_>,
+    feature: &RecordRef<'_>,
     texts: (&[u8], &[u8]),
 ) -> Result<u32, Fail> {
-    match row.to_record(alloc) {
+    match feature.to_record(alloc) {
         Ok(record) => check_texts(&record, texts),
         Err(_) => Ok(1),
     }
@@ -35,8 +35,8 @@ fn growths_of_line(
     line: &[u8],
     texts: (&[u8], &[u8]),
 ) -> Result<u32, Fail> {
-    let row = read_record(genome, 5, line)?;
-    allocations(rt, Run::Copy(&row, texts))
+    let feature = read_record(genome, 5, line)?;
+    allocations(rt, Run::Copy(&feature, texts))
 }
 
 /// The same of a record that has this name and this score.
@@ -92,8 +92,8 @@ fn each_growth_of_a_copy_refused(rt: HostRuntime) -> Result<(), Fail> {
 
 /// Whether the copy of a record of three columns takes no allocation.
 fn takes_no_growth(rt: &HostRuntime, genome: &Genome) -> Result<bool, Fail> {
-    let row = read_record(genome, 3, b"chr1\t10\t20")?;
-    Ok(allocations(rt, Run::Copy(&row, (b"", b"")))? == 0)
+    let feature = read_record(genome, 3, b"chr1\t10\t20")?;
+    Ok(allocations(rt, Run::Copy(&feature, (b"", b"")))? == 0)
 }
 
 /// A record of three columns takes no memory.

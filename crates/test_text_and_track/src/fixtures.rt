@@ -34,11 +34,11 @@ pub(crate) fn track_of<A: Allocator + Copy>(
 }
 
 /// Adds a record to a track. The number of the fault, 0 if there is none, and 99 if it took more than eight steps.
-pub(crate) fn add<A: Allocator + Copy>(track: &mut Track<A>, row: Record<A>) -> u8
-    requires { row.width ≡ track.old.width }
+pub(crate) fn add<A: Allocator + Copy>(track: &mut Track<A>, feature: Record<A>) -> u8
+    requires { feature.width ≡ track.old.width }
 {
     let mut meter = Meter::new();
-    let done = track.add(row, &mut meter);
+    let done = track.add(feature, &mut meter);
     match done {
         _ if meter.steps() > 8 => 99,
         Ok(()) => 0,
@@ -47,11 +47,11 @@ pub(crate) fn add<A: Allocator + Copy>(track: &mut Track<A>, row: Record<A>) -> 
 }
 
 /// Stages a record on a track. The number of the fault, 0 if there is none.
-pub(crate) fn stage<A: Allocator + Copy>(track: &mut Track<A>, row: Record<A>) -> u8
-    requires room { length track.old.rows ≤ track.old.limit }
-    requires width { row.width ≡ track.old.width }
+pub(crate) fn stage<A: Allocator + Copy>(track: &mut Track<A>, feature: Record<A>) -> u8
+    requires room { length track.old.records ≤ track.old.limit }
+    requires width { feature.width ≡ track.old.width }
 {
-    match track.stage(row, &mut Meter::new()) {
+    match track.stage(feature, &mut Meter::new()) {
         Ok(()) => 0,
         Err(_) => 22,
     }
@@ -63,7 +63,7 @@ pub(crate) fn replace<A: Allocator + Copy>(
     old: &Record<A>,
     new: Record<A>,
 ) -> u8
-    requires room { length track.old.rows ≤ track.old.limit }
+    requires room { length track.old.records ≤ track.old.limit }
     requires width { new.width ≡ track.old.width }
 {
     match track.replace(old, new, &mut Meter::new()) {

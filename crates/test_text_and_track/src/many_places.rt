@@ -3,7 +3,7 @@ use crate::allocations::{Reading, Run, allocations, memory_of};
 use crate::fixtures::holds;
 use crate::places::{SIZES, bed_text};
 use crate::span_pieces::spans_of;
-use iv_index::{Span, TextRecords, sort_spans};
+use iv_locators::{Span, TextRecords, sort_spans};
 use iv_text::{BedRecord, Genome, LoadFault};
 use std::alloc::Global;
 use std::test::Fail;

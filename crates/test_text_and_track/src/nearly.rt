@@ -1,5 +1,5 @@
 //! Numbers that are in order except for neighbours that are the wrong way round.
-use iv_index::order_nearly;
+use iv_locators::order_nearly;
 use std::test::Fail;
 
 /// How many runs of neighbours there are.

@@ -1,7 +1,7 @@
 //! Each allocation of reading a BED file, at once and in pieces, refused in turn.
 use crate::allocations::{Reading, Run, allocations, memory_of};
 use crate::span_pieces::spans_of;
-use iv_index::Span;
+use iv_locators::Span;
 use iv_text::{BedFile, Genome, LoadCause, LoadFault, Record, RecordFault, Strand};
 use std::alloc::{Allocator, Global};
 use std::test::Fail;

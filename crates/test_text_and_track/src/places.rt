@@ -1,6 +1,6 @@
 //! BED files as locators into their text.
 use crate::fixtures::holds;
-use iv_index::{BedText, TextRecord, TextRecords};
+use iv_locators::{BedText, TextRecord, TextRecords};
 use iv_text::{BedRecord, Genome, LoadCause, LoadFault, RecordFault, Strand};
 use std::alloc::Allocator;
 use std::mem::size_of;
@@ -93,12 +93,12 @@ pub(crate) type Cells<'t> = ((u32, u64, u64), (&'t [u8], &'t [u8]), Option<Stran
 /// Whether the record has these columns, and the same interval and strand if it is asked for them alone.
 pub(crate) fn has_cells(record: &TextRecord<'_>, width: u8, cells: Cells<'_>) -> bool {
     let (place, texts, strand) = cells;
-    let row = record.to_ref();
+    let feature = record.to_ref();
     let alone = (record.seq(), record.start(), record.stop()) == place && record.strand() == strand;
-    let at_once = row.width() == width
-        && (row.seq(), row.start(), row.stop()) == place
-        && (row.name(), row.score()) == texts
-        && row.strand() == strand;
+    let at_once = feature.width() == width
+        && (feature.seq(), feature.start(), feature.stop()) == place
+        && (feature.name(), feature.score()) == texts
+        && feature.strand() == strand;
     alone && at_once
 }
 
@@ -213,10 +213,10 @@ fn ways_to_the_records(rt: HostRuntime) -> Result<(), Fail> {
 
 #[test]
 fn a_place_takes_16_bytes(rt: HostRuntime) {
-    assert_eq!(rt; size_of::<iv_index::Locator>(), 16);
+    assert_eq!(rt; size_of::<iv_locators::Locator>(), 16);
 }
 
 #[test]
 fn a_place_alone_takes_12_bytes(rt: HostRuntime) {
-    assert_eq!(rt; size_of::<iv_index::Span>(), 12);
+    assert_eq!(rt; size_of::<iv_locators::Span>(), 12);
 }

@@ -10,10 +10,10 @@ fn sink(rt: &HostRuntime) -> Result<MemSink, Fail> {
 
 /// Puts the record of a line: with nothing after it, with a line feed, and with a number.
 fn put_rows(sink: &mut MemSink, genome: &Genome, line: &str) -> Result<(), Fail> {
-    let row = read_record(genome, 6, line.as_bytes())?;
-    put_record(sink, genome, &row)?;
-    put_line(sink, genome, &row)?;
-    put_numbered(sink, genome, &row, 4096)?;
+    let feature = read_record(genome, 6, line.as_bytes())?;
+    put_record(sink, genome, &feature)?;
+    put_line(sink, genome, &feature)?;
+    put_numbered(sink, genome, &feature, 4096)?;
     Ok(())
 }
 

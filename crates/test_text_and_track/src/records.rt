@@ -51,12 +51,12 @@ fn faults_of_lines(rt: HostRuntime) -> Result<(), Fail> {
 type Cells<'a> = (u8, (u32, u64, u64), (&'a [u8], &'a [u8]), Option<Strand>);
 
 /// Whether a borrowed record has these columns.
-fn is_row(row: &RecordRef<'_>, cells: Cells<'_>) -> bool {
+fn is_row(feature: &RecordRef<'_>, cells: Cells<'_>) -> bool {
     let (width, place, texts, strand) = cells;
-    row.width() == width
-        && (row.seq(), row.start(), row.stop()) == place
-        && (row.name(), row.score()) == texts
-        && row.strand() == strand
+    feature.width() == width
+        && (feature.seq(), feature.start(), feature.stop()) == place
+        && (feature.name(), feature.score()) == texts
+        && feature.strand() == strand
 }
 
 /// Whether an owned record has these columns.
@@ -79,9 +79,9 @@ fn has_cells(
     if width < 3 || width > 6 {
         return Err(Fail::new("no width"));
     }
-    let row = read_record(genome, width, line)?;
-    let record = row.to_record(rt.alloc())?;
-    Ok(is_row(&row, cells) && is_record(&record, cells))
+    let feature = read_record(genome, width, line)?;
+    let record = feature.to_record(rt.alloc())?;
+    Ok(is_row(&feature, cells) && is_record(&record, cells))
 }
 
 /// Whether the records of these lines have the columns that they are to have.
@@ -115,9 +115,9 @@ fn columns_of_records(rt: HostRuntime) -> Result<(), Fail> {
 
 /// Whether the record of a line of four columns fits a genome, borrowed and owned.
 fn fits(rt: &HostRuntime, from: &Genome, on: &Genome, width: u8) -> Result<(bool, bool), Fail> {
-    let row = read_record(from, 4, b"chr1\t10\t20\tn")?;
-    let record = row.to_record(rt.alloc())?;
-    Ok((row.fits(on, width), record.fits(on, width)))
+    let feature = read_record(from, 4, b"chr1\t10\t20\tn")?;
+    let record = feature.to_record(rt.alloc())?;
+    Ok((feature.fits(on, width), record.fits(on, width)))
 }
 
 /// Looks for a record of four columns on its genome and on a smaller one.

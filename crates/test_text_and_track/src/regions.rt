@@ -38,8 +38,8 @@ fn first_two(track: &Track, seq: u32, start: u32, stop: u32) -> (Option<u64>, Op
     };
     let mut meter = Meter::new();
     let mut hits = track.hits(at, &mut meter);
-    let first = hits.next(&mut meter).map(|row| row.start());
-    let second = hits.next(&mut meter).map(|row| row.start());
+    let first = hits.next(&mut meter).map(|feature| feature.start());
+    let second = hits.next(&mut meter).map(|feature| feature.start());
     (first, second, meter.steps())
 }
 
@@ -73,9 +73,9 @@ fn depths_around(
     position: u32,
 ) -> Result<[(u64, u64); 3], Fail> {
     let before = depth_in(track, 0, position);
-    let row = read_record(genome, 3, line)?.to_record(rt.alloc())?;
+    let feature = read_record(genome, 3, line)?.to_record(rt.alloc())?;
     let again = read_record(genome, 3, line)?.to_record(rt.alloc())?;
-    if row.width() != track.width() || track.add(row, &mut Meter::new()).is_err() {
+    if feature.width() != track.width() || track.add(feature, &mut Meter::new()).is_err() {
         return Err(Fail::new("a record is refused"));
     }
     let between = depth_in(track, 0, position);

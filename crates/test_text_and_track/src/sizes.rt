@@ -62,7 +62,7 @@ fn track_holds(track: &Track, count: u32) -> bool {
     for number in 0..count {
         let start = u64::from(number) * 10;
         match rows.next(&mut meter) {
-            Some(row) if row.start() == start && row.stop() == start + 5 => {}
+            Some(feature) if feature.start() == start && feature.stop() == start + 5 => {}
             _ => return false,
         }
     }

@@ -3,7 +3,7 @@ ghost use Rattle.std.specs.Prelude.{◌+◌, ◌<◌, ◌≤◌, ◌^◌, OnOk, 
 ghost use Rattle.iv_text.specs.BedReading.{AreSound, size_of};
 
 use crate::places::SIZES;
-use iv_index::Span;
+use iv_locators::Span;
 use iv_text::{BedReader, FromRecord, Genome, LoadCause, LoadFault, RecordFault};
 use std::alloc::Allocator;
 use std::test::Fail;

@@ -36,12 +36,13 @@ fn holds_starts<A: Allocator + Copy>(track: &Track<A>, first: u32, count: u32) -
     let mut meter = Meter::new();
     let mut rows = track.walk(0, 0, &mut meter);
     for i in 0..count {
-        let Some(row) = rows.next(&mut meter) else {
+        let Some(feature) = rows.next(&mut meter) else {
             return false;
         };
         let start = u64::from(first) + u64::from(i);
-        let is_there = (row.start(), row.stop(), row.name()) == (start, start + 10, b"name");
-        if !is_there || track.copies(row, &mut meter) != 1 {
+        let is_there = (feature.start(), feature.stop(), feature.name())
+            == (start, start + 10, b"name");
+        if !is_there || track.copies(feature, &mut meter) != 1 {
             return false;
         }
     }
@@ -64,10 +65,10 @@ fn record<'a>(
     ensures { IfOk result (λ r. r.width ≡ 4) }
 {
     let line = line(rt, start)?;
-    let row = read_record(genome, 4, line.as_str().trim_end().as_bytes())?;
-    match row.to_record(alloc) {
+    let feature = read_record(genome, 4, line.as_str().trim_end().as_bytes())?;
+    match feature.to_record(alloc) {
         Ok(record) => Ok(record),
-        Err(_) => Ok(row.to_record(alloc)?),
+        Err(_) => Ok(feature.to_record(alloc)?),
     }
 }
 
@@ -80,13 +81,13 @@ fn put<'a>(
     call: Call,
     start: u32,
 ) -> Result<u8, Fail>
-    requires room { length track.old.rows ≤ track.old.limit }
+    requires room { length track.old.records ≤ track.old.limit }
     requires width { track.old.width ≡ 4 }
 {
-    let row = record(rt, genome, alloc, start)?;
+    let feature = record(rt, genome, alloc, start)?;
     match call {
-        Call::Add => Ok(add(track, row)),
-        _ => Ok(stage(track, row)),
+        Call::Add => Ok(add(track, feature)),
+        _ => Ok(stage(track, feature)),
     }
 }
 
@@ -98,7 +99,7 @@ fn move_on<'a>(
     alloc: &'a RefusesNth<Global>,
     start: u32,
 ) -> Result<u8, Fail>
-    requires room { length track.old.rows ≤ track.old.limit }
+    requires room { length track.old.records ≤ track.old.limit }
     requires width { track.old.width ≡ 4 }
 {
     let old = record(rt, genome, alloc, start)?;

@@ -23,8 +23,8 @@ fn record(rt: &HostRuntime, genome: &Genome, line: &[u8]) -> Result<Record, Fail
 }
 
 /// Removes a record from a track. The number of the fault, 0 if there is none.
-fn remove(track: &mut Track, row: &Record) -> u8 {
-    match track.remove(row, &mut Meter::new()) {
+fn remove(track: &mut Track, feature: &Record) -> u8 {
+    match track.remove(feature, &mut Meter::new()) {
         Ok(()) => 0,
         Err(fault) => fault.code(),
     }
@@ -34,17 +34,17 @@ fn remove(track: &mut Track, row: &Record) -> u8 {
 fn add_line(rt: &HostRuntime, genome: &Genome, track: &mut Track, line: &[u8]) -> Result<u8, Fail>
     requires { track.old.width ≡ 4 }
 {
-    let row = record(rt, genome, line)?;
-    Ok(add(track, row))
+    let feature = record(rt, genome, line)?;
+    Ok(add(track, feature))
 }
 
 /// Stages the record of a line. The number of the fault, 0 if there is none.
 fn stage_line(rt: &HostRuntime, genome: &Genome, track: &mut Track, line: &[u8]) -> Result<u8, Fail>
-    requires room { length track.old.rows ≤ track.old.limit }
+    requires room { length track.old.records ≤ track.old.limit }
     requires width { track.old.width ≡ 4 }
 {
-    let row = record(rt, genome, line)?;
-    Ok(stage(track, row))
+    let feature = record(rt, genome, line)?;
+    Ok(stage(track, feature))
 }
 
 /// Replaces the record of a line by that of another one. The number of the fault, 0 if there is none.
@@ -55,7 +55,7 @@ fn replace_line(
     line: &[u8],
     other: &[u8],
 ) -> Result<u8, Fail>
-    requires room { length track.old.rows ≤ track.old.limit }
+    requires room { length track.old.records ≤ track.old.limit }
     requires width { track.old.width ≡ 4 }
 {
     let old = record(rt, genome, line)?;
@@ -70,8 +70,8 @@ fn remove_line(
     track: &mut Track,
     line: &[u8],
 ) -> Result<u8, Fail> {
-    let row = record(rt, genome, line)?;
-    Ok(remove(track, &row))
+    let feature = record(rt, genome, line)?;
+    Ok(remove(track, &feature))
 }
 
 /// The number of an edit's fault, 0 if there is none.
@@ -151,13 +151,13 @@ fn track_without_room(rt: HostRuntime) -> Result<(), Fail> {
 /// The first letter of a record's name and its copies, of the record after this one, or of the first one on its sequence.
 fn next_on(track: &Track, record: &Record, after: bool) -> Option<(u8, u32)> {
     let mut meter = Meter::new();
-    let (row, copies) = if after {
+    let (feature, copies) = if after {
         track.after(record, &mut meter)?
     } else {
         track.at_or_after(record.seq(), 0, &mut meter)?
     };
-    let letter = row.name().first()?;
-    (track.copies(row, &mut meter) == copies).then_some((*letter, copies))
+    let letter = feature.name().first()?;
+    (track.copies(feature, &mut meter) == copies).then_some((*letter, copies))
 }
 
 /// The same of the record of a line.
@@ -211,8 +211,8 @@ fn copies_in_order(rt: HostRuntime) -> Result<(), Fail> {
 
 /// The rank of the first record at or after a start on a sequence.
 fn rank_from(track: &Track, seq: u32, start: u64) -> Option<u32> {
-    let (row, _) = track.at_or_after(seq, start, &mut Meter::new())?;
-    Some(row.seq())
+    let (feature, _) = track.at_or_after(seq, start, &mut Meter::new())?;
+    Some(feature.seq())
 }
 
 /// Looks past the last record of a track.

@@ -1,4 +1,4 @@
--- What is read of the words of a run so far. This is the state of their reader, as seen by its proof.
+-- What is read of the arguments of a run so far. This is the state of their reader, as seen by its proof.
 use Rattle.std.specs.Prelude.{◌≡◌, ◌≢◌, ℕ, nat_le, ◌&&◌, if◌then◌else◌, Bool, true, false, ◌++◌, List, [], ◌∷◌, Option, None, Some, Result, Ok, Err, codes}
 use Rattle.std.specs.Map.{lookup}
 use Rattle.std.specs.Option.{is_some, option_and_then, option_to_list}
@@ -9,12 +9,12 @@ use Rattle.iv_args.specs.declared.subcommand.RunOption.TheVariants as option
 use Rattle.iv_text.specs.declared.fault.Fault.{Fault}
 use Rattle.iv_text.specs.declared.fault.Fault.TheVariants as fault
 use Rattle.iv_text.specs.Number.{number}
-use Rattle.iv_view.specs.Views.{read_words}
+use Rattle.iv_view.specs.Views.{read_arguments}
 use Rattle.iv_view.specs.declared.view.View.{View}
 use Rattle.iv_args.specs.declared.subcommand.Subcommand.TheVariants as kind
-use Rattle.iv_args.specs.Words.{RunPlan, most_limit, option_of, said_once, takes_value}
+use Rattle.iv_args.specs.Arguments.{RunPlan, most_limit, option_of, said_once, takes_value}
 
--- what is read of the words so far
+-- what is read of the arguments so far
 pub record PartialPlan : Type 0 where
   pub sizes : Option (List ℕ)
   pub first : Option (List ℕ)
@@ -24,14 +24,14 @@ pub record PartialPlan : Type 0 where
   pub limit : Option (List ℕ)
   pub view : List (List ℕ)
 
--- the first word of the view: that of the run; a session has none
+-- the first argument of the view: that of the run; a session has none
 abbrev pub lead : Subcommand → List ℕ → List (List ℕ)
-lead kind.Session word = []
-lead run word = word ∷ []
+lead kind.Session argument = []
+lead run argument = argument ∷ []
 
--- what is read once the first word is
+-- what is read once the first argument is
 abbrev pub begun_by : Subcommand → List ℕ → PartialPlan
-begun_by run word = record { sizes = None; first = None; other = None; bases = None; width = None; limit = None; view = lead run word }
+begun_by run argument = record { sizes = None; first = None; other = None; bases = None; width = None; limit = None; view = lead run argument }
 
 -- a value, unless one was given before
 abbrev pub unless_given : Option (List ℕ) → PartialPlan → Option PartialPlan
@@ -47,45 +47,45 @@ with_value option.Bases value said = unless_given said.bases (record said { base
 with_value option.Width value said = unless_given said.width (record said { width = Some value })
 with_value option.Limit value said = unless_given said.limit (record said { limit = Some value })
 
--- what is read after more words of the view
+-- what is read after more arguments of the view
 abbrev pub viewed : List (List ℕ) → PartialPlan → PartialPlan
-viewed words said = record said { view = said.view ++ words }
+viewed arguments said = record said { view = said.view ++ arguments }
 
--- what is read after the last word, if it can be taken
+-- what is read after the last argument, if it can be taken
 abbrev pub last_drafted : Option RunOption → List ℕ → PartialPlan → Option PartialPlan
-last_drafted None word said = Some (viewed (word ∷ []) said)
-last_drafted (Some asked) word said = None
+last_drafted None argument said = Some (viewed (argument ∷ []) said)
+last_drafted (Some asked) argument said = None
 
--- what is read after a word, the next one if it is a value, and those after
+-- what is read after an argument, the next one if it is a value, and those after
 abbrev pub next_drafted : Option RunOption → Bool → List ℕ → List ℕ → (PartialPlan → Option PartialPlan) → (PartialPlan → Option PartialPlan) → PartialPlan → Option PartialPlan
-next_drafted (Some asked) takes word next after_both later said = option_and_then after_both (with_value asked next said)
-next_drafted None true word next after_both later said = after_both (viewed (word ∷ next ∷ []) said)
-next_drafted None false word next after_both later said = later (viewed (word ∷ []) said)
+next_drafted (Some asked) takes argument next after_both later said = option_and_then after_both (with_value asked next said)
+next_drafted None true argument next after_both later said = after_both (viewed (argument ∷ next ∷ []) said)
+next_drafted None false argument next after_both later said = later (viewed (argument ∷ []) said)
 
--- what is read after words, if they can be taken
+-- what is read after arguments, if they can be taken
 abbrev pub drafted : Subcommand → List (List ℕ) → PartialPlan → Option PartialPlan
 drafted run [] said = Some said
-drafted run (word ∷ []) said = last_drafted (option_of run word) word said
-drafted run (word ∷ next ∷ words) said =
-    next_drafted (option_of run word) (takes_value run word) word next (drafted run words) (drafted run (next ∷ words)) said
+drafted run (argument ∷ []) said = last_drafted (option_of run argument) argument said
+drafted run (argument ∷ next ∷ arguments) said =
+    next_drafted (option_of run argument) (takes_value run argument) argument next (drafted run arguments) (drafted run (next ∷ arguments)) said
 
--- whether words were read as those of a view, or have a fault that only the files can show
+-- whether arguments were read as those of a view, or have a fault that only the files can show
 abbrev pub are_understood : Result View Fault → Bool
 are_understood (Ok view) = true
 are_understood (Err fault.Words) = false
 are_understood (Err why) = true
 
--- whether the words of the view are accepted
-abbrev pub are_view_words : Subcommand → List (List ℕ) → Bool
-are_view_words kind.Session [] = true
-are_view_words kind.Session (word ∷ words) = false
-are_view_words run words = are_understood (read_words 6 true true words)
+-- whether the arguments of the view are accepted
+abbrev pub are_view_arguments : Subcommand → List (List ℕ) → Bool
+are_view_arguments kind.Session [] = true
+are_view_arguments kind.Session (argument ∷ arguments) = false
+are_view_arguments run arguments = are_understood (read_arguments 6 true true arguments)
 
--- the words of the view are accepted, for records of six columns and beside both files; a fault that only the files can show is
--- none here, and a session has no such words
-abbrev pub AreViewWords : Subcommand → List (List ℕ) → Type 0
-AreViewWords kind.Session words = words ≡ []
-AreViewWords run words = read_words 6 true true words ≢ Err fault.Words
+-- the arguments of the view are accepted, for records of six columns and beside both files; a fault that only the files can show is
+-- none here, and a session has no such arguments
+abbrev pub AreViewArguments : Subcommand → List (List ℕ) → Type 0
+AreViewArguments kind.Session arguments = arguments ≡ []
+AreViewArguments run arguments = read_arguments 6 true true arguments ≢ Err fault.Words
 
 -- whether the files are named that a kind of run needs beside the genome and the records: the second file and the FASTA file
 abbrev pub has_needed_files : Subcommand → Option (List ℕ) → Option (List ℕ) → Bool
@@ -102,7 +102,7 @@ width_said values = said_once 3 (λ value. lookup (bytes_eq value) ((codes "3", 
 abbrev pub limit_said : List (List ℕ) → Option ℕ
 limit_said values = said_once 4000000 (λ value. option_and_then (λ n. if nat_le 1 n && nat_le n most_limit then Some n else None) (number value)) values
 
--- what is read of words makes a plan of this kind
+-- what is read of arguments makes a plan of this kind
 pub record Makes (run : Subcommand) (said : PartialPlan) (plan : RunPlan) : Type 0 where
   pub run_is : plan.run ≡ run
   pub sizes : said.sizes ≡ Some plan.sizes
@@ -113,4 +113,4 @@ pub record Makes (run : Subcommand) (said : PartialPlan) (plan : RunPlan) : Type
   pub limit : limit_said (option_to_list said.limit) ≡ Some plan.limit
   pub view : said.view ≡ plan.view
   pub needed : has_needed_files run said.other said.bases ≡ true
-  pub understood : are_view_words run said.view ≡ true
+  pub understood : are_view_arguments run said.view ≡ true

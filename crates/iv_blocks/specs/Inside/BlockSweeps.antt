@@ -5,10 +5,10 @@ use Rattle.iv_text.specs.Genome.{Sequences, sequence_name}
 use Rattle.iv_text.specs.RecordText.{record_text}
 use Rattle.iv_text.specs.RecordValue.{RecordValue}
 use Rattle.iv_cover.specs.declared.block.Block.{Block}
-use Rattle.iv_cover.specs.TrackBlocks.{Group}
+use Rattle.iv_cover.specs.TrackBlocks.{BlockWithMembers}
 
 -- the interval of a block with members
-abbrev pub interval_of : Group → Block
+abbrev pub interval_of : BlockWithMembers → Block
 interval_of b = record { sequence = b.sequence; start = b.start; stop = b.stop }
 
 -- where the first of the blocks starts: the rank of its sequence, and the position
@@ -25,6 +25,6 @@ abbrev pub numbered_row : Sequences → ℕ → RecordValue → List ℕ
 numbered_row g number r = record_text g r ++ codes "\t" ++ decimal number ++ codes "\n"
 
 -- the rows of the members of blocks, with the numbers of the blocks, of which the first follows this number
-abbrev pub numbered_rows : Sequences → ℕ → List Group → List ℕ
+abbrev pub numbered_rows : Sequences → ℕ → List BlockWithMembers → List ℕ
 numbered_rows g number [] = []
 numbered_rows g number (b ∷ blocks) = flat_map (numbered_row g (number + 1)) b.members ++ numbered_rows g (number + 1) blocks

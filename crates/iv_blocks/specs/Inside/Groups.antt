@@ -36,15 +36,15 @@ starts_between from to r = nat_le from r.start && nat_lt r.start to
 
 -- the records that start at `from` or after and below `to`
 abbrev pub between : ℕ → ℕ → List RecordValue → List RecordValue
-between from to rows = filter (starts_between from to) rows
+between from to records = filter (starts_between from to) records
 
 -- those of them on the sequence of this rank, of any strand
 abbrev pub between_on : ℕ → ℕ → ℕ → List RecordValue → List RecordValue
-between_on rank from to rows = filter (λ r. (r.seq == rank) && starts_between from to r) rows
+between_on rank from to records = filter (λ r. (r.seq == rank) && starts_between from to r) records
 
 -- those of them in the group
 abbrev pub members_between : Group → ℕ → ℕ → List RecordValue → List RecordValue
-members_between g from to rows = filter (λ r. is_in_group (is_apart g.side) g.rank (is_minus g.side) r && starts_between from to r) rows
+members_between g from to records = filter (λ r. is_in_group (is_apart g.side) g.rank (is_minus g.side) r && starts_between from to r) records
 
 -- an entry that holds no summary
 abbrev pub unused : ColumnSummary

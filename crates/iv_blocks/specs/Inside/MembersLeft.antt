@@ -7,12 +7,12 @@ use Rattle.iv_text.specs.RecordValue.{RecordValue}
 -- the members, in order, and how many records of the sequence, of any strand, the walk goes past for them
 pub record MembersLeft : Type 0 where
   pub members : List RecordValue
-  pub records : ℕ
+  pub passed_records : ℕ
 
 -- the records that a walk has left are in order, and none is on a sequence before this one
-pub record IsAhead (rank : ℕ) (rows : List RecordValue) : Type 0 where
-  pub ordered : AreInOrder rows
-  pub ranks : AllByRecursion (λ r. rank ≤ r.seq) rows
+pub record IsAhead (rank : ℕ) (records : List RecordValue) : Type 0 where
+  pub ordered : AreInOrder records
+  pub ranks : AllByRecursion (λ r. rank ≤ r.seq) records
 
 -- a call that gives none takes one step more, to find the end
 abbrev pub end_step : {A : Type 0} → Option A → ℕ
@@ -22,4 +22,4 @@ end_step (Some r) = 0
 -- between two readings of a meter is at most one step for each record that the walk went past, and `more`
 pub record TakesForEach (before after : ℕ) (old new : MembersLeft) (more : ℕ) : Type 0 where
   pub no_less : before ≤ after
-  pub at_most : after + new.records ≤ before + old.records + more
+  pub at_most : after + new.passed_records ≤ before + old.passed_records + more

@@ -24,7 +24,7 @@ BeginsGap look low = ((low ≡ 0) × (look 0 ≡ None)) ⊎ ((x : ℕ) × (b : K
 
 -- the gaps from `low` on that share a position with the region; none if the sequence isn't shown
 abbrev pub gaps_from : Bool → Sequences → List RecordValue → ℕ → ℕ → ℕ → ℕ → List Run
-gaps_from limited g rows rank start stop low =
-    if is_shown limited rows rank
-    then filter (λ gap. shares start stop gap.start gap.stop) (empty_runs (depth rows rank) low (sequence_length g rank))
+gaps_from limited g records rank start stop low =
+    if is_shown limited records rank
+    then filter (λ gap. shares start stop gap.start gap.stop) (empty_runs (depth records rank) low (sequence_length g rank))
     else []

@@ -21,23 +21,23 @@ abbrev pub without_block : KeptBlocks → Group → ℕ → KeptBlocks
 without_block kept g x = record kept { entries = remove_entry (is_at (key_cmp (key_of g x))) kept.entries }
 
 -- nothing is kept of the records in a block, and the first of the group's that start within these bounds has all of them
-pub record StaysCovered (o : BlockOptions) (g : Group) (rows : List RecordValue) (start stop : ℕ) : Type 0 where
+pub record StaysCovered (o : BlockOptions) (g : Group) (records : List RecordValue) (start stop : ℕ) : Type 0 where
   pub plain : listed o.summaries ≡ []
   pub first : RecordValue
   pub rest : List RecordValue
-  pub members : members_between g start stop rows ≡ first ∷ rest
+  pub members : members_between g start stop records ≡ first ∷ rest
   pub starts : first.start ≡ start
   pub reaches : stop ≤ first.stop
 
 -- a block went from block.0 to block.1, and a record from gone.0 to gone.1 was in it. These are its other records: one starts where
 -- the block does unless that one does, and each position that the block reaches is reached by one of them that starts before, unless
 -- that one reaches it
-pub record AreOthers (d : ℕ) (block gone : ℕ × ℕ) (rows : List RecordValue) : Type 0 where
+pub record AreOthers (d : ℕ) (block gone : ℕ × ℕ) (records : List RecordValue) : Type 0 where
   pub within : block.0 ≤ gone.0
   pub below : gone.0 < block.1
-  pub stops : All (λ r. r.stop ≤ block.1) rows
-  pub starts : block.0 < gone.0 → list_any (λ r. r.start == block.0) rows ≡ true
-  pub reached : (x : ℕ) → block.0 < x → x ≤ block.1 + d → (x ≤ gone.0) ⊎ (gone.1 + d < x) → list_any (reaches start_of stop_of d x) rows ≡ true
+  pub stops : All (λ r. r.stop ≤ block.1) records
+  pub starts : block.0 < gone.0 → list_any (λ r. r.start == block.0) records ≡ true
+  pub reached : (x : ℕ) → block.0 < x → x ≤ block.1 + d → (x ≤ gone.0) ⊎ (gone.1 + d < x) → list_any (reaches start_of stop_of d x) records ≡ true
 
 -- nothing except blocks of this group may have changed
 pub record KeepsOthers (g : Group) (old new : KeptBlocks) : Type 0 where

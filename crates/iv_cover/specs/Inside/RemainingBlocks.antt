@@ -3,41 +3,41 @@
 use denote.Ref.{Bor}
 use Rattle.std.specs.Prelude.{ℕ, ◌+◌, ◌==◌, ◌&&◌, nat_le, Bool, List, [], ◌∷◌, ◌++◌, max, Option, None, Some, if◌then◌else◌}
 use Rattle.iv_text.specs.RecordValue.{RecordValue}
-use Rattle.iv_cover.specs.TrackBlocks.{Group}
+use Rattle.iv_cover.specs.TrackBlocks.{BlockWithMembers}
 
 -- the record that was read ahead, if there is one, and those that are left of the walk
 abbrev pub left : Option (Bor RecordValue) → List RecordValue → List RecordValue
-left None rows = rows
-left (Some r) rows = r.now ∷ rows
+left None records = records
+left (Some r) records = r.now ∷ records
 
 -- the record joins the block: it is on the same sequence, and starts at most d past the block's stop
-abbrev pub is_joined : ℕ → Group → RecordValue → Bool
+abbrev pub is_joined : ℕ → BlockWithMembers → RecordValue → Bool
 is_joined d block r = (r.seq == block.sequence) && nat_le r.start (block.stop + d)
 
 -- a block of one record
-abbrev pub block_of : RecordValue → Group
+abbrev pub block_of : RecordValue → BlockWithMembers
 block_of r = record { sequence = r.seq; start = r.start; stop = r.stop; members = r ∷ [] }
 
 -- the block with one more record
-abbrev pub joined : Group → RecordValue → Group
-joined block r = record { sequence = block.sequence; start = block.start; stop = max block.stop r.stop; members = block.members ++ r ∷ [] }
+abbrev pub block_with : BlockWithMembers → RecordValue → BlockWithMembers
+block_with block r = record { sequence = block.sequence; start = block.start; stop = max block.stop r.stop; members = block.members ++ r ∷ [] }
 
 -- the block that is open after the record: the one before, which it joins, or its own
-abbrev pub open_after : ℕ → Option Group → RecordValue → Group
+abbrev pub open_after : ℕ → Option BlockWithMembers → RecordValue → BlockWithMembers
 open_after d None r = block_of r
-open_after d (Some block) r = if is_joined d block r then joined block r else block_of r
+open_after d (Some block) r = if is_joined d block r then block_with block r else block_of r
 
 -- the open block, if there is one
-abbrev pub still_open : Option Group → List Group
+abbrev pub still_open : Option BlockWithMembers → List BlockWithMembers
 still_open None = []
 still_open (Some block) = block ∷ []
 
 -- the open block, if the record closes it
-abbrev pub closed_by : ℕ → Option Group → RecordValue → List Group
+abbrev pub closed_by : ℕ → Option BlockWithMembers → RecordValue → List BlockWithMembers
 closed_by d None r = []
 closed_by d (Some block) r = if is_joined d block r then [] else block ∷ []
 
 -- the blocks that remain, with this one open and these records left
-abbrev pub coming : ℕ → Option Group → List RecordValue → List Group
-coming d current [] = still_open current
-coming d current (r ∷ rs) = closed_by d current r ++ coming d (Some (open_after d current r)) rs
+abbrev pub remaining_blocks : ℕ → Option BlockWithMembers → List RecordValue → List BlockWithMembers
+remaining_blocks d current [] = still_open current
+remaining_blocks d current (r ∷ rs) = closed_by d current r ++ remaining_blocks d (Some (open_after d current r)) rs

@@ -8,15 +8,15 @@ use Rattle.iv_depth.specs.Changes.{AreChangesOf, ChangeKey, Entries, reaches, to
 
 -- these are the net changes of the depth of some records, which are few
 pub record AreChanges (entries : Entries) : Type 0 where
-  pub rows : List RecordValue
-  pub right : AreChangesOf rows entries
-  pub few : length rows < 2 ^ 32
+  pub records : List RecordValue
+  pub right : AreChangesOf records entries
+  pub few : length records < 2 ^ 32
 
 -- the new entries have this change more at the key, and as before keys ascend and no change is 0
-pub record Bumps (old new : Entries) (place : ChangeKey) (by : ℤ) : Type 0 where
+pub record Bumps (old new : Entries) (key : ChangeKey) (by : ℤ) : Type 0 where
   pub ordered : IsLedger pair_cmp new
   pub changes : All (λ z. z ≢ pos 0) (values_of old) → All (λ z. z ≢ pos 0) (values_of new)
-  pub sums : (passes : ChangeKey → Bool) → total passes new ≡ total passes old +ℤ (if passes place then by else pos 0)
+  pub sums : (passes : ChangeKey → Bool) → total passes new ≡ total passes old +ℤ (if passes key then by else pos 0)
 
 -- the new entries change the depth by this number at each position that the record covers, and as before keys ascend and no
 -- change is 0

@@ -1,7 +1,7 @@
 -- Starts and stops of records, as numbers in order, and the net changes of depth there. This is the state of a sweep and of a build,
 -- as seen by their proofs.
 use Rattle.std.specs.Prelude.{◌≡◌, ◌≢◌, ℕ, ◌+◌, ◌<◌, ◌≤◌, ◌^◌, nat_le, Bool, List, [], ◌∷◌, Option, Some, None, length, map, count_by, if◌then◌else◌, ℤ, pos, ◌+ℤ◌, ◌-ℤ◌}
-use Rattle.iv_index.specs.declared.span.Span.{Span}
+use Rattle.iv_locators.specs.declared.span.Span.{Span}
 
 -- where the intervals start
 abbrev pub starts_of : List Span → List ℕ

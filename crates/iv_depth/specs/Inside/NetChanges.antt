@@ -18,10 +18,10 @@ abbrev pub reached : ℕ → ℕ → List ℕ → ℕ
 reached rank p keys = count_by (λ key. reaches rank p (change_key_of key)) keys
 
 -- at these keys the records start and stop, and there are no others; both rise
-pub record AreEdgesOf (rows : List RecordValue) (starts stops : List ℕ) : Type 0 where
+pub record AreEdgesOf (records : List RecordValue) (starts stops : List ℕ) : Type 0 where
   pub starts_rise : Rise 0 starts
   pub stops_rise : Rise 0 stops
-  pub depths : (rank p : ℕ) → depth rows rank p + reached rank p stops ≡ reached rank p starts
+  pub depths : (rank p : ℕ) → depth records rank p + reached rank p stops ≡ reached rank p starts
 
 -- a call gave the next change that is not 0 with the rank and position of its key, or there is none
 abbrev pub GivesKeyChange : Remaining → Option (ChangeKey × ℤ) → Remaining → Type 0

@@ -2,7 +2,7 @@
 use Rattle.std.specs.Prelude.{ℕ, ◌++◌, List, [], Option, None, Some, map, reverse, codes, slice_range, if◌then◌else◌}
 use Rattle.iv_text.specs.Genome.{Sequences}
 use Rattle.iv_text.specs.RecordValue.{RecordValue}
-use Rattle.iv_fasta.specs.declared.rows.FastaRows.{FastaRows}
+use Rattle.iv_fasta.specs.declared.rows.FastaOutput.{FastaOutput}
 use Rattle.iv_fasta.specs.Complement.{complement}
 use Rattle.iv_fasta.specs.FastaRows.{framed, head, shown_bases, shown_strand}
 
@@ -11,11 +11,11 @@ abbrev pub opposite : List ℕ → List ℕ
 opposite bases = map complement (reverse bases)
 
 -- the row of a record beside the bases of its sequence: nothing if there are none
-abbrev pub row_beside : FastaRows → Sequences → RecordValue → Option (List ℕ) → List ℕ
-row_beside shown g r None = []
-row_beside shown g r (Some bases) = framed shown (head shown g r) (shown_bases (shown_strand shown r) (slice_range bases r.start r.stop))
+abbrev pub row_beside : FastaOutput → Sequences → RecordValue → Option (List ℕ) → List ℕ
+row_beside output g r None = []
+row_beside output g r (Some bases) = framed output (head output g r) (shown_bases (shown_strand output r) (slice_range bases r.start r.stop))
 
 -- what is before the bases of a row
-abbrev pub front : FastaRows → Sequences → RecordValue → List ℕ
-front shown g r =
-    (if shown.tab then [] else codes ">") ++ head shown g r ++ (if shown.tab then codes "\t" else codes "\n")
+abbrev pub front : FastaOutput → Sequences → RecordValue → List ℕ
+front output g r =
+    (if output.tab then [] else codes ">") ++ head output g r ++ (if output.tab then codes "\t" else codes "\n")

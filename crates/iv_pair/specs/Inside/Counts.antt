@@ -3,7 +3,7 @@ use Rattle.std.specs.Prelude.{◌≡◌, ◌<◌, ℕ, ◌==◌, ◌&&◌, ◌||
 use Rattle.std.specs.List.Sorted.{IsPartitionedBy}
 use Rattle.iv_text.specs.Ordered.{AreInOrder}
 use Rattle.iv_text.specs.RecordValue.{RecordValue}
-use Rattle.iv_index.specs.declared.locator.Locator.{Locator}
+use Rattle.iv_locators.specs.declared.locator.Locator.{Locator}
 use Rattle.iv_pair.specs.declared.count_sweep.End.{End}
 
 -- whether position p of the sequence of rank s is before position `at` of the sequence of rank `seq`
@@ -24,7 +24,7 @@ ends_by seq at b = is_up_to seq at b.seq b.stop
 
 -- whether a locator begins before a position
 abbrev pub place_before : ℕ → ℕ → Locator → Bool
-place_before seq at place = is_before seq at place.span.seq place.span.start
+place_before seq at locator = is_before seq at locator.span.seq locator.span.start
 
 -- whether an end is at a position or before it
 abbrev pub end_by : ℕ → ℕ → End → Bool
@@ -32,7 +32,7 @@ end_by seq at end = is_up_to seq at end.seq end.stop
 
 -- the locators are in order of where they begin
 abbrev pub StartsAscend : List Locator → Type 0
-StartsAscend places = (seq at : ℕ) → IsPartitionedBy (place_before seq at) places
+StartsAscend locators = (seq at : ℕ) → IsPartitionedBy (place_before seq at) locators
 
 -- the ends are in order
 abbrev pub EndsAscend : List End → Type 0
@@ -40,18 +40,18 @@ EndsAscend ends = (seq at : ℕ) → IsPartitionedBy (end_by seq at) ends
 
 -- where a locator ends
 abbrev pub end_of : Locator → End
-end_of place = record { seq = place.span.seq; stop = place.span.stop }
+end_of locator = record { seq = locator.span.seq; stop = locator.span.stop }
 
 -- these are the ends of the records, in order
-pub record AreEndsOf (ends : List End) (rows : List RecordValue) : Type 0 where
+pub record AreEndsOf (ends : List End) (records : List RecordValue) : Type 0 where
   pub ascend : EndsAscend ends
-  pub counts : (seq at : ℕ) → count_by (end_by seq at) ends ≡ count_by (ends_by seq at) rows
+  pub counts : (seq at : ℕ) → count_by (end_by seq at) ends ≡ count_by (ends_by seq at) records
 
 -- these locators have the intervals of the records, in order, and each record has a base
-pub record AreStartsOf (places : List Locator) (rows : List RecordValue) : Type 0 where
-  pub ascend : StartsAscend places
-  pub counts : (seq at : ℕ) → count_by (place_before seq at) places ≡ count_by (begins_before seq at) rows
-  pub some : All (λ (b : RecordValue). b.start < b.stop) rows
+pub record AreStartsOf (locators : List Locator) (records : List RecordValue) : Type 0 where
+  pub ascend : StartsAscend locators
+  pub counts : (seq at : ℕ) → count_by (place_before seq at) locators ≡ count_by (begins_before seq at) records
+  pub some : All (λ (b : RecordValue). b.start < b.stop) records
 
 -- two lists in order, and the ends of the second
 pub record IsCountSweep (ends : List End) (first second : List RecordValue) : Type 0 where
@@ -60,6 +60,6 @@ pub record IsCountSweep (ends : List End) (first second : List RecordValue) : Ty
   pub second_ordered : AreInOrder second
 
 -- records in order, and where they end
-pub record AreCounted (ends : List End) (rows : List RecordValue) : Type 0 where
-  pub ends_are : AreEndsOf ends rows
-  pub ordered : AreInOrder rows
+pub record AreCounted (ends : List End) (records : List RecordValue) : Type 0 where
+  pub ends_are : AreEndsOf ends records
+  pub ordered : AreInOrder records

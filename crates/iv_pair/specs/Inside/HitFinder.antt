@@ -35,22 +35,22 @@ HitAlike seq start xs ys = (s t stop : ℕ) → IsOnward seq start s t → hits 
 
 -- each of these records has this position
 abbrev pub AllCover : ℕ → ℕ → List RecordValue → Type 0
-AllCover seq start rows = All (λ b. covers seq start b ≡ true) rows
+AllCover seq start walk = All (λ b. covers seq start b ≡ true) walk
 
 -- each of these records starts at this position or before it
 abbrev pub AllBegun : ℕ → ℕ → List RecordValue → Type 0
-AllBegun seq start rows = All (λ (b : RecordValue). IsOnward b.seq b.start seq start) rows
+AllBegun seq start walk = All (λ (b : RecordValue). IsOnward b.seq b.start seq start) walk
 
 -- the records carried and those ahead have the hits of all records from this position on
-pub record IsPlaced (records carried rows : List RecordValue) (seq start : ℕ) : Type 0 where
+pub record IsPlaced (records carried walk : List RecordValue) (seq start : ℕ) : Type 0 where
   pub cover : AllCover seq start carried
-  pub alike : HitAlike seq start (carried ++ rows) records
-  pub rows_ordered : AreInOrder rows
-  pub rows_few : length rows < 2 ^ 32
+  pub alike : HitAlike seq start (carried ++ walk) records
+  pub rows_ordered : AreInOrder walk
+  pub rows_few : length walk < 2 ^ 32
 
 -- the search is at this position, and on its sequence no record is longer than `longest`
-pub record StandsAt (records carried rows : List RecordValue) (seq start longest : ℕ) : Type 0 where
-  pub placed : IsPlaced records carried rows seq start
+pub record StandsAt (records carried walk : List RecordValue) (seq start longest : ℕ) : Type 0 where
+  pub placed : IsPlaced records carried walk seq start
   pub ordered : AreInOrder records
   pub few : length records < 2 ^ 32
   pub up_to : AreUpTo seq longest records

@@ -5,8 +5,8 @@ use Rattle.iv_text.specs.Genome.{Sequences}
 use Rattle.iv_text.specs.RecordValue.{RecordValue, part}
 use Rattle.iv_track.specs.Regions.{overlaps}
 use Rattle.iv_pair.specs.IntersectRows.{record_line, pair_line, shared}
-use Rattle.iv_pair.specs.declared.intersect.IntersectRows.{IntersectRows}
-use Rattle.iv_pair.specs.declared.intersect.IntersectRows.TheVariants.{Shared, SharedAndHit, Whole, WholeAndHit, IfHit, IfNoHit, Count}
+use Rattle.iv_pair.specs.declared.intersect.IntersectOutput.{IntersectOutput}
+use Rattle.iv_pair.specs.declared.intersect.IntersectOutput.TheVariants.{Shared, SharedAndHit, Whole, WholeAndHit, IfHit, IfNoHit, Count}
 
 -- b shares a position with a
 abbrev pub Overlaps : RecordValue → RecordValue → Type 0
@@ -17,7 +17,7 @@ abbrev pub AllOverlap : RecordValue → List RecordValue → Type 0
 AllOverlap a found = AllByRecursion (Overlaps a) found
 
 -- the line of a record and one hit, empty if there is not a line for each hit
-abbrev pub hit_line : IntersectRows → Sequences → RecordValue → RecordValue → List ℕ
+abbrev pub hit_line : IntersectOutput → Sequences → RecordValue → RecordValue → List ℕ
 hit_line Shared g a b = record_line g (shared a b)
 hit_line SharedAndHit g a b = pair_line g (shared a b) b
 hit_line Whole g a b = record_line g a

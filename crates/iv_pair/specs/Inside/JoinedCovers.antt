@@ -5,7 +5,7 @@ use Rattle.iv_text.specs.RecordValue.{RecordValue}
 use Rattle.iv_pair.specs.Inside.HitFinder.{HitAlike}
 
 -- no interval from this position on has a hit among the first so many
-pub record IsSearch (rows : List RecordValue) (passed seq start : ℕ) : Type 0 where
-  pub ordered : AreInOrder rows
-  pub within : passed ≤ length rows
-  pub alike : HitAlike seq start (drop passed rows) rows
+pub record IsSearch (records : List RecordValue) (passed seq start : ℕ) : Type 0 where
+  pub ordered : AreInOrder records
+  pub within : passed ≤ length records
+  pub alike : HitAlike seq start (drop passed records) records

@@ -14,7 +14,7 @@ length_of r = (r.seq, r.stop - r.start)
 
 -- how many of the records have this length
 abbrev pub with_length : List RecordValue → ℕ × ℕ → ℕ
-with_length rows k = count_by (λ r. is_eq (pair_cmp k (length_of r))) rows
+with_length records k = count_by (λ r. is_eq (pair_cmp k (length_of r))) records
 
 -- a map from lengths of 32 bits to numbers that are not 0
 pub record IsTally (es : List ((ℕ × ℕ) × ℕ)) : Type 0 where
@@ -23,15 +23,15 @@ pub record IsTally (es : List ((ℕ × ℕ) × ℕ)) : Type 0 where
   pub small : All (λ (k : ℕ × ℕ). k.1 < 2 ^ 32) (keys_of es)
 
 -- the map has each length that occurs, with the number of records that have it, and no other
-pub record AreLengths (es : List ((ℕ × ℕ) × ℕ)) (rows : List RecordValue) : Type 0 where
+pub record AreLengths (es : List ((ℕ × ℕ) × ℕ)) (records : List RecordValue) : Type 0 where
   pub tally : IsTally es
-  pub counts : (k : ℕ × ℕ) → copies_by pair_cmp (expanded es) k ≡ with_length rows k
+  pub counts : (k : ℕ × ℕ) → copies_by pair_cmp (expanded es) k ≡ with_length records k
 
 -- the invariant of a second file: the map has the lengths of its track's records, of which there are no more than the limit
 pub record IsSecond (es : List ((ℕ × ℕ) × ℕ)) (track : Tracked) : Type 0 where
-  pub counted : AreLengths es track.rows
-  pub few : length track.rows ≤ track.limit
+  pub counted : AreLengths es track.records
+  pub few : length track.records ≤ track.limit
 
 -- no record on the sequence of this rank has more positions than n
 abbrev pub AreUpTo : ℕ → ℕ → List RecordValue → Type 0
-AreUpTo seq n rows = All (λ q. q.seq ≡ seq → q.stop ≤ q.start + n) rows
+AreUpTo seq n records = All (λ q. q.seq ≡ seq → q.stop ≤ q.start + n) records

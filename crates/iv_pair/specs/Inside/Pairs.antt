@@ -5,6 +5,6 @@ use Rattle.iv_pair.specs.Hits.{hits_of}
 use Rattle.iv_pair.specs.Pairs.{Pairs}
 
 -- the next record of the first list was given, and its hits are those of the whole second list; or there was none left
-abbrev pub Gives : Pairs → Option RecordValue → Pairs → Type 0
-Gives old None new = old.first ≡ []
-Gives old (Some a) new = (old.first ≡ a ∷ new.first) × (new.second ≡ old.second) × (new.found ≡ hits_of old.second a)
+abbrev pub GivesPair : Pairs → Option RecordValue → Pairs → Type 0
+GivesPair old None new = old.first ≡ []
+GivesPair old (Some a) new = (old.first ≡ a ∷ new.first) × (new.second ≡ old.second) × (new.found ≡ hits_of old.second a)

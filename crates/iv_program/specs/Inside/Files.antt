@@ -2,7 +2,7 @@
 use Rattle.std.specs.Prelude.{◌≡◌, ◌<◌, ◌⊎◌, ◌++◌, ℕ, List, Bool, true, false, IfSome, Some, length}
 use Rattle.std.specs.List.{All}
 use Rattle.std.specs.Option.{option_to_list}
-use Rattle.iv_args.specs.Words.{RunPlan, file_of}
+use Rattle.iv_args.specs.Arguments.{RunPlan, file_of}
 use Rattle.iv_args.specs.declared.plan.Slot.{Slot}
 use Rattle.iv_args.specs.declared.plan.Slot.TheVariants.{Bases}
 use Rattle.iv_run.specs.declared.fault.FileFault.{FileFault}

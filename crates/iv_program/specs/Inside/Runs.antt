@@ -5,7 +5,7 @@ use Rattle.iv_text.specs.Genome.{Sequences}
 use Rattle.iv_session.specs.Streams.{Streams}
 use Rattle.iv_session.specs.declared.script.RunFault.{RunFault}
 use Rattle.iv_session.specs.declared.script.Summary.{Summary}
-use Rattle.iv_args.specs.Words.{RunPlan, is_session}
+use Rattle.iv_args.specs.Arguments.{RunPlan, is_session}
 use Rattle.iv_args.specs.declared.plan.Slot.{Slot}
 use Rattle.iv_args.specs.declared.subcommand.Subcommand.TheVariants as kind
 use Rattle.iv_run.specs.Shots.{Shows, shown}

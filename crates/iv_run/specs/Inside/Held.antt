@@ -5,7 +5,7 @@ use Rattle.iv_text.specs.BedReading.{Reading}
 use Rattle.iv_text.specs.Genome.{Sequences}
 use Rattle.iv_text.specs.Read.{Fits}
 use Rattle.iv_text.specs.declared.fault.LoadFault.{LoadFault}
-use Rattle.iv_index.specs.Locators.{bare}
+use Rattle.iv_locators.specs.Locators.{bare}
 use Rattle.iv_run.specs.Pieces.{SaysSoFar}
 use Rattle.iv_run.specs.Loading.{IsAnswer}
 use Rattle.iv_run.specs.declared.held_bed.Columns.{Columns}
@@ -18,7 +18,7 @@ pub record Held : Type 0 where
 
 -- if there is a file instead of its text, its records have three columns, and are on the genome
 abbrev pub AreIntervals : Sequences → Held → Type 0
-AreIntervals g held = IfSome held.intervals (λ said. IfOk said (λ file. (file.width ≡ 3) × All (Fits g 3) file.rows))
+AreIntervals g held = IfSome held.intervals (λ said. IfOk said (λ file. (file.width ≡ 3) × All (Fits g 3) file.records))
 
 -- this text, or what a call answers with the BED file of it
 abbrev pub IsHeldBy : Sequences → ℕ → ℕ → List ℕ → List ℕ → Option (Result Bed LoadFault) → Type 0

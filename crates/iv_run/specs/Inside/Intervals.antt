@@ -2,10 +2,10 @@
 use Rattle.std.specs.Prelude.{◌≡◌, List, None, map}
 use Rattle.iv_text.specs.Genome.{Sequences}
 use Rattle.iv_text.specs.RecordValue.{RecordValue}
-use Rattle.iv_index.specs.Locators.{bare}
+use Rattle.iv_locators.specs.Locators.{bare}
 use Rattle.iv_view.specs.Views.{kept_text}
 use Rattle.iv_view.specs.declared.view.KeptView.{KeptView}
 
 -- on each genome and for each list of records, the text stays as it is if only the intervals of the records are held
 abbrev pub NeedsIntervalsAlone : KeptView → Type 0
-NeedsIntervalsAlone view = (g : Sequences) (rows : List RecordValue) → kept_text None view g (map bare rows) ≡ kept_text None view g rows
+NeedsIntervalsAlone view = (g : Sequences) (records : List RecordValue) → kept_text None view g (map bare records) ≡ kept_text None view g records

@@ -8,7 +8,7 @@ use Rattle.iv_text.specs.RecordValue.{RecordValue}
 use Rattle.iv_text.specs.declared.fault.Fault.{Fault}
 use Rattle.iv_text.specs.declared.fault.LoadFault.{LoadFault}
 use Rattle.iv_fasta.specs.Fasta.{Bases, fasta_of}
-use Rattle.iv_view.specs.Views.{read_words, shown_text}
+use Rattle.iv_view.specs.Views.{read_arguments, shown_text}
 use Rattle.iv_view.specs.declared.view.View.{View}
 use Rattle.iv_run.specs.Loading.{Parsed}
 
@@ -22,12 +22,12 @@ bases_said g text = option_transpose (option_map (fasta_of g) text)
 
 -- the records of a second file in track order, none without one
 abbrev pub ordered_other : Option Bed → List RecordValue
-ordered_other second = unwrap_or (option_map (λ file. ordered file.rows) second) []
+ordered_other second = unwrap_or (option_map (λ file. ordered file.records) second) []
 
--- the view that words ask for beside these files, at the width of the records
+-- the view that arguments ask for beside these files, at the width of the records
 abbrev pub view_beside : Parsed → List (List ℕ) → Result View Fault
-view_beside files words = read_words files.first.width (is_some files.second) (is_some files.bases) words
+view_beside files arguments = read_arguments files.first.width (is_some files.second) (is_some files.bases) arguments
 
 -- what the view prints for the files: its text for their records in track order
 abbrev pub text_beside : Parsed → View → List ℕ
-text_beside files view = shown_text None view files.genome (ordered files.first.rows) (ordered_other files.second) (unwrap_or files.bases [])
+text_beside files view = shown_text None view files.genome (ordered files.first.records) (ordered_other files.second) (unwrap_or files.bases [])

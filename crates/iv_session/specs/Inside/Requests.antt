@@ -16,7 +16,7 @@ abbrev pub RequestFits : State → Request → Type 0
 RequestFits s (request.Edit target e) = EditFits (FitsIn s target) e
 RequestFits s (request.Resize name n) = n ≤ most_length
 RequestFits s request.Nothing = Unit {0}
-RequestFits s (request.Open name words) = Unit {0}
+RequestFits s (request.Open name arguments) = Unit {0}
 RequestFits s (request.Close name) = Unit {0}
 RequestFits s (request.Print name part) = IfSome part (IsWithin s.genome)
 RequestFits s (request.PrintAll part) = IfSome part (IsWithin s.genome)

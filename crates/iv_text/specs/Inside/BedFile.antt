@@ -17,11 +17,11 @@ width_at d line = unwrap_or d.width (length (columns line))
 
 -- what is known with one more record of this width, unless its line has a fault or there are as many as the limit
 abbrev pub with_row : ℕ → ℕ → List RecordValue → Result RecordValue Fault → Result Draft LoadCause
-with_row limit width rows read =
+with_row limit width records read =
     if_ok (map_fault cause.Record read) (λ r.
-    cond (nat_le limit (length rows)) (Err cause.TooMany) (Ok (record { width = Some width; rows = rows ++ r ∷ [] })))
+    cond (nat_le limit (length records)) (Err cause.TooMany) (Ok (record { width = Some width; records = records ++ r ∷ [] })))
 
 -- what is known of a file is sound: its records are of its width on this genome, and not more than the limit
 pub record IsSoundDraft (g : Sequences) (limit : ℕ) (d : Draft) : Type 0 where
-  pub fit : MatchOption d.width (d.rows ≡ []) (λ w. (3 ≤ w) × (w ≤ 6) × All (Fits g w) d.rows)
-  pub few : length d.rows ≤ limit
+  pub fit : MatchOption d.width (d.records ≡ []) (λ w. (3 ≤ w) × (w ≤ 6) × All (Fits g w) d.records)
+  pub few : length d.records ≤ limit

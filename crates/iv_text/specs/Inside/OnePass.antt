@@ -78,4 +78,4 @@ pub record BeginsWithCells (width : ℕ) (text name score strand rest : List ℕ
 
 -- the text begins with a line of this record that has so many bytes and is read in one pass
 abbrev pub IsFirstLine : Sequences → ℕ → List ℕ → RecordValue → ℕ → Type 0
-IsFirstLine g width text row size = (l : FastLine) × (fast : IsFastLine g width text l) × (fast.row ≡ row) × (l.size ≡ size)
+IsFirstLine g width text feature size = (l : FastLine) × (fast : IsFastLine g width text l) × (fast.feature ≡ feature) × (l.size ≡ size)

@@ -23,7 +23,7 @@ module _ {K : Type 0} (cmp : K → K → Ordering) where
 
 -- each record is greater than the one before it, in the order of a track
 abbrev pub AreDistinct : List RecordValue → Type 0
-AreDistinct rows = ascends record_cmp true None rows ≡ true
+AreDistinct records = ascends record_cmp true None records ≡ true
 
 -- the one that was read ahead, if there is one, and those that are left
 abbrev pub left : {K : Type 0} → Option K → List K → List K
@@ -35,8 +35,8 @@ abbrev pub GivesEntry : List (RecordValue × ℕ) → Option (RecordValue × ℕ
 GivesEntry old given new = YieldsFirst (λ es. es) old given new × IfSome given (λ e. IsPlaced e.0)
 
 -- the entries of a list in order: its different records in order, which are placed, each with the number of its copies
-pub record AreCounted (es : List (RecordValue × ℕ)) (rows : List RecordValue) : Type 0 where
-  pub rows_are : expanded es ≡ rows
+pub record AreCounted (es : List (RecordValue × ℕ)) (records : List RecordValue) : Type 0 where
+  pub rows_are : expanded es ≡ records
   pub ordered : IsLedger record_cmp es
   pub present : All (λ n. 0 < n) (values_of es)
   pub placed : All IsPlaced (keys_of es)

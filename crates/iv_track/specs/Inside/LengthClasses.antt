@@ -9,9 +9,9 @@ length_class r = 32 - count_leading_zeros 32 (r.stop - r.start)
 
 -- how many of the records have so many digits
 abbrev pub with_class : List RecordValue → ℕ → ℕ
-with_class rows k = count_by (λ r. length_class r == k) rows
+with_class records k = count_by (λ r. length_class r == k) records
 
 -- there is a counter for each number of digits, and it says how many of the records have so many
-pub record AreClasses (counts : List ℕ) (rows : List RecordValue) : Type 0 where
+pub record AreClasses (counts : List ℕ) (records : List RecordValue) : Type 0 where
   pub classes : length counts ≡ 33
-  pub counted : (k : ℕ) → slice_index_or counts k 0 ≡ with_class rows k
+  pub counted : (k : ℕ) → slice_index_or counts k 0 ≡ with_class records k

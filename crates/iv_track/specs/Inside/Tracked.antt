@@ -31,4 +31,4 @@ pub record AreParts (es : List (RecordValue × ℕ)) (len width limit : ℕ) (cl
 
 -- the records before the end of a region: those that a walk passes until it knows that no other hit comes
 abbrev pub starting_before : Region → List RecordValue → List RecordValue
-starting_before at rows = filter (λ r. not (is_from at.seq at.stop r)) rows
+starting_before at records = filter (λ r. not (is_from at.seq at.stop r)) records

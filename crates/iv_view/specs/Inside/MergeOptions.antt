@@ -1,4 +1,4 @@
--- The options of `merge` and `cluster`, and their words.
+-- The options of `merge` and `cluster`, and their arguments.
 use Rattle.std.specs.Prelude.{ℕ, if◌then◌else◌, List, [], ◌∷◌, ◌++◌, map, codes}
 use Rattle.std.specs.Option.{option_to_list}
 use Rattle.iv_view.specs.Merge.{MergeArgs}
@@ -10,17 +10,17 @@ pub data MergeOption : Type 0 where
   Ops : (value : List ℕ) → MergeOption
   Stranded : MergeOption
 
--- the words of an option: `-d`, `-c` or `-o` with the value after it, or `-s` alone
+-- the arguments of an option: `-d`, `-c` or `-o` with the value after it, or `-s` alone
 abbrev pub words_of : MergeOption → List (List ℕ)
 words_of (Distance value) = codes "-d" ∷ value ∷ []
 words_of (Columns value) = codes "-c" ∷ value ∷ []
 words_of (Ops value) = codes "-o" ∷ value ∷ []
 words_of Stranded = codes "-s" ∷ []
 
--- the words of options, one option after another
-abbrev pub option_words : List MergeOption → List (List ℕ)
-option_words [] = []
-option_words (first ∷ options) = words_of first ++ option_words options
+-- the arguments of options, one option after another
+abbrev pub option_arguments : List MergeOption → List (List ℕ)
+option_arguments [] = []
+option_arguments (first ∷ options) = words_of first ++ option_arguments options
 
 -- the options that are given, each once
 abbrev pub options_of : MergeArgs → List MergeOption

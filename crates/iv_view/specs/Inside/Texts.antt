@@ -7,4 +7,4 @@ use Rattle.iv_pair.specs.IntersectRows.{record_line}
 
 -- the line of each record, in the order of the list
 abbrev pub records_text : Sequences → List RecordValue → List ℕ
-records_text g rows = flat_map (record_line g) rows
+records_text g records = flat_map (record_line g) records

@@ -14,8 +14,8 @@ use Rattle.iv_workspace.specs.OpenViews.{Shown}
 pub record IsTrackOn (genome : Sequences) (track : Tracked) : Type 0 where
   pub low : 3 ≤ track.width
   pub high : track.width ≤ 6
-  pub fit : All (Fits genome track.width) track.rows
-  pub few : length track.rows ≤ track.limit
+  pub fit : All (Fits genome track.width) track.records
+  pub few : length track.records ≤ track.limit
 
 -- if a view needs a second file, there is one
 abbrev pub IsServed : Option Tracked → View → Type 0

@@ -53,15 +53,15 @@ NoneNeeds what views = AllByRecursion (λ v. v.1.stale ≡ false → state_key_o
 
 -- the state of an open view, if it has one, is right, and is of what is kept of the view, which is current
 abbrev pub IsOwnRight : {A : Type 0} → OpenView A → List (List ℕ) → List RecordValue → Type 0
-IsOwnRight v names rows = IfSome v.state (λ k. (v.stale ≡ false) × (state_key_of v.view ≡ Some (built_for k)) × IsRight k names rows)
+IsOwnRight v names records = IfSome v.state (λ k. (v.stale ≡ false) × (state_key_of v.view ≡ Some (built_for k)) × IsRight k names records)
 
 -- those of open views are
 abbrev pub AreOwnRight : {A : Type 0} → List (List ℕ × OpenView A) → List (List ℕ) → List RecordValue → Type 0
-AreOwnRight views names rows = AllByRecursion (λ v. IsOwnRight v.1 names rows) views
+AreOwnRight views names records = AllByRecursion (λ v. IsOwnRight v.1 names records) views
 
 -- the states of open views are right, and each view that is current has the state that it needs, its own or that of another
 abbrev pub AreRight : {A : Type 0} → List (List ℕ × OpenView A) → List (List ℕ) → List RecordValue → Type 0
-AreRight views names rows = AreOwnRight views names rows × HaveStates (all_owned views) (all_seen views)
+AreRight views names records = AreOwnRight views names records × HaveStates (all_owned views) (all_seen views)
 
 -- the records before and after: one of the two is the other with one more copy of r
 abbrev pub IsChanged : Change → RecordValue → List RecordValue → List RecordValue → Type 0
@@ -70,42 +70,42 @@ IsChanged Removed r before after = before ≡ added after r
 
 -- that one of the two that has the copy, by the records after the edit
 abbrev pub with_edited : Change → List RecordValue → RecordValue → List RecordValue
-with_edited Added rows r = rows
-with_edited Removed rows r = added rows r
+with_edited Added records r = records
+with_edited Removed records r = added records r
 
 -- what is kept was right for the records before the edit
-pub record WasRight {S : Type 0} (change : Change) (is_right : S → List RecordValue → Type 0) (state : S) (rows : List RecordValue) (r : RecordValue) : Type 0 where
+pub record WasRight {S : Type 0} (change : Change) (is_right : S → List RecordValue → Type 0) (state : S) (records : List RecordValue) (r : RecordValue) : Type 0 where
   pub before : List RecordValue
   pub right : is_right state before
-  pub changed : IsChanged change r before rows
+  pub changed : IsChanged change r before records
 
 -- an open view's own state was repaired: it is the same view, and stays stale if it was; if the state wasn't lost, nothing
 -- else has changed; `with_r` are the records with r
-pub record IsRepaired {A : Type 0} (names : List (List ℕ)) (rows with_r : List RecordValue) (r : RecordValue) (kept : Bool) (old new : OpenView A) (before after : ℕ) : Type 0 where
+pub record IsRepaired {A : Type 0} (names : List (List ℕ)) (records with_r : List RecordValue) (r : RecordValue) (kept : Bool) (old new : OpenView A) (before after : ℕ) : Type 0 where
   pub same : new.view ≡ old.view
   pub stays : old.stale ≡ true → new.stale ≡ true
   pub unless : kept ≡ true → (new.stale ≡ old.stale) × (owned new ≡ owned old)
   pub written : state_key_of old.view ≡ None → new.stale ≡ old.stale
-  pub right : IsOwnRight new names rows
+  pub right : IsOwnRight new names records
   pub steps : TakesUpTo before after (view_steps (seen old) with_r r)
 
 -- the own states of open views were repaired; if none was lost, the views are seen as before
-pub record AreRepaired {A : Type 0} (names : List (List ℕ)) (rows with_r : List RecordValue) (r : RecordValue) (kept : Bool) (old new : List (List ℕ × OpenView A)) (before after : ℕ) : Type 0 where
+pub record AreRepaired {A : Type 0} (names : List (List ℕ)) (records with_r : List RecordValue) (r : RecordValue) (kept : Bool) (old new : List (List ℕ × OpenView A)) (before after : ℕ) : Type 0 where
   pub unless : kept ≡ true → (all_seen new ≡ all_seen old) × (all_owned new ≡ all_owned old)
   pub stales : Stales (all_seen old) (all_seen new)
-  pub right : AreOwnRight new names rows
+  pub right : AreOwnRight new names records
   pub steps : TakesUpTo before after (all_steps (all_seen old) with_r r)
 
 -- the views whose state is lost, their own or that of another, were made stale
 pub record AreMarked {A : Type 0} (old new : List (List ℕ × OpenView A)) : Type 0 where
-  pub right : (names : List (List ℕ)) (rows : List RecordValue) → AreOwnRight old names rows → AreOwnRight new names rows
+  pub right : (names : List (List ℕ)) (records : List RecordValue) → AreOwnRight old names records → AreOwnRight new names records
   pub stales : Stales (all_seen old) (all_seen new)
   pub states : HaveStates (all_owned new) (all_seen new)
 
 -- the state that a view needs and no view has: none if a view has it, or if nothing is kept of the view
 abbrev pub IsMissing : {A : Type 0} → List (Option StateKey) → View → List (List ℕ) → List RecordValue → Option (KeptState A) → Type 0
-IsMissing states view names rows None = IsKept states view
-IsMissing states view names rows (Some k) = (state_key_of view ≡ Some (built_for k)) × IsRight k names rows
+IsMissing states view names records None = IsKept states view
+IsMissing states view names records (Some k) = (state_key_of view ≡ Some (built_for k)) × IsRight k names records
 
 -- the views, that at an index current
 abbrev pub current_at : ℕ → List (List ℕ × Shown) → List (List ℕ × Shown)

@@ -81,11 +81,11 @@ impl<A: Allocator + Copy> Session<A> {
         ensures err { OnErr result (self.new ≡ self.old) }
     {
         match (target, edit) {
-            (Target::First, Edit::Add(row)) => self.add(row),
-            (Target::First, Edit::Remove(row)) => self.remove(row),
+            (Target::First, Edit::Add(feature)) => self.add(feature),
+            (Target::First, Edit::Remove(feature)) => self.remove(feature),
             (Target::First, Edit::Replace(old, new)) => self.replace(old, new),
-            (Target::Second, Edit::Add(row)) => self.add_second(row),
-            (Target::Second, Edit::Remove(row)) => self.remove_second(row),
+            (Target::Second, Edit::Add(feature)) => self.add_second(feature),
+            (Target::Second, Edit::Remove(feature)) => self.remove_second(feature),
             (Target::Second, Edit::Replace(old, new)) => self.replace_second(old, new),
         }
     }
@@ -94,17 +94,22 @@ impl<A: Allocator + Copy> Session<A> {
     ///
     /// `Full` comes exactly if the track holds its limit, unless memory runs out. A record of width 3 needs no
     /// memory for its own copy, and the track needs none for a record that is there. A refusal changes nothing.
-    pub fn add(&mut self, row: &RecordRef<'_>) -> Result<Accepted, EditFault>
-        requires { Fits self.old.genome self.old.track.width row.now }
-        ensures ok { IfOk result (IsDone Target.First (Edit.Add row.now) self.old self.new) }
-        ensures why { IfErr result (RefusesIn Target.First (Edit.Add row.now) self.old) }
+    pub fn add(&mut self, feature: &RecordRef<'_>) -> Result<Accepted, EditFault>
+        requires { Fits self.old.genome self.old.track.width feature.now }
+        ensures ok { IfOk result (IsDone Target.First (Edit.Add feature.now) self.old self.new) }
+        ensures why { IfErr result (RefusesIn Target.First (Edit.Add feature.now) self.old) }
         ensures err { OnErr result (self.new ≡ self.old) }
     {
-        let record = row.to_record(self.alloc)?;
+        let record = feature.to_record(self.alloc)?;
         let mut meter = Meter::new();
         self.track.add(record, &mut meter)?;
-        self.views
-            .repair(Change::Added, &self.track, &self.genome, row, &mut meter);
+        self.views.repair(
+            Change::Added,
+            &self.track,
+            &self.genome,
+            feature,
+            &mut meter,
+        );
         Ok(Accepted::of(&meter, &self.views))
     }
 
@@ -112,16 +117,22 @@ impl<A: Allocator + Copy> Session<A> {
     ///
     /// `Absent` comes exactly if there is no copy, unless memory runs out, which is reported only for the copy of
     /// the record that is searched for, never at width 3. A refusal changes nothing.
-    pub fn remove(&mut self, row: &RecordRef<'_>) -> Result<Accepted, EditFault>
-        requires { Fits self.old.genome self.old.track.width row.now }
-        ensures ok { IfOk result (IsDone Target.First (Edit.Remove row.now) self.old self.new) }
-        ensures why { IfErr result (RefusesIn Target.First (Edit.Remove row.now) self.old) }
+    pub fn remove(&mut self, feature: &RecordRef<'_>) -> Result<Accepted, EditFault>
+        requires { Fits self.old.genome self.old.track.width feature.now }
+        ensures ok { IfOk result (IsDone Target.First (Edit.Remove feature.now) self.old self.new) }
+        ensures why { IfErr result (RefusesIn Target.First (Edit.Remove feature.now) self.old) }
         ensures err { OnErr result (self.new ≡ self.old) }
     {
-        let record = row.to_record(self.alloc)?;
+        let record = feature.to_record(self.alloc)?;
         let mut meter = Meter::new();
         self.track.remove(&record, &mut meter)?;
-        self.views.repair(Change::Removed, &self.track, &self.genome, row, &mut meter);
+        self.views.repair(
+            Change::Removed,
+            &self.track,
+            &self.genome,
+            feature,
+            &mut meter,
+        );
         Ok(Accepted::of(&meter, &self.views))
     }
 
@@ -176,11 +187,11 @@ impl<A: Allocator + Copy> Session<A> {
 
     /// Whether there is a second file, and a record is one of its width on the session's genome.
     /// It is for callers outside this repository.
-    pub fn fits_second(&self, row: &RecordRef<'_>) -> bool
-        ensures { IsTrue result ↔ FitsSecond self.now row.now }
+    pub fn fits_second(&self, feature: &RecordRef<'_>) -> bool
+        ensures { IsTrue result ↔ FitsSecond self.now feature.now }
     {
         match self.second_width() {
-            Some(width) => row.fits(&self.genome, width),
+            Some(width) => feature.fits(&self.genome, width),
             None => false,
         }
     }
@@ -189,13 +200,13 @@ impl<A: Allocator + Copy> Session<A> {
     ///
     /// `Full` comes exactly if the second file holds its limit, unless memory runs out. A record of width 3 needs no
     /// memory for its own copy, and the second file needs none for a record that is there. A refusal changes nothing.
-    pub fn add_second(&mut self, row: &RecordRef<'_>) -> Result<Accepted, EditFault>
-        requires { FitsSecond self.old row.now }
-        ensures ok { IfOk result (IsDone Target.Second (Edit.Add row.now) self.old self.new) }
-        ensures why { IfErr result (RefusesIn Target.Second (Edit.Add row.now) self.old) }
+    pub fn add_second(&mut self, feature: &RecordRef<'_>) -> Result<Accepted, EditFault>
+        requires { FitsSecond self.old feature.now }
+        ensures ok { IfOk result (IsDone Target.Second (Edit.Add feature.now) self.old self.new) }
+        ensures why { IfErr result (RefusesIn Target.Second (Edit.Add feature.now) self.old) }
         ensures err { OnErr result (self.new ≡ self.old) }
     {
-        let record = row.to_record(self.alloc)?;
+        let record = feature.to_record(self.alloc)?;
         let mut meter = Meter::new();
         let Some(second) = &mut self.second else {
             unreachable!()
@@ -208,13 +219,13 @@ impl<A: Allocator + Copy> Session<A> {
     ///
     /// `Absent` comes exactly if there is no copy, unless memory runs out, which is reported only for the copy of
     /// the record that is searched for, never at width 3. A refusal changes nothing.
-    pub fn remove_second(&mut self, row: &RecordRef<'_>) -> Result<Accepted, EditFault>
-        requires { FitsSecond self.old row.now }
-        ensures ok { IfOk result (IsDone Target.Second (Edit.Remove row.now) self.old self.new) }
-        ensures why { IfErr result (RefusesIn Target.Second (Edit.Remove row.now) self.old) }
+    pub fn remove_second(&mut self, feature: &RecordRef<'_>) -> Result<Accepted, EditFault>
+        requires { FitsSecond self.old feature.now }
+        ensures ok { IfOk result (IsDone Target.Second (Edit.Remove feature.now) self.old self.new) }
+        ensures why { IfErr result (RefusesIn Target.Second (Edit.Remove feature.now) self.old) }
         ensures err { OnErr result (self.new ≡ self.old) }
     {
-        let record = row.to_record(self.alloc)?;
+        let record = feature.to_record(self.alloc)?;
         let mut meter = Meter::new();
         let Some(second) = &mut self.second else {
             unreachable!()

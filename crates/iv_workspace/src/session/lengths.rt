@@ -21,9 +21,9 @@ pub(crate) fn track_reaches_past<A: Allocator + Copy>(
     meter: &mut Meter,
 ) -> bool
     requires shorter { length < end }
-    requires some { All (λ r. r.start < r.stop) track.now.rows }
-    requires within { All (λ r. r.seq ≡ seq → r.stop ≤ end) track.now.rows }
-    ensures { result ≡ list_any (reaches_past seq length) track.now.rows }
+    requires some { All (λ r. r.start < r.stop) track.now.records }
+    requires within { All (λ r. r.seq ≡ seq → r.stop ≤ end) track.now.records }
+    ensures { result ≡ list_any (reaches_past seq length) track.now.records }
 {
     let cut_off = Region {
         seq,
@@ -41,9 +41,9 @@ pub(crate) fn second_reaches_past<A: Allocator + Copy>(
     end: u64,
 ) -> bool
     requires shorter { length < end }
-    requires some { All (λ r. r.start < r.stop) second.now.rows }
-    requires within { All (λ r. r.seq ≡ seq → r.stop ≤ end) second.now.rows }
-    ensures { result ≡ list_any (reaches_past seq length) second.now.rows }
+    requires some { All (λ r. r.start < r.stop) second.now.records }
+    requires within { All (λ r. r.seq ≡ seq → r.stop ≤ end) second.now.records }
+    ensures { result ≡ list_any (reaches_past seq length) second.now.records }
 {
     second.hits(seq, length, end).next().is_some()
 }

@@ -60,9 +60,9 @@ impl<A: Allocator + Copy> Session<A> {
     ///
     /// `BadName`, `Taken`, `TooMany` if 64 views are open, then the fault of the words, of which `NoSecond` and `NoFasta` come
     /// exactly if they ask for a view that needs a second file or a FASTA file, and there is none; then `NoMemory`.
-    pub fn open_view(&mut self, name: &[u8], words: &[&[u8]]) -> Result<(), ViewFault>
-        ensures ok { OnOk result (Opens self.old name.now (map (λ word. word.now) words.now) self.new) }
-        ensures why { IfErr result (RefusesOpen self.old name.now (map (λ word. word.now) words.now)) }
+    pub fn open_view(&mut self, name: &[u8], arguments: &[&[u8]]) -> Result<(), ViewFault>
+        ensures ok { OnOk result (Opens self.old name.now (map (λ argument. argument.now) arguments.now) self.new) }
+        ensures why { IfErr result (RefusesOpen self.old name.now (map (λ argument. argument.now) arguments.now)) }
         ensures err { OnErr result (self.new ≡ self.old) }
     {
         if !is_view_name(name) {
@@ -76,7 +76,13 @@ impl<A: Allocator + Copy> Session<A> {
         }
         let has_second = self.second.is_some();
         let has_bases = self.fasta.is_some();
-        let view = View::read(self.alloc, self.track.width(), has_second, has_bases, words)?;
+        let view = View::read(
+            self.alloc,
+            self.track.width(),
+            has_second,
+            has_bases,
+            arguments,
+        )?;
         let mut meter = Meter::new();
         let genome = &self.genome;
         self.views
@@ -176,7 +182,7 @@ impl<A: Allocator + Copy> Session<A> {
     ) -> Result<(), PrintFault>
         requires { IfSome part (IsWithin self.old.genome) }
         ensures printed { PrintedNamed part self.old name.now self.new (S.state sink.old) (S.state sink.new) result }
-        ensures steps { NamedPrintsWithin part (view_named self.old.views name.now) self.old.genome self.old.track.rows meter.old meter.new }
+        ensures steps { NamedPrintsWithin part (view_named self.old.views name.now) self.old.genome self.old.track.records meter.old meter.new }
     {
         let Some(view) = self
             .views
@@ -232,7 +238,7 @@ impl<A: Allocator + Copy> Session<A> {
     ) -> Result<(), PrintFault>
         requires { IfSome part (IsWithin self.old.genome) }
         ensures printed { PrintedAll part self.old self.new (S.state sink.old) (S.state sink.new) result }
-        ensures steps { stale_count self.old.views ≡ 0 → AllPrintWithin part self.old.views self.old.genome self.old.track.rows meter.old meter.new }
+        ensures steps { stale_count self.old.views ≡ 0 → AllPrintWithin part self.old.views self.old.genome self.old.track.records meter.old meter.new }
     {
         self.views
             .refresh_all(self.alloc, &self.track, &self.genome, meter)?;
@@ -251,7 +257,7 @@ impl<A: Allocator + Copy> Session<A> {
         requires fresh { All (λ v. v.1.stale ≡ false) self.now.views }
         requires within { IfSome part (IsWithin self.now.genome) }
         ensures text { Puts (S.state sink.old) (S.state sink.new) result (all_text part self.now) }
-        ensures steps { AllPrintWithin part self.now.views self.now.genome self.now.track.rows meter.old meter.new }
+        ensures steps { AllPrintWithin part self.now.views self.now.genome self.now.track.records meter.old meter.new }
     {
         for place in 0..self.views.len() {
             let Some((name, opened)) = self.views.at(place) else {

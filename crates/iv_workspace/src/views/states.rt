@@ -78,18 +78,18 @@ impl<A: Allocator + Copy> OpenView<A> {
         change: Change,
         track: &Track<A>,
         genome: &Genome<A>,
-        row: &RecordRef<'_>,
+        feature: &RecordRef<'_>,
         meter: &mut Meter,
     ) -> bool
-        requires right { WasRight change (λ v rows. IsOwnRight v (names_of genome.now) rows) self.old track.now.rows row.now }
-        requires fit { All (Fits genome.now track.now.width) track.now.rows }
-        requires fits { Fits genome.now track.now.width row.now }
-        ensures { IsRepaired (names_of genome.now) track.now.rows (with_edited change track.now.rows row.now) row.now result self.old self.new meter.old meter.new }
+        requires right { WasRight change (λ v records. IsOwnRight v (names_of genome.now) records) self.old track.now.records feature.now }
+        requires fit { All (Fits genome.now track.now.width) track.now.records }
+        requires fits { Fits genome.now track.now.width feature.now }
+        ensures { IsRepaired (names_of genome.now) track.now.records (with_edited change track.now.records feature.now) feature.now result self.old self.new meter.old meter.new }
     {
         let Some(mut state) = self.state.take() else {
             return true;
         };
-        if repair_state(&mut state, change, track, genome, row, meter).is_err() {
+        if repair_state(&mut state, change, track, genome, feature, meter).is_err() {
             self.stale = true;
             return false;
         }
@@ -104,26 +104,26 @@ fn repair_state<A: Allocator + Copy>(
     change: Change,
     track: &Track<A>,
     genome: &Genome<A>,
-    row: &RecordRef<'_>,
+    feature: &RecordRef<'_>,
     meter: &mut Meter,
 ) -> Result<(), AllocError>
-    requires right { WasRight change (λ s rows. IsRight s (names_of genome.now) rows) state.old track.now.rows row.now }
-    requires fit { All (Fits genome.now track.now.width) track.now.rows }
-    requires fits { Fits genome.now track.now.width row.now }
-    ensures right { OnOk result (IsRight state.new (names_of genome.now) track.now.rows) }
+    requires right { WasRight change (λ s records. IsRight s (names_of genome.now) records) state.old track.now.records feature.now }
+    requires fit { All (Fits genome.now track.now.width) track.now.records }
+    requires fits { Fits genome.now track.now.width feature.now }
+    ensures right { OnOk result (IsRight state.new (names_of genome.now) track.now.records) }
     ensures built_for { OnOk result (built_for state.new ≡ built_for state.old) }
-    ensures steps { TakesUpTo meter.old meter.new (repair_steps (built_for state.old) (with_edited change track.now.rows row.now) row.now) }
+    ensures steps { TakesUpTo meter.old meter.new (repair_steps (built_for state.old) (with_edited change track.now.records feature.now) feature.now) }
 {
     match change {
-        Change::Added => state.added(track, genome, row, meter),
-        Change::Removed => state.removed(track, genome, row, meter),
+        Change::Added => state.added(track, genome, feature, meter),
+        Change::Removed => state.removed(track, genome, feature, meter),
     }
 }
 
 impl<A: Allocator + Copy> Views<A> {
     /// The state that is kept for this, if a view has one.
     pub(super) fn state_for(&self, what: StateKey) -> Option<&KeptState<A>>
-        ensures right { IfSome result (λ k. (names : List (List ℕ)) (rows : List RecordValue) → AreOwnRight self.now names rows → (built_for k.now ≡ what) × IsRight k.now names rows) }
+        ensures right { IfSome result (λ k. (names : List (List ℕ)) (records : List RecordValue) → AreOwnRight self.now names records → (built_for k.now ≡ what) × IsRight k.now names records) }
         ensures owned { IfSome result (λ k. IsOwned what (all_owned self.now)) }
         ensures none { result ≡ None → IsOwned what (all_owned self.now) → ⊥ }
     {
@@ -154,8 +154,8 @@ impl<A: Allocator + Copy> Views<A> {
         genome: &Genome<A>,
         meter: &mut Meter,
     ) -> Result<Option<KeptState<A>>, AllocError>
-        requires { All (Fits genome.now track.now.width) track.now.rows }
-        ensures { IfOk result (λ state. IsMissing (all_owned self.now) view (names_of genome.now) track.now.rows state) }
+        requires { All (Fits genome.now track.now.width) track.now.records }
+        ensures { IfOk result (λ state. IsMissing (all_owned self.now) view (names_of genome.now) track.now.records state) }
     {
         let Some(what) = view.state_key() else {
             return Ok(None);
@@ -170,9 +170,9 @@ impl<A: Allocator + Copy> Views<A> {
     /// Hands the state of a closed view on, if it had one, to the first open one that needs it.
     pub(super) fn hand_on(&mut self, closed: View, state: Option<KeptState<A>>)
         ensures seen { all_seen self.new ≡ all_seen self.old }
-        ensures right { (names : List (List ℕ)) (rows : List RecordValue) → AreOwnRight self.old names rows
+        ensures right { (names : List (List ℕ)) (records : List RecordValue) → AreOwnRight self.old names records
             → HaveStates (kept_with closed state ∷ all_owned self.old) (all_seen self.old)
-            → IfSome state (λ k. (state_key_of closed ≡ Some (built_for k)) × IsRight k names rows) → AreRight self.new names rows }
+            → IfSome state (λ k. (state_key_of closed ≡ Some (built_for k)) × IsRight k names records) → AreRight self.new names records }
     {
         let Some(state) = state else {
             return;
@@ -208,17 +208,17 @@ impl<A: Allocator + Copy> Views<A> {
         change: Change,
         track: &Track<A>,
         genome: &Genome<A>,
-        row: &RecordRef<'_>,
+        feature: &RecordRef<'_>,
         meter: &mut Meter,
     )
-        requires right { WasRight change (λ views rows. AreRight views (names_of genome.now) rows) self.old track.now.rows row.now }
-        requires fit { All (Fits genome.now track.now.width) track.now.rows }
-        requires fits { Fits genome.now track.now.width row.now }
-        ensures right { AreRight self.new (names_of genome.now) track.now.rows }
+        requires right { WasRight change (λ views records. AreRight views (names_of genome.now) records) self.old track.now.records feature.now }
+        requires fit { All (Fits genome.now track.now.width) track.now.records }
+        requires fits { Fits genome.now track.now.width feature.now }
+        ensures right { AreRight self.new (names_of genome.now) track.now.records }
         ensures stales { Stales (all_seen self.old) (all_seen self.new) }
-        ensures steps { TakesUpTo meter.old meter.new (all_steps (all_seen self.old) (with_edited change track.now.rows row.now) row.now) }
+        ensures steps { TakesUpTo meter.old meter.new (all_steps (all_seen self.old) (with_edited change track.now.records feature.now) feature.now) }
     {
-        if !self.repair_each(change, track, genome, row, meter) {
+        if !self.repair_each(change, track, genome, feature, meter) {
             self.mark_stale();
         }
     }
@@ -229,18 +229,18 @@ impl<A: Allocator + Copy> Views<A> {
         change: Change,
         track: &Track<A>,
         genome: &Genome<A>,
-        row: &RecordRef<'_>,
+        feature: &RecordRef<'_>,
         meter: &mut Meter,
     ) -> bool
-        requires right { WasRight change (λ views rows. AreOwnRight views (names_of genome.now) rows) self.old track.now.rows row.now }
-        requires fit { All (Fits genome.now track.now.width) track.now.rows }
-        requires fits { Fits genome.now track.now.width row.now }
-        ensures { AreRepaired (names_of genome.now) track.now.rows (with_edited change track.now.rows row.now) row.now result self.old self.new meter.old meter.new }
+        requires right { WasRight change (λ views records. AreOwnRight views (names_of genome.now) records) self.old track.now.records feature.now }
+        requires fit { All (Fits genome.now track.now.width) track.now.records }
+        requires fits { Fits genome.now track.now.width feature.now }
+        ensures { AreRepaired (names_of genome.now) track.now.records (with_edited change track.now.records feature.now) feature.now result self.old self.new meter.old meter.new }
     {
         let mut kept = true;
         for place in 0..self.views.len() {
             let view = &mut self.views[place];
-            kept &= view.repair(change, track, genome, row, meter);
+            kept &= view.repair(change, track, genome, feature, meter);
         }
         kept
     }

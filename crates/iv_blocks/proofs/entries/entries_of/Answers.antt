@@ -1,7 +1,7 @@
 use Rattle.std.proofs.Common.{◌≡◌, ◌∙◌, ◌++◌, ◌∷◌, [], List, None, Bor, map, sym, ap}
 use Rattle.std.proofs.lemmas.List.{map-append}
 use Rattle.iv_text.specs.RecordValue.{RecordValue}
-use Rattle.iv_cover.specs.Inside.RemainingBlocks.{coming}
+use Rattle.iv_cover.specs.Inside.RemainingBlocks.{remaining_blocks}
 use Rattle.iv_cover.specs.TrackBlocks.{with_members}
 use Rattle.iv_track.proofs.WalkLemmas.{filter-from_first}
 use Rattle.iv_blocks.specs.Groups.{listed}
@@ -16,28 +16,28 @@ returns-in_default-clause-entries g c =
     let sums = listed c.args.options.now.summaries in
     let d = c.args.options.now.distance in
     c.new-entries.ensures
-    ∙ ap (λ (rows : List RecordValue). map (kept_entry s sums) (coming d None rows)) (sym c.in_default.ensures.row.0 ∙ c.walk-rows.ensures.rows ∙ filter-from_first c.args.track.now.rows)
+    ∙ ap (λ (records : List RecordValue). map (kept_entry s sums) (remaining_blocks d None records)) (sym c.in_default.ensures.feature.0 ∙ c.walk-records.ensures.records ∙ filter-from_first c.args.track.now.records)
 
 pub loop-record-init : goal.loop-record-init
 loop-record-init g c =
     let s = c.args.genome.now in
     let sums = listed c.args.options.now.summaries in
     let d = c.args.options.now.distance in
-    let now : Bor RecordValue → RecordValue = λ (row : Bor RecordValue). row.now in
+    let now : Bor RecordValue → RecordValue = λ (feature : Bor RecordValue). feature.now in
     let rest = c.next.new.self in
     let pushed : map now c.push.new.self.items ≡ c.in-Some.first.now ∷ [] =
     ap (map now) (c.in_ok-push.ensures.items ∙ ap (λ (l : List (Bor RecordValue)). l ++ c.in-Some.first ∷ []) c.new-members.ensures.items) in
     entries-alike s sums d c.new-entries.result [] c.of-block.result c.of-block.result (map now c.push.new.self.items) (c.in-Some.first.now ∷ []) rest
     c.new-entries.ensures (λ i. c.of-block.result) pushed
     ∙ entries-begun s sums d c.in-Some.first.now rest c.of-block.result c.of-block.ensures
-    ∙ ap (λ (rows : List RecordValue). map (kept_entry s sums) (coming d None rows)) (sym c.in-Some.ensures.row ∙ c.walk-rows.ensures.rows ∙ filter-from_first c.args.track.now.rows)
+    ∙ ap (λ (records : List RecordValue). map (kept_entry s sums) (remaining_blocks d None records)) (sym c.in-Some.ensures.feature ∙ c.walk-records.ensures.records ∙ filter-from_first c.args.track.now.records)
 
 pub loop-record-preserved : goal.loop-record-preserved
 loop-record-preserved g c =
     let s = c.args.genome.now in
     let sums = listed c.args.options.now.summaries in
     let d = c.args.options.now.distance in
-    let now : Bor RecordValue → RecordValue = λ (row : Bor RecordValue). row.now in
+    let now : Bor RecordValue → RecordValue = λ (feature : Bor RecordValue). feature.now in
     let l = c.loop-record in
     let j = c.if-is_joined_by in
     let r = c.in-Some-next.record.now in
@@ -46,8 +46,8 @@ loop-record-preserved g c =
     let test = c.is_joined_by.result in
     let pushed : map now c.push-in-Some-next.new.self.items ≡ map now j.members.items ++ r ∷ [] =
     ap (map now) c.in_ok-push-2.ensures.items ∙ map-append now j.members.items (c.in-Some-next.record ∷ []) in
-    let before : entries_with s sums d l.entries l.block (map now l.members.items) (r ∷ rest) ≡ map (kept_entry s sums) (coming d None c.args.track.now.rows) =
-    ap (entries_with s sums d l.entries l.block (map now l.members.items)) (sym c.in-Some-next.ensures.row) ∙ l.invariant in
+    let before : entries_with s sums d l.entries l.block (map now l.members.items) (r ∷ rest) ≡ map (kept_entry s sums) (remaining_blocks d None c.args.track.now.records) =
+    ap (entries_with s sums d l.entries l.block (map now l.members.items)) (sym c.in-Some-next.ensures.feature) ∙ l.invariant in
     elim j.branch [
       | then-is_joined_by w ↦
           entries-alike s sums d j.entries l.entries j.block w.with-block.result (map now c.push-in-Some-next.new.self.items) (map now l.members.items ++ r ∷ []) rest
@@ -70,9 +70,9 @@ returns-clause-entries g c =
     let s = c.args.genome.now in
     let sums = listed c.args.options.now.summaries in
     let d = c.args.options.now.distance in
-    let now : Bor RecordValue → RecordValue = λ (row : Bor RecordValue). row.now in
+    let now : Bor RecordValue → RecordValue = λ (feature : Bor RecordValue). feature.now in
     let l = c.loop-record in
     c.in_ok-push_entry.ensures
     ∙ ap (λ (m : List (Bor RecordValue)). l.entries ++ kept_entry s sums (with_members l.block (map now m)) ∷ []) c.deref-2.ensures.value
-    ∙ ap (entries_with s sums d l.entries l.block (map now l.members.items)) (sym c.in_default-next.ensures.row.0)
+    ∙ ap (entries_with s sums d l.entries l.block (map now l.members.items)) (sym c.in_default-next.ensures.feature.0)
     ∙ l.invariant

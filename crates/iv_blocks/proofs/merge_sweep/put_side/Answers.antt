@@ -2,12 +2,12 @@ use Rattle.std.proofs.Common.{◌≡◌, ◌≤◌, ◌∙◌, None, List, filte
 use Rattle.std.specs.List.{flat_map}
 use Rattle.iv_bytes.proofs.PutLemmas.{Underway-begin, Puts-err}
 use Rattle.iv_text.specs.RecordValue.{RecordValue}
-use Rattle.iv_cover.specs.Inside.RemainingBlocks.{coming}
-use Rattle.iv_cover.specs.TrackBlocks.{Group}
+use Rattle.iv_cover.specs.Inside.RemainingBlocks.{remaining_blocks}
+use Rattle.iv_cover.specs.TrackBlocks.{BlockWithMembers}
 use Rattle.iv_cover.specs.declared.column.ColumnSummary.{ColumnSummary}
 use Rattle.iv_blocks.specs.Groups.{listed}
 use Rattle.iv_blocks.specs.Inside.Groups.{is_on}
-use Rattle.iv_blocks.proofs.ClusterTexts.{members_of, coming-members}
+use Rattle.iv_blocks.proofs.ClusterTexts.{members_of, remaining-members}
 use Rattle.iv_blocks.specs.Inside.MergeSweeps.{group_row}
 use Rattle.iv_cover.specs.Results.{HasRoom}
 use Rattle.iv_cover.proofs.FirstLemmas.{Underway-step, Underway-failed}
@@ -19,11 +19,11 @@ pub loop-found-init : goal.loop-found-init
 loop-found-init g c =
     let d = c.args.options.now.distance in
     let on = is_on c.args.side in
-    let given : c.into_iter-found-iterator.result ≡ coming d None (filter on c.args.records.now)
+    let given : c.into_iter-found-iterator.result ≡ remaining_blocks d None (filter on c.args.records.now)
     = c.into_iter-found-iterator.ensures.into_iter_gives ∙ c.of-found-items.ensures in
     record {
       put = rw given (Underway-begin _ _);
-      few = omega (arith, ap (λ (l : List Group). length (members_of l)) given, ap (λ (l : List RecordValue). length l) (coming-members d (filter on c.args.records.now) None), few on c.args.records.now);
+      few = omega (arith, ap (λ (l : List BlockWithMembers). length (members_of l)) given, ap (λ (l : List RecordValue). length l) (remaining-members d (filter on c.args.records.now) None), few on c.args.records.now);
       grown = omega arith;
     }
 
@@ -31,7 +31,7 @@ pub put_block-requires : goal.put_block-requires
 put_block-requires g c =
     let i = c.loop-found.invariant in
     let fewer : length c.in-Some.found.members ≤ length c.args.records.now
-    = omega (arith, i.few, ap (λ (l : List Group). length (members_of l)) c.in-Some.ensures.steps, length-append c.in-Some.found.members (members_of c.next.new.self)) in
+    = omega (arith, i.few, ap (λ (l : List BlockWithMembers). length (members_of l)) c.in-Some.ensures.steps, length-append c.in-Some.found.members (members_of c.next.new.self)) in
     record {
       room = subst (λ (asked : List ColumnSummary). HasRoom (vec_capacity c.loop-found.values) (length c.in-Some.found.members) asked) (sym c.as_slice-summaries.ensures)
           (room-more (vec_capacity c.args.values.now) (vec_capacity c.loop-found.values) (length c.args.records.now) (length c.in-Some.found.members) (listed c.args.options.now.summaries) i.grown fewer c.requires.room);
@@ -43,7 +43,7 @@ loop-found-preserved g c =
     let f = group_row c.args.name.now (listed c.args.options.now.summaries) in
     record {
       put = Underway-step _ _ _ _ _ _ _ (ap (flat_map f) c.in-Some.ensures.steps) i.put (rw c.as_slice-summaries.ensures at c.in_ok-put_block.ensures.text);
-      few = omega (arith, i.few, ap (λ (l : List Group). length (members_of l)) c.in-Some.ensures.steps, length-append c.in-Some.found.members (members_of c.next.new.self));
+      few = omega (arith, i.few, ap (λ (l : List BlockWithMembers). length (members_of l)) c.in-Some.ensures.steps, length-append c.in-Some.found.members (members_of c.next.new.self));
       grown = omega (arith, i.grown, c.in_ok-put_block.ensures.room);
     }
 

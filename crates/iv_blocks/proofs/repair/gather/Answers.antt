@@ -16,33 +16,33 @@ read-more now read b left rest all h is =
 read-all : (read left all : List RecordValue) → read ++ left ≡ all → left ≡ [] → read ≡ all
 read-all read left all h none = sym (append-nil read) ∙ ap (λ (l : List RecordValue). read ++ l) (sym none) ∙ h
 
-pub loop-row-init : goal.loop-row-init
-loop-row-init g c = record { all = rw c.new-rows.ensures.items refl; no_less = omega arith; paid = omega arith }
+pub loop-feature-init : goal.loop-feature-init
+loop-feature-init g c = record { all = rw c.new-records.ensures.items refl; no_less = omega arith; paid = omega arith }
 
-pub loop-row-smaller : goal.loop-row-smaller
-loop-row-smaller g c = omega (arith, ap length c.in-Some.ensures.member)
+pub loop-feature-smaller : goal.loop-feature-smaller
+loop-feature-smaller g c = omega (arith, ap length c.in-Some.ensures.member)
 
-pub loop-row-preserved : goal.loop-row-preserved
-loop-row-preserved g c =
-    let i = c.loop-row.invariant in
+pub loop-feature-preserved : goal.loop-feature-preserved
+loop-feature-preserved g c =
+    let i = c.loop-feature.invariant in
     let steps = c.in-Some.ensures.steps in
     record {
-      all = rw c.in_ok-push.ensures.items (read-more _ c.loop-row.rows.items c.in-Some.row c.loop-row.members.members c.next.new.self.members c.args.members.members i.all c.in-Some.ensures.member);
+      all = rw c.in_ok-push.ensures.items (read-more _ c.loop-feature.records.items c.in-Some.feature c.loop-feature.members.members c.next.new.self.members c.args.members.members i.all c.in-Some.ensures.member);
       no_less = omega (arith, i.no_less, steps.no_less);
       paid = omega (arith, i.paid, steps.at_most);
     }
 
 pub returns-in_err-push-clause-steps : goal.returns-in_err-push-clause-steps
 returns-in_err-push-clause-steps g c =
-    let i = c.loop-row.invariant in
+    let i = c.loop-feature.invariant in
     let steps = c.in-Some.ensures.steps in
     record { no_less = omega (arith, i.no_less, steps.no_less); at_most = omega (arith, i.paid, steps.at_most) }
 
-pub returns-clause-rows : goal.returns-clause-rows
-returns-clause-rows g c = read-all _ _ _ c.loop-row.invariant.all c.in_default.ensures.member.0
+pub returns-clause-records : goal.returns-clause-records
+returns-clause-records g c = read-all _ _ _ c.loop-feature.invariant.all c.in_default.ensures.member.0
 
 pub returns-clause-steps : goal.returns-clause-steps
 returns-clause-steps g c =
-    let i = c.loop-row.invariant in
+    let i = c.loop-feature.invariant in
     let steps = c.in_default.ensures.steps in
     record { no_less = omega (arith, i.no_less, steps.no_less); at_most = omega (arith, i.paid, steps.at_most) }

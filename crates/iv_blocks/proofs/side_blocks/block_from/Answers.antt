@@ -1,7 +1,7 @@
 use Rattle.std.proofs.Common.{◌+◌, ◌==◌, ◌&&◌, nat_le, max, ◌∷◌, Some, List, sym, ap, ◌∙◌, filter, take, arith}
 use Rattle.iv_text.specs.RecordValue.{RecordValue}
 use Rattle.iv_cover.specs.declared.block.Block.{Block}
-use Rattle.iv_cover.specs.Inside.RemainingBlocks.{coming}
+use Rattle.iv_cover.specs.Inside.RemainingBlocks.{remaining_blocks}
 use Rattle.iv_cover.specs.TrackBlocks.{with_members}
 use Rattle.iv_blocks.specs.Inside.Groups.{is_on}
 use Rattle.iv_blocks.proofs.SideLemmas.{passed, over, joins}
@@ -20,7 +20,7 @@ loop-record-preserved c =
     let rs = c.next.new.self in
     let at = i.left ∙ c.in-Some.ensures.steps in
     let next = passed n xs r rs at in
-    let before = i.joined ∙ ap (λ (l : List RecordValue). coming d (Some (with_members b (filter p (take n xs)))) (filter p l)) c.in-Some.ensures.steps in
+    let before = i.joined ∙ ap (λ (l : List RecordValue). remaining_blocks d (Some (with_members b (filter p (take n xs)))) (filter p l)) c.in-Some.ensures.steps in
     elim c.if-has.branch [
       | then-has+else-not-is_joined_by w ↦
           let on = sym c.has.ensures ∙ w.if-has.true in
@@ -36,6 +36,6 @@ loop-record-preserved c =
           record {
             within = omega (arith, next.0);
             left = next.1;
-            joined = before ∙ over d p b n xs r rs at off ∙ ap (λ (m : Block). coming d (Some (with_members m (filter p (take (n + 1) xs)))) (filter p rs)) (sym w.block-is);
+            joined = before ∙ over d p b n xs r rs at off ∙ ap (λ (m : Block). remaining_blocks d (Some (with_members m (filter p (take (n + 1) xs)))) (filter p rs)) (sym w.block-is);
           }
     ]

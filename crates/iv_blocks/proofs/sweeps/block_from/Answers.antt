@@ -1,18 +1,18 @@
 use Rattle.std.proofs.Common.{◌≡◌, ◌+◌, ◌==◌, ◌&&◌, nat_le, max, ◌∙◌, ◌++◌, List, [], ◌∷◌, Some, None, sym, ap, refl, length, arith}
 use Rattle.iv_text.specs.RecordValue.{RecordValue}
 use Rattle.iv_cover.specs.declared.block.Block.{Block}
-use Rattle.iv_cover.specs.Inside.RemainingBlocks.{coming}
+use Rattle.iv_cover.specs.Inside.RemainingBlocks.{remaining_blocks}
 use Rattle.iv_cover.specs.TrackBlocks.{with_members}
-use Rattle.iv_cover.proofs.Comings.{coming-begun, coming-joined, coming-split_up}
-use Rattle.iv_index.specs.Inside.Spans.{record_of_span, span_records}
-use Rattle.iv_index.specs.declared.span.Span.{Span}
+use Rattle.iv_cover.proofs.RemainingLemmas.{remaining-begun, remaining-joined, remaining-split_up}
+use Rattle.iv_locators.specs.Inside.Spans.{record_of_span, span_records}
+use Rattle.iv_locators.specs.declared.span.Span.{Span}
 use Rattle.iv_blocks.proofs.sweeps.block_from.Goals as goal
 
 pub loop-span-init : goal.loop-span-init
 loop-span-init c =
     let first : RecordValue = record_of_span c.args.first in (
       first ∷ [],
-      coming-begun c.args.distance first (span_records c.args.others.now) c.block_of-block.result c.block_of-block.ensures,
+      remaining-begun c.args.distance first (span_records c.args.others.now) c.block_of-block.result c.block_of-block.ensures,
     )
 
 pub returns-then-not-is_joined_by : goal.returns-then-not-is_joined_by
@@ -23,10 +23,10 @@ returns-then-not-is_joined_by c =
     let r : RecordValue = record_of_span c.in-Some.span.now in
     let rest : List RecordValue = span_records c.in-Some.later.now in (
       i.0,
-      i.1 ∙ ap (λ (l : List Span). coming d (Some b) (span_records l)) c.in-Some.ensures.cases.0
-          ∙ coming-split_up d b r rest
+      i.1 ∙ ap (λ (l : List Span). remaining_blocks d (Some b) (span_records l)) c.in-Some.ensures.cases.0
+          ∙ remaining-split_up d b r rest
           (sym (c.is_joined_by.ensures ∙ ap (λ (n : Block). (n.sequence == b.sequence) && nat_le n.start (b.stop + d)) c.block_of-next.ensures) ∙ c.if-not-is_joined_by.true)
-          ∙ ap (λ (l : List Span). b ∷ coming d None (span_records l)) (sym c.in-Some.ensures.cases.0),
+          ∙ ap (λ (l : List Span). b ∷ remaining_blocks d None (span_records l)) (sym c.in-Some.ensures.cases.0),
     )
 
 pub loop-span-preserved : goal.loop-span-preserved
@@ -37,10 +37,10 @@ loop-span-preserved c =
     let r : RecordValue = record_of_span c.in-Some.span.now in
     let rest : List RecordValue = span_records c.in-Some.later.now in (
       i.0 ++ r ∷ [],
-      i.1 ∙ ap (λ (l : List Span). coming d (Some b) (span_records l)) c.in-Some.ensures.cases.0
-          ∙ coming-joined d b r rest
+      i.1 ∙ ap (λ (l : List Span). remaining_blocks d (Some b) (span_records l)) c.in-Some.ensures.cases.0
+          ∙ remaining-joined d b r rest
           (sym (c.is_joined_by.ensures ∙ ap (λ (n : Block). (n.sequence == b.sequence) && nat_le n.start (b.stop + d)) c.block_of-next.ensures) ∙ c.if-not-is_joined_by.false)
-          ∙ ap (λ (next : Block). coming d (Some (with_members next (i.0 ++ r ∷ []))) rest)
+          ∙ ap (λ (next : Block). remaining_blocks d (Some (with_members next (i.0 ++ r ∷ []))) rest)
           (sym (c.with-block.ensures ∙ ap (λ (n : Block). record { sequence = b.sequence; start = b.start; stop = max b.stop n.stop }) c.block_of-next.ensures)),
     )
 
@@ -55,6 +55,6 @@ returns c =
     let b = with_members c.loop-span.block i.0 in
     let none : c.loop-span.rest.now ≡ [] = none-of c.loop-span.rest.now c.in_default.ensures.cases in (
       i.0,
-      i.1 ∙ ap (λ (l : List Span). coming d (Some b) (span_records l)) none
-          ∙ ap (λ (l : List Span). b ∷ coming d None (span_records l)) (sym none),
+      i.1 ∙ ap (λ (l : List Span). remaining_blocks d (Some b) (span_records l)) none
+          ∙ ap (λ (l : List Span). b ∷ remaining_blocks d None (span_records l)) (sym none),
     )

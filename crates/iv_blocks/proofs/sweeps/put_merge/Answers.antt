@@ -3,8 +3,8 @@ use Rattle.std.specs.List.{flat_map}
 use Rattle.std.proofs.lemmas.List.Folds.{flat_map-map}
 use Rattle.iv_bytes.proofs.PutLemmas.{Underway-begin, Underway-more, Underway-fails, Underway-ends, Puts-err}
 use Rattle.iv_text.specs.Genome.{Sequences}
-use Rattle.iv_index.specs.Inside.Spans.{span_records}
-use Rattle.iv_index.specs.declared.span.Span.{Span}
+use Rattle.iv_locators.specs.Inside.Spans.{span_records}
+use Rattle.iv_locators.specs.declared.span.Span.{Span}
 use Rattle.iv_cover.specs.TrackBlocks.{blocks_of}
 use Rattle.iv_blocks.specs.Inside.BlockSweeps.{interval_of, interval_row}
 use Rattle.iv_blocks.specs.Inside.Texts.{merge_text}

@@ -2,7 +2,7 @@ use Rattle.std.proofs.Common.{map}
 use Rattle.std.specs.List.{flat_map}
 use Rattle.iv_bytes.proofs.PutLemmas.{Underway}
 use Rattle.iv_cover.specs.TrackBlocks.{blocks_of}
-use Rattle.iv_index.specs.Inside.Spans.{span_records}
+use Rattle.iv_locators.specs.Inside.Spans.{span_records}
 use Rattle.iv_blocks.specs.Inside.BlockSweeps.{interval_of, interval_row}
 use Rattle.iv_blocks.proofs.sweeps.put_merge.Given as goal
 

@@ -9,14 +9,14 @@ use Rattle.iv_cli.proofs.begin.session_of.Goals as goal
 pub from_batches-requires-clause-fit : goal.from_batches-requires-clause-fit
 from_batches-requires-clause-fit g c =
     let inside = c.files.inside in
-    subst (λ (b : Bed). All (Fits inside.genome b.width) b.rows) (sym c.into_bed-first.ensures) (fit-all inside.genome inside.first.width inside.first.rows c.files.invariant.0.kept_all)
+    subst (λ (b : Bed). All (Fits inside.genome b.width) b.records) (sym c.into_bed-first.ensures) (fit-all inside.genome inside.first.width inside.first.records c.files.invariant.0.kept_all)
 
 pub from_batches-requires-clause-second_fit : goal.from_batches-requires-clause-second_fit
 from_batches-requires-clause-second_fit g c =
     let inside = c.files.inside in
-    subst (λ (o : Option Bed). IfSome o (λ file. All (Fits inside.genome file.width) file.rows)) (sym c.into_bed.ensures) (fits-beside inside.genome inside.limit inside.second c.files.invariant.1)
+    subst (λ (o : Option Bed). IfSome o (λ file. All (Fits inside.genome file.width) file.records)) (sym c.into_bed.ensures) (fits-beside inside.genome inside.limit inside.second c.files.invariant.1)
 
 pub from_batches-requires-clause-second_few : goal.from_batches-requires-clause-second_few
 from_batches-requires-clause-second_few g c =
     let inside = c.files.inside in
-    subst (λ (o : Option Bed). IfSome o (λ file. length file.rows ≤ inside.limit)) (sym c.into_bed.ensures) (few-beside inside.genome inside.limit inside.second c.files.invariant.1)
+    subst (λ (o : Option Bed). IfSome o (λ file. length file.records ≤ inside.limit)) (sym c.into_bed.ensures) (few-beside inside.genome inside.limit inside.second c.files.invariant.1)

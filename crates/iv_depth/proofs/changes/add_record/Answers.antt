@@ -6,4 +6,4 @@ use Rattle.iv_depth.proofs.changes.add_record.Goals as goal
 
 pub returns-clause-ok : goal.returns-clause-ok
 returns-clause-ok g c =
-    on_ok_weaker c.shift.result (λ shift (rows : List RecordValue). AreChangesOf-added c.args.row.now rows c.args.changes.now c.shift.new.changes shift) c.shift.ensures.ok
+    on_ok_weaker c.shift.result (λ shift (records : List RecordValue). AreChangesOf-added c.args.feature.now records c.args.changes.now c.shift.new.changes shift) c.shift.ensures.ok

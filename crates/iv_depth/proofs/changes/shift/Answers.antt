@@ -10,8 +10,8 @@ use Rattle.iv_depth.proofs.changes.shift.Goals as goal
 pub bump-requires-clause-small : goal.bump-requires-clause-small
 bump-requires-clause-small g c =
     let known = c.requires.known in
-    change-small c.args.changes.now (length known.rows) (c.seq.result, c.start.result) known.right.ordered
-    (omega (arith, known.few)) (AreChangesOf-within known.rows c.args.changes.now known.right)
+    change-small c.args.changes.now (length known.records) (c.seq.result, c.start.result) known.right.ordered
+    (omega (arith, known.few)) (AreChangesOf-within known.records c.args.changes.now known.right)
 
 pub bump-requires-2-clause-small : goal.bump-requires-2-clause-small
 bump-requires-2-clause-small g c =
@@ -19,13 +19,13 @@ bump-requires-2-clause-small g c =
     let same : to_z w64 (of_z w64 c.args.by) ≡ c.args.by = to_z-of_z w64 c.args.by c.ranges.by in
     let first : Bumps c.args.changes.now c.bump.new.changes (c.seq.result, c.start.result) c.args.by
     = subst (λ (z : ℤ). Bumps c.args.changes.now c.bump.new.changes (c.seq.result, c.start.result) z) same c.in_ok-bump.ensures.ok in
-    change-small c.bump.new.changes (length known.rows + 1) (c.seq-2.result, c.stop.result) first.ordered
+    change-small c.bump.new.changes (length known.records + 1) (c.seq-2.result, c.stop.result) first.ordered
     (omega (arith, known.few))
-    (Bumps-within (length known.rows) c.args.changes.now c.bump.new.changes (c.seq.result, c.start.result) c.args.by first c.requires.by.0 c.requires.by.1 (AreChangesOf-within known.rows c.args.changes.now known.right))
+    (Bumps-within (length known.records) c.args.changes.now c.bump.new.changes (c.seq.result, c.start.result) c.args.by first c.requires.by.0 c.requires.by.1 (AreChangesOf-within known.records c.args.changes.now known.right))
 
 pub returns-clause-ok : goal.returns-clause-ok
 returns-clause-ok g c =
-    let r = c.args.row.now in
+    let r = c.args.feature.now in
     let same : to_z w64 (of_z w64 c.args.by) ≡ c.args.by = to_z-of_z w64 c.args.by c.ranges.by in
     let first : Bumps c.args.changes.now c.bump.new.changes (r.seq, r.start) c.args.by
     = rw (← c.seq.ensures, ← c.start.ensures) (subst (λ (z : ℤ). Bumps c.args.changes.now c.bump.new.changes (c.seq.result, c.start.result) z) same c.in_ok-bump.ensures.ok) in

@@ -8,10 +8,10 @@ use Rattle.iv_depth.proofs.depth_rows.put_genome.Goals as goal
 
 pub loop-rank-init : goal.loop-rank-init
 loop-rank-init g c = record {
-  put = rw (texts-all c.args.shown c.args.genome.now (depth_by c.args.changes.now)) (Underway-begin _ _);
-  ahead = rw c.of-coming.ensures.all c.requires;
-  no_less = omega (arith, c.of-coming.ensures.steps);
-  at_most = omega (arith, c.of-coming.ensures.steps, ap (λ (l : Entries). length l) c.of-coming.ensures.all);
+  put = rw (texts-all c.args.output c.args.genome.now (depth_by c.args.changes.now)) (Underway-begin _ _);
+  ahead = rw c.of-changes_left.ensures.all c.requires;
+  no_less = omega (arith, c.of-changes_left.ensures.steps);
+  at_most = omega (arith, c.of-changes_left.ensures.steps, ap (λ (l : Entries). length l) c.of-changes_left.ensures.all);
 }
 
 pub put_sequence-requires : goal.put_sequence-requires
@@ -21,14 +21,14 @@ pub returns-in_err-put_sequence-clause-text : goal.returns-in_err-put_sequence-c
 returns-in_err-put_sequence-clause-text g c =
     let low : c.loop-rank.rank < seq_count c.args.genome.now = omega (arith, c.loop-rank-test.true, c.count-rank-end.ensures.value) in
     Puts-err _ _ c.from_residual.result _ c.from_residual.ensures.0
-    (Underway-fails _ _ _ _ _ _ (rw (texts-next c.args.shown c.args.genome.now (depth_by c.args.changes.now) c.loop-rank.rank low) at c.loop-rank.invariant.put) (c.in_err-put_sequence.ensures.text (depth_by c.args.changes.now) c.loop-rank.invariant.ahead))
+    (Underway-fails _ _ _ _ _ _ (rw (texts-next c.args.output c.args.genome.now (depth_by c.args.changes.now) c.loop-rank.rank low) at c.loop-rank.invariant.put) (c.in_err-put_sequence.ensures.text (depth_by c.args.changes.now) c.loop-rank.invariant.ahead))
 
 pub loop-rank-preserved : goal.loop-rank-preserved
 loop-rank-preserved g c =
     let i = c.loop-rank.invariant in
     let low : c.loop-rank.rank < seq_count c.args.genome.now = omega (arith, c.loop-rank-test.true, c.count-rank-end.ensures.value) in
     record {
-      put = Underway-more _ _ _ _ _ _ (rw (texts-next c.args.shown c.args.genome.now (depth_by c.args.changes.now) c.loop-rank.rank low) at i.put) (c.in_ok-put_sequence.ensures.text (depth_by c.args.changes.now) i.ahead);
+      put = Underway-more _ _ _ _ _ _ (rw (texts-next c.args.output c.args.genome.now (depth_by c.args.changes.now) c.loop-rank.rank low) at i.put) (c.in_ok-put_sequence.ensures.text (depth_by c.args.changes.now) i.ahead);
       ahead = c.in_ok-put_sequence.ensures.past (depth_by c.args.changes.now) i.ahead;
       no_less = omega (arith, i.no_less, c.in_ok-put_sequence.ensures.steps);
       at_most = omega (arith, i.at_most, c.in_ok-put_sequence.ensures.steps);

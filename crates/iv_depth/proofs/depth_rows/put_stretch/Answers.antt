@@ -3,7 +3,7 @@ use Rattle.iv_depth.proofs.Stretches.{rows-none, rows-bare, rows-covered, rows-o
 use Rattle.iv_depth.proofs.depth_rows.put_stretch.Goals as goal
 
 pub returns-then-start-stop : goal.returns-then-start-stop
-returns-then-start-stop g c = rw (rows-none c.args.shown c.args.name.now (λ _. c.args.depth) c.args.start c.args.stop c.if-start-stop.true) (Takes-nothing _)
+returns-then-start-stop g c = rw (rows-none c.args.output c.args.name.now (λ _. c.args.depth) c.args.start c.args.stop c.if-start-stop.true) (Takes-nothing _)
 
 pub returns-then-depth-eq0 : goal.returns-then-depth-eq0
 returns-then-depth-eq0 g c = rw (c.in-Covered.is, rows-bare c.args.name.now c.args.depth c.args.start c.args.stop c.if-start-stop.false c.if-depth-eq0.true) (Takes-nothing _)

@@ -4,16 +4,16 @@ use Rattle.iv_text.specs.Genome.{seq_count}
 use Rattle.iv_text.specs.Ordered.{AreInOrder}
 use Rattle.iv_text.specs.RecordValue.{RecordValue}
 use Rattle.iv_cover.specs.Depth.{depth}
-use Rattle.iv_index.specs.Inside.Spans.{record_of_span, span_records}
+use Rattle.iv_locators.specs.Inside.Spans.{record_of_span, span_records}
 use Rattle.std.proofs.lemmas.List.{length-map}
-use Rattle.iv_index.proofs.SequenceLemmas.{all-from, from-in, from-order, from-later}
+use Rattle.iv_locators.proofs.SequenceLemmas.{all-from, from-in, from-order, from-later}
 use Rattle.iv_depth.proofs.EdgeLemmas.{places-few, IsAhead-begin}
 use Rattle.iv_depth.proofs.Genomes.{texts-next, texts-all}
 use Rattle.iv_depth.proofs.depth_sweep.put_genome.Goals as goal
 
 pub loop-rank-init : goal.loop-rank-init
 loop-rank-init g c = record {
-  put = rw (texts-all c.args.shown c.args.genome.now (depth (span_records c.args.spans.now))) (Underway-begin _ _);
+  put = rw (texts-all c.args.output c.args.genome.now (depth (span_records c.args.spans.now))) (Underway-begin _ _);
   left_is = sym (all-from (span_records c.args.spans.now));
   len = refl;
 }
@@ -63,7 +63,7 @@ returns-in_err-put_sequence-clause-text g c =
     let ahead = IsAhead-begin c.args.genome.now c.loop-rank.rank (span_records c.args.spans.now) _ _ _ i.left_is c.split_sequence.ensures.here refl
     _ c.requires.order c.requires.on_genome (omega (arith, few, length-map c.args.spans.now record_of_span)) c.write_stops.ensures.stops in
     Puts-err _ _ c.from_residual.result _ c.from_residual.ensures.0
-    (Underway-fails _ _ _ _ _ _ (rw (texts-next c.args.shown c.args.genome.now by c.loop-rank.rank low) at i.put) (c.in_err-put_sequence.ensures.text by ahead))
+    (Underway-fails _ _ _ _ _ _ (rw (texts-next c.args.output c.args.genome.now by c.loop-rank.rank low) at i.put) (c.in_err-put_sequence.ensures.text by ahead))
 
 pub loop-rank-preserved : goal.loop-rank-preserved
 loop-rank-preserved g c =
@@ -74,7 +74,7 @@ loop-rank-preserved g c =
     let ahead = IsAhead-begin c.args.genome.now c.loop-rank.rank (span_records c.args.spans.now) _ _ _ i.left_is c.split_sequence.ensures.here refl
     _ c.requires.order c.requires.on_genome (omega (arith, few, length-map c.args.spans.now record_of_span)) c.write_stops.ensures.stops in
     record {
-      put = Underway-more _ _ _ _ _ _ (rw (texts-next c.args.shown c.args.genome.now by c.loop-rank.rank low) at i.put) (c.in_ok-put_sequence.ensures.text by ahead);
+      put = Underway-more _ _ _ _ _ _ (rw (texts-next c.args.output c.args.genome.now by c.loop-rank.rank low) at i.put) (c.in_ok-put_sequence.ensures.text by ahead);
       left_is = c.split_sequence.ensures.later ∙ ap (filter (λ r. nat_lt c.loop-rank.rank r.seq)) i.left_is ∙ from-later c.loop-rank.rank (span_records c.args.spans.now);
       len = search rules;
     }

@@ -6,21 +6,21 @@ use Rattle.iv_depth.specs.Inside.NetChanges.{key_of}
 use Rattle.iv_depth.proofs.NetChangesLemmas.{gathered-begin, gathered-next, gathered-all}
 use Rattle.iv_depth.proofs.net_changes.edges_of.Goals as goal
 
-pub loop-row-init : goal.loop-row-init
-loop-row-init g c = gathered-begin c.args.track.now.rows _ _ _ (c.walk-rows.ensures.rows ∙ filter-from_first c.args.track.now.rows) c.in_ok-starts.ensures.items c.in_ok-stops.ensures.items
+pub loop-feature-init : goal.loop-feature-init
+loop-feature-init g c = gathered-begin c.args.track.now.records _ _ _ (c.walk-records.ensures.records ∙ filter-from_first c.args.track.now.records) c.in_ok-starts.ensures.items c.in_ok-stops.ensures.items
 
-pub loop-row-preserved : goal.loop-row-preserved
-loop-row-preserved g c =
-    let r : RecordValue = c.as_ref-row.result in
+pub loop-feature-preserved : goal.loop-feature-preserved
+loop-feature-preserved g c =
+    let r : RecordValue = c.as_ref-feature.result in
     let first = c.packed.ensures ∙ ap (λ (s : ℕ). key_of s c.start.result) c.seq.ensures ∙ ap (λ (p : ℕ). key_of r.seq p) c.start.ensures in
     let last = c.packed-in-Some.ensures ∙ ap (λ (s : ℕ). key_of s c.stop.result) c.seq-in-Some.ensures ∙ ap (λ (p : ℕ). key_of r.seq p) c.stop.ensures.value in
-    gathered-next c.args.track.now.rows c.loop-row.rows c.next.new.self r
-    c.loop-row.starts.items c.loop-row.stops.items c.push.new.self.items c.push-in-Some.new.self.items c.packed.result c.packed-in-Some.result
-    c.lemma_of_interval.ensures (c.in-Some.ensures.row ∙ ap (λ (q : RecordValue). q ∷ c.next.new.self) (sym c.as_ref-row.ensures)) first last
-    c.in_ok-push.ensures.items c.in_ok-push-2.ensures.items c.loop-row.invariant
+    gathered-next c.args.track.now.records c.loop-feature.records c.next.new.self r
+    c.loop-feature.starts.items c.loop-feature.stops.items c.push.new.self.items c.push-in-Some.new.self.items c.packed.result c.packed-in-Some.result
+    c.lemma_of_interval.ensures (c.in-Some.ensures.feature ∙ ap (λ (q : RecordValue). q ∷ c.next.new.self) (sym c.as_ref-feature.ensures)) first last
+    c.in_ok-push.ensures.items c.in_ok-push-2.ensures.items c.loop-feature.invariant
 
 pub returns : goal.returns
 returns g c =
-    gathered-all c.args.track.now.rows c.loop-row.rows c.loop-row.starts.items c.loop-row.stops.items c.sort_unstable.new.self.items c.sort_unstable-2.new.self.items
-    c.in_default.ensures.row.0 c.loop-row.invariant
+    gathered-all c.args.track.now.records c.loop-feature.records c.loop-feature.starts.items c.loop-feature.stops.items c.sort_unstable.new.self.items c.sort_unstable-2.new.self.items
+    c.in_default.ensures.feature.0 c.loop-feature.invariant
     c.sort_unstable.ensures.permutation c.sort_unstable.ensures.sorted (IsPermutation-trans _ _ _ c.order_neighbors.ensures c.sort_unstable-2.ensures.permutation) c.sort_unstable-2.ensures.sorted

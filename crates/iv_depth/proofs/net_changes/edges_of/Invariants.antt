@@ -3,8 +3,8 @@ use Rattle.iv_depth.proofs.NetChangesLemmas.{IsGathered}
 use Rattle.iv_depth.proofs.net_changes.edges_of.Given as goal
 
 -- the keys are those of the records that the walk has given
-abbrev pub invariant-loop-row : goal.invariant-loop-row
-invariant-loop-row g l = IsGathered l.track.rows l.rows l.starts.items l.stops.items
+abbrev pub invariant-loop-feature : goal.invariant-loop-feature
+invariant-loop-feature g l = IsGathered l.track.records l.records l.starts.items l.stops.items
 
-abbrev pub decreases-loop-row : goal.decreases-loop-row
-decreases-loop-row g l = length l.rows
+abbrev pub decreases-loop-feature : goal.decreases-loop-feature
+decreases-loop-feature g l = length l.records

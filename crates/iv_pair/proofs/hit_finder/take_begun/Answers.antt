@@ -10,17 +10,17 @@ use Rattle.iv_pair.proofs.hit_finder.take_begun.Goals as goal
 
 pub loop-preserved : goal.loop-preserved
 loop-preserved g c =
-    let b = c.in-Some.row.now in
+    let b = c.in-Some.feature.now in
     let bs = c.next.new.self in
     let i = c.loop.invariant in
     let seq = c.args.seq in
     let start = c.args.start in
     let xs = c.loop.carried in
-    let old = c.args.carried.now ++ c.args.rows.now in
-    let first : c.loop.rows ≡ b ∷ bs = sym c.again-ahead.ensures ∙ c.in-Some.ensures.row in
+    let old = c.args.carried.now ++ c.args.walk.now in
+    let first : c.loop.walk ≡ b ∷ bs = sym c.again-ahead.ensures ∙ c.in-Some.ensures.feature in
     let alike : HitAlike seq start (xs ++ b ∷ bs) old = subst (λ (l : List RecordValue). HitAlike seq start (xs ++ l) old) first i.alike in
     let order : AreInOrder bs = (subst AreInOrder first i.ordered).1 in
-    let fewer : length bs ≤ length c.args.rows.now = omega (arith, ap length first, i.few) in
+    let fewer : length bs ≤ length c.args.walk.now = omega (arith, ap length first, i.few) in
     elim c.if-covers.branch [
       | then-covers+else-not-push w ↦
           let is : covers seq start b ≡ true = sym c.covers.ensures ∙ w.if-covers.true in

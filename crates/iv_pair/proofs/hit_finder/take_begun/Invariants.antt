@@ -6,8 +6,8 @@ use Rattle.iv_pair.proofs.hit_finder.take_begun.Given as goal
 -- what is carried and what is ahead have the hits from this position on as before
 abbrev pub invariant-loop : goal.invariant-loop
 invariant-loop g l = record {
-  ordered : AreInOrder l.rows;
-  few : length l.rows ≤ length l.fn.rows;
+  ordered : AreInOrder l.walk;
+  few : length l.walk ≤ length l.fn.walk;
   cover : AllCover l.seq l.start l.carried;
-  alike : HitAlike l.seq l.start (l.carried ++ l.rows) (l.fn.carried ++ l.fn.rows);
+  alike : HitAlike l.seq l.start (l.carried ++ l.walk) (l.fn.carried ++ l.fn.walk);
 }

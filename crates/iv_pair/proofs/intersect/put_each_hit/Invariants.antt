@@ -8,5 +8,5 @@ use Rattle.iv_pair.proofs.intersect.put_each_hit.Given as goal
 
 -- the lines of the hits that are left remain to be written
 abbrev pub invariant-loop-hit : goal.invariant-loop-hit
-invariant-loop-hit g l = (found : List RecordValue) → AlwaysYields g.H.Iterator.next_gives g.T.BedRecord.as_record l.fn.hits found → AllOverlap l.row found
-    → LinesLeft g.H.Iterator.next_gives g.T.BedRecord.as_record l.row (hit_line l.shown l.genome l.row) l.hit-iterator (g.S.Sink.state l.fn.sink) (g.S.Sink.state l.sink) (flat_map (hit_line l.shown l.genome l.row) found)
+invariant-loop-hit g l = (found : List RecordValue) → AlwaysYields g.H.Iterator.next_gives g.T.BedRecord.as_record l.fn.hits found → AllOverlap l.feature found
+    → LinesLeft g.H.Iterator.next_gives g.T.BedRecord.as_record l.feature (hit_line l.output l.genome l.feature) l.hit-iterator (g.S.Sink.state l.fn.sink) (g.S.Sink.state l.sink) (flat_map (hit_line l.output l.genome l.feature) found)

@@ -1,14 +1,14 @@
 use Rattle.std.proofs.Common.{◌≡◌, ◌++◌, [], All, length, map}
-use Rattle.iv_index.specs.Locators.{bare}
-use Rattle.iv_index.specs.Inside.Locators.{HasBase, records_at}
+use Rattle.iv_locators.specs.Locators.{bare}
+use Rattle.iv_locators.specs.Inside.Locators.{HasBase, records_at}
 use Rattle.iv_pair.proofs.intervals.intervals_of.Given as goal
 
 -- the records so far are copied, and those that are left remain
-abbrev pub invariant-loop-row : goal.invariant-loop-row
-invariant-loop-row g l = record {
+abbrev pub invariant-loop-feature : goal.invariant-loop-feature
+invariant-loop-feature g l = record {
   bases : All HasBase l.locators.items;
-  rows : records_at 3 [] l.locators.items ++ map bare l.rows ≡ map bare l.second.rows;
+  records : records_at 3 [] l.locators.items ++ map bare l.records ≡ map bare l.second.records;
 }
 
-abbrev pub decreases-loop-row : goal.decreases-loop-row
-decreases-loop-row g l = length l.rows
+abbrev pub decreases-loop-feature : goal.decreases-loop-feature
+decreases-loop-feature g l = length l.records

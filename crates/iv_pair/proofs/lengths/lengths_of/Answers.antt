@@ -9,8 +9,8 @@ use Rattle.iv_pair.proofs.lengths.lengths_of.Goals as goal
 
 pub loop-record-init : goal.loop-record-init
 loop-record-init g c =
-    let rows = c.args.track.now.rows in
-    subst (λ (left : List RecordValue). IsCounted c.new-lengths.result left rows) (sym (c.walk-rows.ensures.rows ∙ filter-from_first rows)) (IsCounted-begin c.new-lengths.result rows c.new-lengths.ensures)
+    let records = c.args.track.now.records in
+    subst (λ (left : List RecordValue). IsCounted c.new-lengths.result left records) (sym (c.walk-records.ensures.records ∙ filter-from_first records)) (IsCounted-begin c.new-lengths.result records c.new-lengths.ensures)
 
 pub raise-requires-clause-room : goal.raise-requires-clause-room
 raise-requires-clause-room g c = omega (arith, IsCounted-room _ _ _ c.length_of.result c.loop-record.invariant, c.requires)
@@ -18,8 +18,8 @@ raise-requires-clause-room g c = omega (arith, IsCounted-room _ _ _ c.length_of.
 pub loop-record-preserved : goal.loop-record-preserved
 loop-record-preserved g c =
     let l = c.loop-record in
-    IsCounted-next l.lengths c.raise.new.lengths l.rows c.next.new.self c.args.track.now.rows c.in-Some.record.now l.invariant c.in-Some.ensures.row c.in_ok-raise.ensures.ok.0
+    IsCounted-next l.lengths c.raise.new.lengths l.records c.next.new.self c.args.track.now.records c.in-Some.record.now l.invariant c.in-Some.ensures.feature c.in_ok-raise.ensures.ok.0
     (c.in_ok-raise.ensures.ok.1 ∙ ap (added_by pair_cmp (expanded l.lengths)) c.length_of.ensures.is)
 
 pub returns : goal.returns
-returns g c = IsCounted-all c.loop-record.lengths c.loop-record.rows c.args.track.now.rows c.loop-record.invariant c.in_default.ensures.row.0
+returns g c = IsCounted-all c.loop-record.lengths c.loop-record.records c.args.track.now.records c.loop-record.invariant c.in_default.ensures.feature.0

@@ -11,7 +11,7 @@ use Rattle.iv_pair.proofs.pair_sweep.take_begun.Goals as goal
 
 pub loop-next-preserved-then-reaches : goal.loop-next-preserved-then-reaches
 loop-next-preserved-then-reaches g c =
-    let a = c.args.row.now in
+    let a = c.args.feature.now in
     let b = c.in-Some.next in
     let bs = c.in-Some.others in
     let i = c.loop-next.invariant in
@@ -30,7 +30,7 @@ loop-next-preserved-then-reaches g c =
 
 pub loop-next-preserved : goal.loop-next-preserved
 loop-next-preserved g c =
-    let a = c.args.row.now in
+    let a = c.args.feature.now in
     let b = c.in-Some.next in
     let bs = c.in-Some.others in
     let i = c.loop-next.invariant in

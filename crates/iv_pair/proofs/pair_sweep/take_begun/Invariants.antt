@@ -8,8 +8,8 @@ abbrev pub invariant-loop-next : goal.invariant-loop-next
 invariant-loop-next g l = record {
   room : vec_len l.active + length l.rest ≤ vec_capacity l.active;
   ordered : AreInOrder l.rest;
-  active : All (Covers l.row) l.active.items;
-  alike : HitAlike l.row (l.active.items ++ l.rest) (l.fn.active.items ++ l.fn.rest);
+  active : All (Covers l.feature) l.active.items;
+  alike : HitAlike l.feature (l.active.items ++ l.rest) (l.fn.active.items ++ l.fn.rest);
 }
 
 abbrev pub decreases-loop-next : goal.decreases-loop-next

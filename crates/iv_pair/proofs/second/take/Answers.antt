@@ -10,13 +10,13 @@ use Rattle.iv_pair.proofs.second.take.Goals as goal
 pub lower-requires-clause-there : goal.lower-requires-clause-there
 lower-requires-clause-there g c =
     subst (λ (k : ℕ × ℕ). 0 < copies_by pair_cmp (expanded c.args.lengths.now) k) (sym c.length_of.ensures.is)
-    (counted-there c.args.lengths.now c.args.track.now.rows c.args.row.now c.requires.counted c.in_ok-remove.ensures.was_ordered c.in_ok-remove.ensures.there)
+    (counted-there c.args.lengths.now c.args.track.now.records c.args.feature.now c.requires.counted c.in_ok-remove.ensures.was_ordered c.in_ok-remove.ensures.there)
 
 pub returns-clause-counted : goal.returns-clause-counted
 returns-clause-counted g c =
-    subst (λ (t : Tracked). AreLengths c.lower.new.lengths t.rows) (sym c.in_ok-remove.ensures.ok)
-    (AreLengths-removed c.args.lengths.now c.lower.new.lengths c.args.track.now.rows c.args.row.now c.requires.counted c.in_ok-remove.ensures.was_ordered c.in_ok-remove.ensures.there
+    subst (λ (t : Tracked). AreLengths c.lower.new.lengths t.records) (sym c.in_ok-remove.ensures.ok)
+    (AreLengths-removed c.args.lengths.now c.lower.new.lengths c.args.track.now.records c.args.feature.now c.requires.counted c.in_ok-remove.ensures.was_ordered c.in_ok-remove.ensures.there
     (record {
       tally = c.lower.ensures.lowered.0;
-      rows = c.lower.ensures.lowered.1 ∙ ap (removed_by pair_cmp (expanded c.args.lengths.now)) c.length_of.ensures.is;
+      records = c.lower.ensures.lowered.1 ∙ ap (removed_by pair_cmp (expanded c.args.lengths.now)) c.length_of.ensures.is;
     }))

@@ -14,7 +14,7 @@ returns-in_err-put_part g c = λ second order given.
     let w = went g.H.Iterator.next_gives g.T.BedRecord.as_record i.0 _ _ _ i.1 c.in-Some.ensures.steps in
     let hit = g.T.BedRecord.as_record c.in-Some.hit in
     let some : hit.start < hit.stop = rw c.stop-stop.ensures.value at c.stop-stop.ensures.some in
-    let inside : hit.start < (g.R.BedRecord.as_record c.args.row.now).stop = within _ second _ _ _ _ c.loop-hit.from hit i.0 w.0 _ w.1 some i.2 in
+    let inside : hit.start < (g.R.BedRecord.as_record c.args.feature.now).stop = within _ second _ _ _ _ c.loop-hit.from hit i.0 w.0 _ w.1 some i.2 in
     let at : c.min.result ≡ hit.start = omega (arith, c.min.ensures, c.start-start.ensures, c.stop.ensures.value, inside) in
     Puts-err _ _ c.from_residual.result _ c.from_residual.ensures.0
     (Remains-fails _ second _ _ _ _ c.loop-hit.from hit i.0 w.0 _ w.1 some i.2 _ (rw at at c.in_err-put_part.ensures))
@@ -25,7 +25,7 @@ loop-hit-preserved g c = λ second order given.
     let w = went g.H.Iterator.next_gives g.T.BedRecord.as_record i.0 _ _ _ i.1 c.in-Some.ensures.steps in
     let hit = g.T.BedRecord.as_record c.in-Some.hit in
     let some : hit.start < hit.stop = rw c.stop-stop.ensures.value at c.stop-stop.ensures.some in
-    let inside : hit.start < (g.R.BedRecord.as_record c.args.row.now).stop = within _ second _ _ _ _ c.loop-hit.from hit i.0 w.0 _ w.1 some i.2 in
+    let inside : hit.start < (g.R.BedRecord.as_record c.args.feature.now).stop = within _ second _ _ _ _ c.loop-hit.from hit i.0 w.0 _ w.1 some i.2 in
     let at : c.min.result ≡ hit.start = omega (arith, c.min.ensures, c.start-start.ensures, c.stop.ensures.value, inside) in
     rw (c.max-from.ensures, c.stop-stop.ensures.value)
     (w.0, w.2, Remains-next _ second _ _ _ _ c.loop-hit.from hit i.0 w.0 _ w.1 some i.2 _ (rw at at c.in_ok-put_part.ensures))
@@ -36,9 +36,9 @@ returns-then-from-stop g c = λ second order given.
     let w = went g.H.Iterator.next_gives g.T.BedRecord.as_record i.0 _ _ _ i.1 c.in-Some.ensures.steps in
     let hit = g.T.BedRecord.as_record c.in-Some.hit in
     let some : hit.start < hit.stop = rw c.stop-stop.ensures.value at c.stop-stop.ensures.some in
-    let inside : hit.start < (g.R.BedRecord.as_record c.args.row.now).stop = within _ second _ _ _ _ c.loop-hit.from hit i.0 w.0 _ w.1 some i.2 in
+    let inside : hit.start < (g.R.BedRecord.as_record c.args.feature.now).stop = within _ second _ _ _ _ c.loop-hit.from hit i.0 w.0 _ w.1 some i.2 in
     let at : c.min.result ≡ hit.start = omega (arith, c.min.ensures, c.start-start.ensures, c.stop.ensures.value, inside) in
-    let past : (g.R.BedRecord.as_record c.args.row.now).stop ≤ max c.loop-hit.from hit.stop = omega (arith, c.max-from.ensures, c.stop-stop.ensures.value, c.stop-in-loop-hit.ensures.value, c.if-from-stop.true) in
+    let past : (g.R.BedRecord.as_record c.args.feature.now).stop ≤ max c.loop-hit.from hit.stop = omega (arith, c.max-from.ensures, c.stop-stop.ensures.value, c.stop-in-loop-hit.ensures.value, c.if-from-stop.true) in
     Remains-covered _ second _ _ _ _ _ w.0 _ past
     (Remains-next _ second _ _ _ _ c.loop-hit.from hit i.0 w.0 _ w.1 some i.2 _ (rw at at c.in_ok-put_part.ensures))
 

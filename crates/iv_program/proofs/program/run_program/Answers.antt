@@ -6,7 +6,7 @@ use Rattle.iv_program.proofs.program.run_program.Goals as goal
 
 pub returns-in-Some : goal.returns-in-Some
 returns-in-Some g c =
-    gave-info_request (map (λ word. word.now) c.args.words.now) c.finish.result c.in-Some.info_request (g.F.InputFiles.state c.args.files.now) (g.R.Source.state c.args.input.now)
+    gave-info_request (map (λ argument. argument.now) c.args.arguments.now) c.finish.result c.in-Some.info_request (g.F.InputFiles.state c.args.files.now) (g.R.Source.state c.args.input.now)
     (g.W.Sink.state c.args.output.now) (g.W.Sink.state c.print_notice.new.output) (g.W.Sink.state c.finish.new.output)
     (g.E.Sink.state c.args.messages.now) (g.E.Sink.state c.finish.new.messages) c.print_notice.result (sym c.in-Some.ensures) c.print_notice.ensures
     (subst (λ (e : ExitReason). EndsRun e [] (g.W.Sink.state c.print_notice.new.output) (g.W.Sink.state c.finish.new.output) (g.E.Sink.state c.args.messages.now) (g.E.Sink.state c.finish.new.messages) c.finish.result.exit_reason)
@@ -14,7 +14,7 @@ returns-in-Some g c =
 
 pub returns-in-Ok : goal.returns-in-Ok
 returns-in-Ok g c =
-    ran-plan (map (λ word. word.now) c.args.words.now) c.finish-in-Ok.result c.in-Ok.plan (g.F.InputFiles.state c.args.files.now) (g.F.InputFiles.state c.run_plan-ended.new.files)
+    ran-plan (map (λ argument. argument.now) c.args.arguments.now) c.finish-in-Ok.result c.in-Ok.plan (g.F.InputFiles.state c.args.files.now) (g.F.InputFiles.state c.run_plan-ended.new.files)
     (g.R.Source.state c.args.input.now) (g.R.Source.state c.run_plan-ended.new.input)
     (g.W.Sink.state c.args.output.now) (g.W.Sink.state c.run_plan-ended.new.output) (g.W.Sink.state c.finish-in-Ok.new.output)
     (g.E.Sink.state c.args.messages.now) (g.E.Sink.state c.run_plan-ended.new.messages) (g.E.Sink.state c.finish-in-Ok.new.messages)
@@ -23,7 +23,7 @@ returns-in-Ok g c =
 
 pub returns-in-Err : goal.returns-in-Err
 returns-in-Err g c =
-    had-no-plan (map (λ word. word.now) c.args.words.now) c.finish-in-Err.result c.in-Err.fault (g.F.InputFiles.state c.args.files.now) (g.R.Source.state c.args.input.now)
+    had-no-plan (map (λ argument. argument.now) c.args.arguments.now) c.finish-in-Err.result c.in-Err.fault (g.F.InputFiles.state c.args.files.now) (g.R.Source.state c.args.input.now)
     (g.W.Sink.state c.args.output.now) (g.W.Sink.state c.finish-in-Err.new.output) (g.E.Sink.state c.args.messages.now) (g.E.Sink.state c.finish-in-Err.new.messages)
     c.from.result (sym c.of.ensures ∙ c.in_default.is) c.in-Err.ensures.err c.from.ensures
     (subst (λ (e : ExitReason). EndsRun e [] (g.W.Sink.state c.args.output.now) (g.W.Sink.state c.finish-in-Err.new.output) (g.E.Sink.state c.args.messages.now) (g.E.Sink.state c.finish-in-Err.new.messages) c.finish-in-Err.result.exit_reason)

@@ -4,9 +4,9 @@ use Rattle.iv_text.specs.Ordered.{AreInOrder, ordered}
 use Rattle.iv_text.specs.Read.{IsOnGenome}
 use Rattle.iv_text.specs.RecordValue.{RecordValue}
 use Rattle.iv_text.proofs.OrderedLemmas.{ordered-in_order}
-use Rattle.iv_index.specs.Inside.Spans.{span_records}
-use Rattle.iv_index.proofs.BareLemmas.{kept-on_genome}
-use Rattle.iv_index.proofs.SortedLemmas.{ordered-all}
+use Rattle.iv_locators.specs.Inside.Spans.{span_records}
+use Rattle.iv_locators.proofs.BareLemmas.{kept-on_genome}
+use Rattle.iv_locators.proofs.SortedLemmas.{ordered-all}
 use Rattle.iv_view.specs.Views.{kept_text}
 use Rattle.iv_run.specs.Loading.{Parsed}
 use Rattle.iv_run.specs.Inside.Prints.{Prints}
@@ -14,18 +14,18 @@ use Rattle.iv_run.proofs.intervals_view.print_files.Goals as goal
 
 pub print-requires-clause-order : goal.print-requires-clause-order
 print-requires-clause-order g c =
-    let rows = ap span_records c.as_slice.ensures.value ∙ c.sort_spans.ensures ∙ ap ordered c.in_ok-spans.ensures in
-    subst AreInOrder (sym rows) (ordered-in_order c.files.inside.first.rows)
+    let records = ap span_records c.as_slice.ensures.value ∙ c.sort_spans.ensures ∙ ap ordered c.in_ok-spans.ensures in
+    subst AreInOrder (sym records) (ordered-in_order c.files.inside.first.records)
 
 pub print-requires-clause-on_genome : goal.print-requires-clause-on_genome
 print-requires-clause-on_genome g c =
-    let rows = ap span_records c.as_slice.ensures.value ∙ c.sort_spans.ensures ∙ ap ordered c.in_ok-spans.ensures in
+    let records = ap span_records c.as_slice.ensures.value ∙ c.sort_spans.ensures ∙ ap ordered c.in_ok-spans.ensures in
     let inside = c.files.inside in
-    subst (All (IsOnGenome inside.genome)) (sym rows)
-    (ordered-all (IsOnGenome inside.genome) inside.first.rows (kept-on_genome inside.genome inside.first.width inside.first.rows c.files.invariant.0.kept_all))
+    subst (All (IsOnGenome inside.genome)) (sym records)
+    (ordered-all (IsOnGenome inside.genome) inside.first.records (kept-on_genome inside.genome inside.first.width inside.first.records c.files.invariant.0.kept_all))
 
 pub returns : goal.returns
 returns g c = λ asked is.
-    let rows = ap span_records c.as_slice.ensures.value ∙ c.sort_spans.ensures ∙ ap ordered c.in_ok-spans.ensures in
-    subst (λ (files : Parsed). Prints (g.S.Sink.state c.args.sink.now) (g.S.Sink.state c.print.new.sink) c.print.result (kept_text None asked files.genome (ordered files.first.rows))) c.files.view_is
-    (subst (λ (l : List RecordValue). Prints (g.S.Sink.state c.args.sink.now) (g.S.Sink.state c.print.new.sink) c.print.result (kept_text None asked c.files.inside.genome l)) rows (c.print.ensures asked is))
+    let records = ap span_records c.as_slice.ensures.value ∙ c.sort_spans.ensures ∙ ap ordered c.in_ok-spans.ensures in
+    subst (λ (files : Parsed). Prints (g.S.Sink.state c.args.sink.now) (g.S.Sink.state c.print.new.sink) c.print.result (kept_text None asked files.genome (ordered files.first.records))) c.files.view_is
+    (subst (λ (l : List RecordValue). Prints (g.S.Sink.state c.args.sink.now) (g.S.Sink.state c.print.new.sink) c.print.result (kept_text None asked c.files.inside.genome l)) records (c.print.ensures asked is))

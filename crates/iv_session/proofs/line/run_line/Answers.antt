@@ -5,4 +5,4 @@ pub returns-in-Ok : goal.returns-in-Ok
 returns-in-Ok g c = ran-done _ c.args.line.now _ _ _ _ _ c.in-Ok.ensures
 
 pub returns-in-Err : goal.returns-in-Err
-returns-in-Err g c = ran-fault _ c.args.line.now _ _ _ _ _ _ c.in-Err.fault c.tell.result c.in-Err.ensures c.tell.ensures
+returns-in-Err g c = ran-fault _ c.args.line.now _ _ _ _ _ _ c.in-Err.fault c.report.result c.in-Err.ensures c.report.ensures

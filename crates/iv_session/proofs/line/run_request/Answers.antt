@@ -35,12 +35,12 @@ returns-in_err-open_view-in-Open g c =
     let p = err_from_is_err_and c.from_residual-in_err-open_view-in-Open.result c.from_residual-in_err-open_view-in-Open.ensures.1 in
     let why = rw (c.bytes-in-Open.ensures, c.as_slice.ensures, c.of.ensures, c.bytes-in-Open-2.ensures) at c.in_err-open_view-in-Open.ensures.why in
     rw (p.1, p.2, c.in-Open.is)
-    (refused (request.Open c.in-Open.name c.in-Open.words) c.args.session.now _ _ c.in_err-open_view-in-Open.field-0.0 (RefusesOpen-cut c.args.session.now c.in-Open.name c.in-Open.words c.in_err-open_view-in-Open.field-0.0 why) c.in_err-open_view-in-Open.ensures.err)
+    (refused (request.Open c.in-Open.name c.in-Open.arguments) c.args.session.now _ _ c.in_err-open_view-in-Open.field-0.0 (RefusesOpen-cut c.args.session.now c.in-Open.name c.in-Open.arguments c.in_err-open_view-in-Open.field-0.0 why) c.in_err-open_view-in-Open.ensures.err)
 
 pub returns-in_ok-open_view-in-Open : goal.returns-in_ok-open_view-in-Open
 returns-in_ok-open_view-in-Open g c =
     let opens = rw (c.bytes-in-Open.ensures, c.as_slice.ensures, c.of.ensures, c.bytes-in-Open-2.ensures) at c.in_ok-open_view-in-Open.ensures.ok in
-    rw c.in-Open.is (done-silent (request.Open c.in-Open.name c.in-Open.words) c.args.session.now _ _ (Opens-cut c.args.session.now _ c.in-Open.name c.in-Open.words opens, refl))
+    rw c.in-Open.is (done-silent (request.Open c.in-Open.name c.in-Open.arguments) c.args.session.now _ _ (Opens-cut c.args.session.now _ c.in-Open.name c.in-Open.arguments opens, refl))
 
 pub returns-in_err-close_view-in-Close : goal.returns-in_err-close_view-in-Close
 returns-in_err-close_view-in-Close g c =

@@ -12,23 +12,23 @@ pub of-requires : goal.of-requires
 of-requires g c = sym c.is_strictly_sorted.ensures ∙ c.if-is_strictly_sorted.true
 
 -- distinct records are in order as they came
-entries-are : (rows : List RecordValue) (entries : List (RecordValue × ℕ)) → AreDistinct rows → entries ≡ grouped record_cmp rows → entries ≡ grouped record_cmp (ordered rows)
-entries-are rows entries up is = is ∙ ap (grouped record_cmp) (distinct-ordered rows up)
+entries-are : (records : List RecordValue) (entries : List (RecordValue × ℕ)) → AreDistinct records → entries ≡ grouped record_cmp records → entries ≡ grouped record_cmp (ordered records)
+entries-are records entries up is = is ∙ ap (grouped record_cmp) (distinct-ordered records up)
 
 pub from_entries-requires-clause-ascend : goal.from_entries-requires-clause-ascend
 from_entries-requires-clause-ascend g c = λ es run.
-    given-ordered (ordered c.args.rows) es (ordered-in_order c.args.rows)
-    (subst (λ (left : List (RecordValue × ℕ)). Drains GivesEntry left es) (entries-are c.args.rows c.of.result (sym c.is_strictly_sorted.ensures ∙ c.if-is_strictly_sorted.true) c.of.ensures) run)
+    given-ordered (ordered c.args.records) es (ordered-in_order c.args.records)
+    (subst (λ (left : List (RecordValue × ℕ)). Drains GivesEntry left es) (entries-are c.args.records c.of.result (sym c.is_strictly_sorted.ensures ∙ c.if-is_strictly_sorted.true) c.of.ensures) run)
 
 pub returns-then-is_strictly_sorted : goal.returns-then-is_strictly_sorted
 returns-then-is_strictly_sorted g c =
-    given-built c.args.rows c.of.result (entries-are c.args.rows c.of.result (sym c.is_strictly_sorted.ensures ∙ c.if-is_strictly_sorted.true) c.of.ensures) c.from_entries.result c.from_entries.ensures.values c.from_entries.ensures.ordered
+    given-built c.args.records c.of.result (entries-are c.args.records c.of.result (sym c.is_strictly_sorted.ensures ∙ c.if-is_strictly_sorted.true) c.of.ensures) c.from_entries.result c.from_entries.ensures.values c.from_entries.ensures.ordered
 
 pub from_entries-requires-2-clause-ascend : goal.from_entries-requires-2-clause-ascend
 from_entries-requires-2-clause-ascend g c = λ es run.
-    given-ordered (ordered c.args.rows) es (ordered-in_order c.args.rows)
+    given-ordered (ordered c.args.records) es (ordered-in_order c.args.records)
     (subst (λ (left : List (RecordValue × ℕ)). Drains GivesEntry left es) c.in_ok-of.ensures run)
 
 pub returns : goal.returns
 returns g c =
-    given-built c.args.rows c.in_ok-of.field-0 c.in_ok-of.ensures c.from_entries-2.result c.from_entries-2.ensures.values c.from_entries-2.ensures.ordered
+    given-built c.args.records c.in_ok-of.field-0 c.in_ok-of.ensures c.from_entries-2.result c.from_entries-2.ensures.values c.from_entries-2.ensures.ordered

@@ -7,8 +7,8 @@ returns-clause-line c = λ g width line r is. line-again g width line r is.0 is.
 pub returns-clause-lengths : goal.returns-clause-lengths
 returns-clause-lengths c = λ g other width line r. line-lengths g other width line r
 
-pub returns-clause-rows : goal.returns-clause-rows
-returns-clause-rows c = λ g width empty limit rows is. file-again g limit width is.0 is.1 empty rows
+pub returns-clause-records : goal.returns-clause-records
+returns-clause-records c = λ g width empty limit records is. file-again g limit width is.0 is.1 empty records
 
 pub returns-clause-file : goal.returns-clause-file
 returns-clause-file c = bed-again

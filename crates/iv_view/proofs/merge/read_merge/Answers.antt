@@ -9,7 +9,7 @@ pub returns-in_err-summaries : goal.returns-in_err-summaries
 returns-in_err-summaries c =
     let p = err_from_is_err_and c.from_residual-in_err-summaries.result c.from_residual-in_err-summaries.ensures.1 in
     let said = c.said.inside in
-    let read = merge-read (said_by (map (λ word. word.now) c.args.words.now) nothing_said) (option_copied said.distance) (option_copied said.columns) (option_copied said.ops) said.stranded
+    let read = merge-read (said_by (map (λ argument. argument.now) c.args.arguments.now) nothing_said) (option_copied said.distance) (option_copied said.columns) (option_copied said.ops) said.stranded
     (sym c.read.ensures ∙ c.in_ok-said.ensures.ok_part ∙ ap Some (sym c.said.view_is)) c.in_ok-distance.distance (sym c.read_distance.ensures ∙ c.in_ok-distance.ensures.ok_part)
     (c.in_ok-lists.lists.columns.items, c.in_ok-lists.lists.ops.items) (sym (rw c.in_ok-lists.ensures.ok_part at c.read_lists.ensures))
     c.read_summaries.result (rw (c.as_slice.ensures.value, c.as_slice-2.ensures.value) at c.read_summaries.ensures) in
@@ -18,7 +18,7 @@ returns-in_err-summaries c =
 pub returns : goal.returns
 returns c =
     let said = c.said.inside in
-    let read = merge-read (said_by (map (λ word. word.now) c.args.words.now) nothing_said) (option_copied said.distance) (option_copied said.columns) (option_copied said.ops) said.stranded
+    let read = merge-read (said_by (map (λ argument. argument.now) c.args.arguments.now) nothing_said) (option_copied said.distance) (option_copied said.columns) (option_copied said.ops) said.stranded
     (sym c.read.ensures ∙ c.in_ok-said.ensures.ok_part ∙ ap Some (sym c.said.view_is)) c.in_ok-distance.distance (sym c.read_distance.ensures ∙ c.in_ok-distance.ensures.ok_part)
     (c.in_ok-lists.lists.columns.items, c.in_ok-lists.lists.ops.items) (sym (rw c.in_ok-lists.ensures.ok_part at c.read_lists.ensures))
     c.read_summaries.result (rw (c.as_slice.ensures.value, c.as_slice-2.ensures.value) at c.read_summaries.ensures) in

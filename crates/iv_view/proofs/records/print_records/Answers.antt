@@ -20,11 +20,11 @@ first-rows g entries rest r n first =
 
 pub entries-init : goal.entries-init
 entries-init g c =
-    let all = filter-from_first c.args.track.now.rows in
+    let all = filter-from_first c.args.track.now.records in
     let one = takes_one_more c.args.meter.now c.args.meter.now c.entries-entries.new.meter 0 (takes_none c.args.meter.now) c.entries-entries.ensures.step in
-    let each : length c.entries-entries.result ≡ different_records c.args.track.now.rows = c.entries-entries.ensures.each ∙ ap different_records all in
+    let each : length c.entries-entries.result ≡ different_records c.args.track.now.records = c.entries-entries.ensures.each ∙ ap different_records all in
     record {
-      put = rw (c.entries-entries.ensures.rows ∙ all) (Underway-begin _ _);
+      put = rw (c.entries-entries.ensures.records ∙ all) (Underway-begin _ _);
       no_less = one.no_less;
       at_most = omega (arith, one.at_most, each);
     }

@@ -11,17 +11,17 @@ one-more n i x more = let is : n - i ≡ suc (n - (i + 1)) = omega (arith, more)
 pub copies-init : goal.copies-init
 copies-init g c =
     let all : c.args.copies - 0 ≡ c.args.copies = omega arith in
-    subst (λ n. Underway (g.S.Sink.state c.args.sink.now) (g.S.Sink.state c.args.sink.now) (records_text c.args.genome.now (replicate n c.args.row.now)) (records_text c.args.genome.now (replicate c.args.copies c.args.row.now)))
+    subst (λ n. Underway (g.S.Sink.state c.args.sink.now) (g.S.Sink.state c.args.sink.now) (records_text c.args.genome.now (replicate n c.args.feature.now)) (records_text c.args.genome.now (replicate c.args.copies c.args.feature.now)))
     (sym all) (Underway-begin _ _)
 
 pub copies-preserved : goal.copies-preserved
 copies-preserved g c =
-    let next = one-more c.args.copies c.copies.counter c.args.row.now c.copies-test.true in
+    let next = one-more c.args.copies c.copies.counter c.args.feature.now c.copies-test.true in
     Underway-more _ _ _ _ _ _ (rw next at c.copies.invariant) (rw c.as_ref.ensures at c.in_ok-put_line.ensures)
 
 pub returns-in_err-put_line : goal.returns-in_err-put_line
 returns-in_err-put_line g c =
-    let next = one-more c.args.copies c.copies.counter c.args.row.now c.copies-test.true in
+    let next = one-more c.args.copies c.copies.counter c.args.feature.now c.copies-test.true in
     Puts-err _ _ c.from_residual.result _ c.from_residual.ensures.0
     (Underway-fails _ _ _ _ _ _ (rw next at c.copies.invariant) (rw c.as_ref.ensures at c.in_err-put_line.ensures))
 

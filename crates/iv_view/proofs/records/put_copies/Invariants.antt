@@ -7,5 +7,5 @@ use Rattle.iv_view.proofs.records.put_copies.Given as goal
 -- the rows of the copies that are left remain to be written
 abbrev pub invariant-copies : goal.invariant-copies
 invariant-copies g l = Underway (g.S.Sink.state l.fn.sink) (g.S.Sink.state l.sink)
-    (records_text l.genome (replicate (l.copies - l.counter) l.row))
-    (records_text l.genome (replicate l.copies l.row))
+    (records_text l.genome (replicate (l.copies - l.counter) l.feature))
+    (records_text l.genome (replicate l.copies l.feature))

@@ -6,7 +6,7 @@ use Rattle.iv_args.proofs.plan.Plan.view_beside.Goals as goal
 pub returns-in_err-view : goal.returns-in_err-view
 returns-in_err-view g c =
     let p = err_from_is_err_and c.from_residual.result c.from_residual.ensures.1 in
-    rw (p.1, p.2) (sym (fault-narrowed c.args.beside.width c.args.beside.second c.args.beside.fasta c.args.self.now.view _ (sym c.view.ensures ∙ c.in_err-view.was)))
+    rw (p.1, p.2) (sym (fault-narrowed c.args.available.width c.args.available.second c.args.available.fasta c.args.self.now.view _ (sym c.view.ensures ∙ c.in_err-view.was)))
 
 pub returns : goal.returns
-returns g c = c.narrowed.ensures ∙ view-narrowed c.args.beside.width c.args.beside.second c.args.beside.fasta c.args.self.now.view c.in_ok-view.view (sym c.view.ensures ∙ c.in_ok-view.was)
+returns g c = c.narrowed.ensures ∙ view-narrowed c.args.available.width c.args.available.second c.args.available.fasta c.args.self.now.view c.in_ok-view.view (sym c.view.ensures ∙ c.in_ok-view.was)

@@ -4,16 +4,16 @@ use Rattle.iv_args.specs.Inside.Drafts.{drafted}
 use Rattle.iv_args.proofs.DraftLemmas.{one-up, left-later}
 use Rattle.iv_args.proofs.plan.PlanDraft.take_all.Goals as goal
 
-pub words-preserved : goal.words-preserved
-words-preserved g c =
-    c.words.invariant ∙ ap (λ l. drafted c.args.run l c.words.self) (one-up (λ word. word.now) c.words.rest.now _ c.in-len1-up.len_at_least)
-    ∙ c.in_ok-values.ensures.ok ∙ ap (λ l. drafted c.args.run l c.take.new.self) (left-later (λ word. word.now) _ c.in_ok-values.values)
+pub arguments-preserved : goal.arguments-preserved
+arguments-preserved g c =
+    c.arguments.invariant ∙ ap (λ l. drafted c.args.run l c.arguments.self) (one-up (λ argument. argument.now) c.arguments.rest.now _ c.in-len1-up.len_at_least)
+    ∙ c.in_ok-values.ensures.ok ∙ ap (λ l. drafted c.args.run l c.take.new.self) (left-later (λ argument. argument.now) _ c.in_ok-values.values)
 
 pub returns-in_err-values-clause-err : goal.returns-in_err-values-clause-err
 returns-in_err-values-clause-err g c =
     let p = err_from_is_err_and c.from_residual.result c.from_residual.ensures.1 in
-    let words = c.words.invariant ∙ ap (λ l. drafted c.args.run l c.words.self) (one-up (λ word. word.now) c.words.rest.now _ c.in-len1-up.len_at_least) in
+    let arguments = c.arguments.invariant ∙ ap (λ l. drafted c.args.run l c.arguments.self) (one-up (λ argument. argument.now) c.arguments.rest.now _ c.in-len1-up.len_at_least) in
     rw (p.1, p.2) (elim c.in_err-values.ensures.err [
       | inl memory ↦ inl memory
-      | inr refused ↦ inr (refused.0, words ∙ refused.1)
+      | inr refused ↦ inr (refused.0, arguments ∙ refused.1)
     ])

@@ -9,17 +9,17 @@ use Rattle.iv_blocks.proofs.blocks.Blocks.insert_sequence.Goals as goal
 pub insert_blocks-requires-clause-stops : goal.insert_blocks-requires-clause-stops
 insert_blocks-requires-clause-stops g c =
     let long : c.unwrap_or-length.result ≡ sequence_length c.args.genome.now c.args.rank = c.unwrap_or-length.ensures ∙ ap (λ o. unwrap_or o 0) c.length_u32.ensures.value in
-    all-stops c.args.genome.now c.args.track.now.width c.args.track.now.rows c.requires.fit (record { rank = c.args.rank; side = Plus }) c.unwrap_or-length.result long
+    all-stops c.args.genome.now c.args.track.now.width c.args.track.now.records c.requires.fit (record { rank = c.args.rank; side = Plus }) c.unwrap_or-length.result long
 
 pub insert_blocks-requires-2-clause-stops : goal.insert_blocks-requires-2-clause-stops
 insert_blocks-requires-2-clause-stops g c =
     let long : c.unwrap_or-length.result ≡ sequence_length c.args.genome.now c.args.rank = c.unwrap_or-length.ensures ∙ ap (λ o. unwrap_or o 0) c.length_u32.ensures.value in
-    all-stops c.args.genome.now c.args.track.now.width c.args.track.now.rows c.requires.fit (record { rank = c.args.rank; side = Minus }) c.unwrap_or-length.result long
+    all-stops c.args.genome.now c.args.track.now.width c.args.track.now.records c.requires.fit (record { rank = c.args.rank; side = Minus }) c.unwrap_or-length.result long
 
 pub returns : goal.returns
 returns g c =
     let a = c.args in
     let long : c.unwrap_or-length.result ≡ sequence_length c.args.genome.now c.args.rank = c.unwrap_or-length.ensures ∙ ap (λ o. unwrap_or o 0) c.length_u32.ensures.value in
     on_ok_weaker c.insert_blocks-2.result (λ second.
-    put-both a.genome.now a.track.now.width a.track.now.rows c.requires.fit a.rank c.unwrap_or-length.result long a.self.now c.insert_blocks.new.self c.insert_blocks-2.new.self
+    put-both a.genome.now a.track.now.width a.track.now.records c.requires.fit a.rank c.unwrap_or-length.result long a.self.now c.insert_blocks.new.self c.insert_blocks-2.new.self
     c.in_ok-insert_blocks.ensures.ok second) c.insert_blocks-2.ensures.ok

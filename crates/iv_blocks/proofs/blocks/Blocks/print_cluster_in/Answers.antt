@@ -14,16 +14,16 @@ use Rattle.iv_blocks.specs.declared.options.BlockOptions.{BlockOptions}
 use Rattle.iv_blocks.proofs.ClusterLemmas.{IsPassed-begin, IsPassed-next, IsPassed-few, count-below, left-is, number-is, rows-next}
 use Rattle.iv_blocks.proofs.blocks.Blocks.print_cluster_in.Goals as goal
 
-pub loop-row-init : goal.loop-row-init
-loop-row-init g c =
+pub loop-feature-init : goal.loop-feature-init
+loop-feature-init g c =
     let a = c.args in
     let test = overlaps a.region.seq a.region.start a.region.stop in
-    let all : c.hits-hits.result.rows ≡ hits a.track.now.rows a.region.seq a.region.start a.region.stop = c.hits-hits.ensures.rows in
+    let all : c.hits-hits.result.records ≡ hits a.track.now.records a.region.seq a.region.start a.region.stop = c.hits-hits.ensures.records in
     record {
       put = rw all (Underway-begin _ _);
-      ordered = subst (λ (l : List RecordValue). AreInOrder l) (sym all) (in_order-filter record_cmp test a.track.now.rows c.len-ordered.ensures.ordered);
+      ordered = subst (λ (l : List RecordValue). AreInOrder l) (sym all) (in_order-filter record_cmp test a.track.now.records c.len-ordered.ensures.ordered);
       here = λ r m.
-          let parts = overlaps_parts a.region.seq a.region.start a.region.stop r (mem-filter test a.track.now.rows r (subst (λ (l : List RecordValue). Mem r l) all m)).1 in
+          let parts = overlaps_parts a.region.seq a.region.start a.region.stop r (mem-filter test a.track.now.records r (subst (λ (l : List RecordValue). Mem r l) all m)).1 in
           (parts.0, parts.1);
       passed = IsPassed-begin _ _ _ c.of-ahead.ensures.all;
       until = omega arith;
@@ -34,40 +34,40 @@ loop-row-init g c =
 pub count_until-number-requires : goal.count_until-number-requires
 count_until-number-requires g c =
     let entries : c.self.inside.ledger.entries ≡ c.args.self.now.entries = ap (λ (b : KeptBlocks). b.entries) c.self.view_is in
-    let few = IsPassed-few c.loop-row.number _ _ c.loop-row.ahead c.loop-row.hits.rows c.in-Some.row.now c.loop-row.invariant.passed refl in
+    let few = IsPassed-few c.loop-feature.number _ _ c.loop-feature.ahead c.loop-feature.hits.records c.in-Some.feature.now c.loop-feature.invariant.passed refl in
     record { few = omega (arith, few.1, length-map c.args.self.now.entries interval_of, ap (λ (l : Entries). length l) entries, c.len-few.ensures.len, c.len-few.ensures.small) }
 
 pub overflow_add-number : goal.overflow_add-number
 overflow_add-number g c =
     let entries : c.self.inside.ledger.entries ≡ c.args.self.now.entries = ap (λ (b : KeptBlocks). b.entries) c.self.view_is in
-    let r = c.in-Some.row.now in
-    let counted : c.count_until-number.result ≡ length (take_while (starts_until r.seq r.start) c.loop-row.ahead) = rw (← c.seq.ensures, ← c.start.ensures) c.count_until-number.ensures.count in
-    let few = IsPassed-few c.loop-row.number c.count_until-number.result _ c.loop-row.ahead c.loop-row.hits.rows r c.loop-row.invariant.passed counted in
+    let r = c.in-Some.feature.now in
+    let counted : c.count_until-number.result ≡ length (take_while (starts_until r.seq r.start) c.loop-feature.ahead) = rw (← c.seq.ensures, ← c.start.ensures) c.count_until-number.ensures.count in
+    let few = IsPassed-few c.loop-feature.number c.count_until-number.result _ c.loop-feature.ahead c.loop-feature.hits.records r c.loop-feature.invariant.passed counted in
     omega (arith, few.0, length-map c.args.self.now.entries interval_of, ap (λ (l : Entries). length l) entries, c.len-few.ensures.len, c.len-few.ensures.small)
 
-pub loop-row-preserved : goal.loop-row-preserved
-loop-row-preserved g c =
+pub loop-feature-preserved : goal.loop-feature-preserved
+loop-feature-preserved g c =
     let a = c.args in
-    let i = c.loop-row.invariant in
-    let r = c.in-Some.row.now in
-    let first : c.loop-row.hits.rows ≡ r ∷ c.next.new.self.rows = c.in-Some.ensures.row in
-    let counted : c.count_until-number.result ≡ length (take_while (starts_until r.seq r.start) c.loop-row.ahead) = rw (← c.seq.ensures, ← c.start.ensures) c.count_until-number.ensures.count in
-    let past : c.count_until-number.new.ahead ≡ drop_while (starts_until r.seq r.start) c.loop-row.ahead = rw (← c.seq.ensures, ← c.start.ensures) c.count_until-number.ensures.past in
-    let number = number-is c.loop-row.number c.count_until-number.result _ c.loop-row.ahead c.count_until-number.new.ahead c.loop-row.hits.rows c.next.new.self.rows r i.passed first counted past in
+    let i = c.loop-feature.invariant in
+    let r = c.in-Some.feature.now in
+    let first : c.loop-feature.hits.records ≡ r ∷ c.next.new.self.records = c.in-Some.ensures.feature in
+    let counted : c.count_until-number.result ≡ length (take_while (starts_until r.seq r.start) c.loop-feature.ahead) = rw (← c.seq.ensures, ← c.start.ensures) c.count_until-number.ensures.count in
+    let past : c.count_until-number.new.ahead ≡ drop_while (starts_until r.seq r.start) c.loop-feature.ahead = rw (← c.seq.ensures, ← c.start.ensures) c.count_until-number.ensures.past in
+    let number = number-is c.loop-feature.number c.count_until-number.result _ c.loop-feature.ahead c.count_until-number.new.ahead c.loop-feature.hits.records c.next.new.self.records r i.passed first counted past in
     let together = ap (λ (o : BlockOptions). o.stranded) c.requires.joined in
-    let next = rows-next a.self.now.options a.genome.now a.track.now.width a.track.now.rows a.self.now.entries c.requires.right c.requires.fit together
-    c.loop-row.hits.rows c.next.new.self.rows r (c.loop-row.number + c.count_until-number.result) first number in
-    let row : c.as_ref.result ≡ r = c.as_ref.ensures in
-    let sorted : AreInOrder (r ∷ c.next.new.self.rows) = subst (λ (l : List RecordValue). AreInOrder l) first i.ordered in
+    let next = rows-next a.self.now.options a.genome.now a.track.now.width a.track.now.records a.self.now.entries c.requires.right c.requires.fit together
+    c.loop-feature.hits.records c.next.new.self.records r (c.loop-feature.number + c.count_until-number.result) first number in
+    let feature : c.as_ref.result ≡ r = c.as_ref.ensures in
+    let sorted : AreInOrder (r ∷ c.next.new.self.records) = subst (λ (l : List RecordValue). AreInOrder l) first i.ordered in
     let here = i.here r (subst (λ (l : List RecordValue). Mem r l) (sym first) (inl refl)) in
-    let left = left-is c.loop-row.number c.count_until-number.result _ c.loop-row.ahead c.count_until-number.new.ahead c.loop-row.hits.rows c.next.new.self.rows r i.passed first counted past in
+    let left = left-is c.loop-feature.number c.count_until-number.result _ c.loop-feature.ahead c.count_until-number.new.ahead c.loop-feature.hits.records c.next.new.self.records r i.passed first counted past in
     record {
-      put = Underway-more _ _ _ _ _ _ (rw next at i.put) (rw row at c.in_ok-put_numbered.ensures);
+      put = Underway-more _ _ _ _ _ _ (rw next at i.put) (rw feature at c.in_ok-put_numbered.ensures);
       ordered = sorted.1;
       here = λ q m. i.here q (subst (λ (l : List RecordValue). Mem q l) (sym first) (inr m));
-      passed = IsPassed-next c.loop-row.number c.count_until-number.result _ c.loop-row.ahead c.count_until-number.new.ahead c.loop-row.hits.rows c.next.new.self.rows r i.passed first counted past i.ordered;
-      until = count-below a.self.now.options a.genome.now a.track.now.width a.track.now.rows a.self.now.entries c.requires.right c.requires.fit together
-          r a.region.seq a.region.stop (c.loop-row.number + c.count_until-number.result) here.0 here.1 number;
+      passed = IsPassed-next c.loop-feature.number c.count_until-number.result _ c.loop-feature.ahead c.count_until-number.new.ahead c.loop-feature.hits.records c.next.new.self.records r i.passed first counted past i.ordered;
+      until = count-below a.self.now.options a.genome.now a.track.now.width a.track.now.records a.self.now.entries c.requires.right c.requires.fit together
+          r a.region.seq a.region.stop (c.loop-feature.number + c.count_until-number.result) here.0 here.1 number;
       no_less = omega (arith, i.no_less, c.in-Some.ensures.steps, c.count_until-number.ensures.steps);
       at_most = omega (arith, i.at_most, c.in-Some.ensures.steps, c.count_until-number.ensures.steps, left);
     }
@@ -75,23 +75,23 @@ loop-row-preserved g c =
 pub returns-in_err-put_numbered : goal.returns-in_err-put_numbered
 returns-in_err-put_numbered g c =
     let a = c.args in
-    let i = c.loop-row.invariant in
-    let r = c.in-Some.row.now in
-    let first : c.loop-row.hits.rows ≡ r ∷ c.next.new.self.rows = c.in-Some.ensures.row in
-    let counted : c.count_until-number.result ≡ length (take_while (starts_until r.seq r.start) c.loop-row.ahead) = rw (← c.seq.ensures, ← c.start.ensures) c.count_until-number.ensures.count in
-    let past : c.count_until-number.new.ahead ≡ drop_while (starts_until r.seq r.start) c.loop-row.ahead = rw (← c.seq.ensures, ← c.start.ensures) c.count_until-number.ensures.past in
-    let number = number-is c.loop-row.number c.count_until-number.result _ c.loop-row.ahead c.count_until-number.new.ahead c.loop-row.hits.rows c.next.new.self.rows r i.passed first counted past in
+    let i = c.loop-feature.invariant in
+    let r = c.in-Some.feature.now in
+    let first : c.loop-feature.hits.records ≡ r ∷ c.next.new.self.records = c.in-Some.ensures.feature in
+    let counted : c.count_until-number.result ≡ length (take_while (starts_until r.seq r.start) c.loop-feature.ahead) = rw (← c.seq.ensures, ← c.start.ensures) c.count_until-number.ensures.count in
+    let past : c.count_until-number.new.ahead ≡ drop_while (starts_until r.seq r.start) c.loop-feature.ahead = rw (← c.seq.ensures, ← c.start.ensures) c.count_until-number.ensures.past in
+    let number = number-is c.loop-feature.number c.count_until-number.result _ c.loop-feature.ahead c.count_until-number.new.ahead c.loop-feature.hits.records c.next.new.self.records r i.passed first counted past in
     let together = ap (λ (o : BlockOptions). o.stranded) c.requires.joined in
-    let next = rows-next a.self.now.options a.genome.now a.track.now.width a.track.now.rows a.self.now.entries c.requires.right c.requires.fit together
-    c.loop-row.hits.rows c.next.new.self.rows r (c.loop-row.number + c.count_until-number.result) first number in
-    let row : c.as_ref.result ≡ r = c.as_ref.ensures in
+    let next = rows-next a.self.now.options a.genome.now a.track.now.width a.track.now.records a.self.now.entries c.requires.right c.requires.fit together
+    c.loop-feature.hits.records c.next.new.self.records r (c.loop-feature.number + c.count_until-number.result) first number in
+    let feature : c.as_ref.result ≡ r = c.as_ref.ensures in
     let here = i.here r (subst (λ (l : List RecordValue). Mem r l) (sym first) (inl refl)) in
-    let left = left-is c.loop-row.number c.count_until-number.result _ c.loop-row.ahead c.count_until-number.new.ahead c.loop-row.hits.rows c.next.new.self.rows r i.passed first counted past in
-    let until = count-below a.self.now.options a.genome.now a.track.now.width a.track.now.rows a.self.now.entries c.requires.right c.requires.fit together
-    r a.region.seq a.region.stop (c.loop-row.number + c.count_until-number.result) here.0 here.1 number in
+    let left = left-is c.loop-feature.number c.count_until-number.result _ c.loop-feature.ahead c.count_until-number.new.ahead c.loop-feature.hits.records c.next.new.self.records r i.passed first counted past in
+    let until = count-below a.self.now.options a.genome.now a.track.now.width a.track.now.records a.self.now.entries c.requires.right c.requires.fit together
+    r a.region.seq a.region.stop (c.loop-feature.number + c.count_until-number.result) here.0 here.1 number in
     record {
       text = Puts-err _ _ c.from_residual.result _ c.from_residual.ensures.0
-          (Underway-fails _ _ _ _ _ _ (rw next at i.put) (rw row at c.in_err-put_numbered.ensures));
+          (Underway-fails _ _ _ _ _ _ (rw next at i.put) (rw feature at c.in_err-put_numbered.ensures));
       steps = record {
         no_less = omega (arith, i.no_less, c.in-Some.ensures.steps, c.count_until-number.ensures.steps);
         at_most = omega (arith, i.at_most, c.in-Some.ensures.steps, c.count_until-number.ensures.steps, left, until);
@@ -100,7 +100,7 @@ returns-in_err-put_numbered g c =
 
 pub returns-clause-steps : goal.returns-clause-steps
 returns-clause-steps g c =
-    let i = c.loop-row.invariant in
+    let i = c.loop-feature.invariant in
     record {
       no_less = omega (arith, i.no_less, c.in_default.ensures.steps);
       at_most = omega (arith, i.at_most, c.in_default.ensures.steps, i.until);

@@ -12,7 +12,7 @@ pub returns-clause-text : goal.returns-clause-text
 returns-clause-text g c =
     let a = c.args in
     let text = ap (texts (not a.limited) a.genome.now 0 (seq_count a.genome.now)) c.of-ahead.ensures.all
-    ∙ gaps-are a.self.now.options a.genome.now a.track.now.width a.track.now.rows a.self.now.entries c.requires.right c.requires.fit
+    ∙ gaps-are a.self.now.options a.genome.now a.track.now.width a.track.now.records a.self.now.entries c.requires.right c.requires.fit
     (ap (λ (o : BlockOptions). o.distance) c.requires.joined) (ap (λ (o : BlockOptions). o.stranded) c.requires.joined) a.limited in
     rw text at c.put_gaps.ensures.text
 
@@ -20,7 +20,7 @@ pub returns-clause-steps : goal.returns-clause-steps
 returns-clause-steps g c =
     let a = c.args in
     let long : length c.of-ahead.result ≡ length a.self.now.entries = ap (λ (l : List Block). length l) c.of-ahead.ensures.all ∙ length-map a.self.now.entries interval_of in
-    let count = count-is a.self.now.options a.genome.now a.track.now.width a.track.now.rows a.self.now.entries c.requires.right c.requires.fit in
+    let count = count-is a.self.now.options a.genome.now a.track.now.width a.track.now.records a.self.now.entries c.requires.right c.requires.fit in
     record {
       no_less = omega (arith, c.of-ahead.ensures.steps, c.put_gaps.ensures.steps);
       at_most = omega (arith, c.of-ahead.ensures.steps, c.put_gaps.ensures.steps, long, count);

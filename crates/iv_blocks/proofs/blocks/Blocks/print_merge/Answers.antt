@@ -35,19 +35,19 @@ pub returns-in_err-put_block-clause-text : goal.returns-in_err-put_block-clause-
 returns-in_err-put_block-clause-text g c =
     let first : c.loop-block.walk ≡ entry_shown c.in-Some.block ∷ c.next.new.self = c.in-Some.ensures.next in
     let next = rows-next c.args.genome.now c.name_of-name.result.now c.in-Some.block.key (entry_shown c.in-Some.block).1 c.loop-block.walk c.next.new.self c.name_of-name.ensures first in
-    rw (← rows-are _ _ c.args.track.now.width c.args.track.now.rows _ c.requires.right c.requires.fit)
+    rw (← rows-are _ _ c.args.track.now.width c.args.track.now.records _ c.requires.right c.requires.fit)
     (Puts-err _ _ c.from_residual.result _ c.from_residual.ensures.0
     (Underway-fails _ _ _ _ _ _ (rw next at c.loop-block.invariant.put) c.in_err-put_block.ensures))
 
 pub returns-clause-text : goal.returns-clause-text
 returns-clause-text g c =
     let u = rw c.in_default.ensures.next.0 at c.loop-block.invariant.put in
-    rw (← rows-are _ _ c.args.track.now.width c.args.track.now.rows _ c.requires.right c.requires.fit) (Underway-ends _ _ _ u)
+    rw (← rows-are _ _ c.args.track.now.width c.args.track.now.records _ c.requires.right c.requires.fit) (Underway-ends _ _ _ u)
 
 pub returns-in_err-put_block-clause-steps : goal.returns-in_err-put_block-clause-steps
 returns-in_err-put_block-clause-steps g c =
     let a = c.args in
-    let count = count-is a.self.now.options a.genome.now a.track.now.width a.track.now.rows a.self.now.entries c.requires.right c.requires.fit in
+    let count = count-is a.self.now.options a.genome.now a.track.now.width a.track.now.records a.self.now.entries c.requires.right c.requires.fit in
     let one = takes_one_more _ _ _ 0 (takes_none c.loop-block.meter) c.in-Some.ensures.step in
     record {
       no_less = omega (arith, c.loop-block.invariant.no_less, one);
@@ -57,7 +57,7 @@ returns-in_err-put_block-clause-steps g c =
 pub returns-clause-steps : goal.returns-clause-steps
 returns-clause-steps g c =
     let a = c.args in
-    let count = count-is a.self.now.options a.genome.now a.track.now.width a.track.now.rows a.self.now.entries c.requires.right c.requires.fit in
+    let count = count-is a.self.now.options a.genome.now a.track.now.width a.track.now.records a.self.now.entries c.requires.right c.requires.fit in
     let one = takes_one_more _ _ _ 0 (takes_none c.loop-block.meter) c.in_default.ensures.step in
     record {
       no_less = omega (arith, c.loop-block.invariant.no_less, one);

@@ -24,8 +24,8 @@ loop-block-init g c =
     let walked : c.walk-walk.result ≡ from (key_of a.group low) a.self.now.entries
     = c.walk-walk.ensures.entries ∙ ap₂ (λ (k : Key) (l : Entries). from k l) c.key.ensures (ap (λ (b : KeptBlocks). b.entries) c.self.view_is) in
     let one = takes_one_more _ _ _ 0 (takes_none c.reaching_from-low.new.meter) c.walk-walk.ensures.step in
-    let count = count-in a.self.now.options a.genome.now a.track.now.width a.track.now.rows a.self.now.entries c.requires.right c.requires.fit a.group.rank t a.start a.stop low c.reaching_from-low.ensures.low in
-    let text = rows-in a.self.now.options a.genome.now a.track.now.width a.track.now.rows a.self.now.entries c.requires.right c.requires.fit a.group.rank t a.start a.stop low c.reaching_from-low.ensures.low in
+    let count = count-in a.self.now.options a.genome.now a.track.now.width a.track.now.records a.self.now.entries c.requires.right c.requires.fit a.group.rank t a.start a.stop low c.reaching_from-low.ensures.low in
+    let text = rows-in a.self.now.options a.genome.now a.track.now.width a.track.now.records a.self.now.entries c.requires.right c.requires.fit a.group.rank t a.start a.stop low c.reaching_from-low.ensures.low in
     rw walked (record {
       put = rw text (Underway-begin _ _);
       ascends = ascends-filter (λ e. is_le (key_cmp (key_of a.group low) e.0)) a.self.now.entries (ascends-all a.self.now.entries c.requires.right.ordered);

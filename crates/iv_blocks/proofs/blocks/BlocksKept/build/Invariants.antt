@@ -3,4 +3,4 @@ use Rattle.iv_blocks.proofs.blocks.BlocksKept.build.Given as goal
 
 -- the sequences of lower ranks have their blocks
 abbrev pub invariant-loop-rank : goal.invariant-loop-rank
-invariant-loop-rank g l = IsBuiltTo l.genome l.track.rows l.fn.options l.rank l.blocks
+invariant-loop-rank g l = IsBuiltTo l.genome l.track.records l.fn.options l.rank l.blocks

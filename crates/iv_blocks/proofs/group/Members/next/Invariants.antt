@@ -4,15 +4,15 @@ use Rattle.iv_blocks.specs.Inside.MembersLeft.{IsAhead}
 use Rattle.iv_blocks.proofs.group.Members.next.Given as goal
 
 -- the same members are left, and each record that was passed has paid for its step
-abbrev pub invariant-loop-row : goal.invariant-loop-row
-invariant-loop-row g l =
+abbrev pub invariant-loop-feature : goal.invariant-loop-feature
+invariant-loop-feature g l =
     let m = l.self-inside in
     record {
-      ahead : IsAhead m.group.rank m.rows;
-      members : members_between m.group 0 m.to m.rows ≡ l.fn.self.members;
+      ahead : IsAhead m.group.rank m.records;
+      members : members_between m.group 0 m.to m.records ≡ l.fn.self.members;
       no_less : l.fn.meter ≤ l.meter;
-      paid : l.meter + length (between_on m.group.rank 0 m.to m.rows) ≤ l.fn.meter + l.fn.self.records;
+      paid : l.meter + length (between_on m.group.rank 0 m.to m.records) ≤ l.fn.meter + l.fn.self.passed_records;
     }
 
-abbrev pub decreases-loop-row : goal.decreases-loop-row
-decreases-loop-row g l = length l.self-inside.rows
+abbrev pub decreases-loop-feature : goal.decreases-loop-feature
+decreases-loop-feature g l = length l.self-inside.records

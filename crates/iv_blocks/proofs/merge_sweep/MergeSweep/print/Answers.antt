@@ -8,7 +8,7 @@ use Rattle.iv_blocks.specs.Groups.{listed}
 use Rattle.iv_blocks.specs.declared.options.BlockOptions.{BlockOptions}
 use Rattle.iv_cover.specs.Results.{HasRoom}
 use Rattle.iv_cover.proofs.FirstLemmas.{Underway-step, Underway-failed}
-use Rattle.iv_index.proofs.SequenceLemmas.{all-from, from-in, from-order, from-here, from-later}
+use Rattle.iv_locators.proofs.SequenceLemmas.{all-from, from-in, from-order, from-here, from-later}
 use Rattle.iv_blocks.proofs.RoomLemmas.{room-more}
 use Rattle.iv_blocks.proofs.SideLemmas.{few}
 use Rattle.iv_blocks.proofs.TextLemmas.{rows-next}
@@ -37,41 +37,41 @@ split_sequence-here-requires-clause-from g c =
 pub put_sequence-requires : goal.put_sequence-requires
 put_sequence-requires g c =
     let i = c.loop-rank.invariant in
-    let rows = c.args.self.now.1 in
+    let records = c.args.self.now.1 in
     let rank = c.loop-rank.rank in
     let room : ℕ = vec_capacity c.loop-rank.self-inside.values in
-    let here : c.split_sequence-here.result.0 ≡ on rank rows = c.split_sequence-here.ensures.here ∙ ap (on rank) i.left_is ∙ from-here rank rows in
-    let fewer : length c.split_sequence-here.result.0 ≤ length rows = omega (arith, ap (λ (l : List RecordValue). length l) here, few (λ (r : RecordValue). r.seq == rank) rows) in
+    let here : c.split_sequence-here.result.0 ≡ on rank records = c.split_sequence-here.ensures.here ∙ ap (on rank) i.left_is ∙ from-here rank records in
+    let fewer : length c.split_sequence-here.result.0 ≤ length records = omega (arith, ap (λ (l : List RecordValue). length l) here, few (λ (r : RecordValue). r.seq == rank) records) in
     record {
-      room = room-more room room (length rows) (length c.split_sequence-here.result.0) (listed c.loop-rank.self-inside.options.summaries) (omega arith) fewer
-          (subst (λ (o : BlockOptions). HasRoom room (length rows) (listed o.summaries)) (sym i.options_are) i.room);
+      room = room-more room room (length records) (length c.split_sequence-here.result.0) (listed c.loop-rank.self-inside.options.summaries) (omega arith) fewer
+          (subst (λ (o : BlockOptions). HasRoom room (length records) (listed o.summaries)) (sym i.options_are) i.room);
     }
 
 pub returns-in_err-put_sequence-clause-text : goal.returns-in_err-put_sequence-clause-text
 returns-in_err-put_sequence-clause-text g c =
     let i = c.loop-rank.invariant in
-    let rows = c.args.self.now.1 in
+    let records = c.args.self.now.1 in
     let rank = c.loop-rank.rank in
     let genome = c.args.genome.now in
     let low : rank < seq_count genome = omega (arith, c.loop-rank-test.true, c.count-rank-end.ensures.value) in
-    let here : c.split_sequence-here.result.0 ≡ on rank rows = c.split_sequence-here.ensures.here ∙ ap (on rank) i.left_is ∙ from-here rank rows in
-    let next = rows-next c.args.self.now.0 genome rows c.requires.order c.requires.on_genome c.loop-rank.self-inside.options c.name_of-name.result.now c.split_sequence-here.result.0 rank low i.options_are c.name_of-name.ensures here in
+    let here : c.split_sequence-here.result.0 ≡ on rank records = c.split_sequence-here.ensures.here ∙ ap (on rank) i.left_is ∙ from-here rank records in
+    let next = rows-next c.args.self.now.0 genome records c.requires.order c.requires.on_genome c.loop-rank.self-inside.options c.name_of-name.result.now c.split_sequence-here.result.0 rank low i.options_are c.name_of-name.ensures here in
     Puts-err _ _ c.from_residual.result _ c.from_residual.ensures.0
     (Underway-failed _ _ _ _ _ _ _ next i.put c.in_err-put_sequence.ensures.text)
 
 pub loop-rank-preserved : goal.loop-rank-preserved
 loop-rank-preserved g c =
     let i = c.loop-rank.invariant in
-    let rows = c.args.self.now.1 in
+    let records = c.args.self.now.1 in
     let rank = c.loop-rank.rank in
     let genome = c.args.genome.now in
     let low : rank < seq_count genome = omega (arith, c.loop-rank-test.true, c.count-rank-end.ensures.value) in
-    let here : c.split_sequence-here.result.0 ≡ on rank rows = c.split_sequence-here.ensures.here ∙ ap (on rank) i.left_is ∙ from-here rank rows in
-    let next = rows-next c.args.self.now.0 genome rows c.requires.order c.requires.on_genome c.loop-rank.self-inside.options c.name_of-name.result.now c.split_sequence-here.result.0 rank low i.options_are c.name_of-name.ensures here in
+    let here : c.split_sequence-here.result.0 ≡ on rank records = c.split_sequence-here.ensures.here ∙ ap (on rank) i.left_is ∙ from-here rank records in
+    let next = rows-next c.args.self.now.0 genome records c.requires.order c.requires.on_genome c.loop-rank.self-inside.options c.name_of-name.result.now c.split_sequence-here.result.0 rank low i.options_are c.name_of-name.ensures here in
     record {
       put = Underway-step _ _ _ _ _ _ _ next i.put c.in_ok-put_sequence.ensures.text;
-      left_is = c.split_sequence-here.ensures.later ∙ ap (λ (l : List RecordValue). filter (λ r. nat_lt rank r.seq) l) i.left_is ∙ from-later rank rows;
+      left_is = c.split_sequence-here.ensures.later ∙ ap (λ (l : List RecordValue). filter (λ r. nat_lt rank r.seq) l) i.left_is ∙ from-later rank records;
       options_are = i.options_are;
       records_are = i.records_are;
-      room = room-more (vec_capacity c.loop-rank.self-inside.values) (vec_capacity c.put_sequence.new.values) (length rows) (length rows) (listed c.args.self.now.0.summaries) c.in_ok-put_sequence.ensures.room (omega arith) i.room;
+      room = room-more (vec_capacity c.loop-rank.self-inside.values) (vec_capacity c.put_sequence.new.values) (length records) (length records) (listed c.args.self.now.0.summaries) c.in_ok-put_sequence.ensures.room (omega arith) i.room;
     }

@@ -1,6 +1,6 @@
 use Rattle.std.proofs.Common.{map, ap}
 use Rattle.iv_cover.proofs.WalkLemmas.{merge-all}
-use Rattle.iv_index.specs.Inside.Spans.{span_records}
+use Rattle.iv_locators.specs.Inside.Spans.{span_records}
 use Rattle.iv_blocks.specs.Inside.BlockSweeps.{interval_of}
 use Rattle.iv_blocks.proofs.sweeps.SpanBlocks.of.Goals as goal
 

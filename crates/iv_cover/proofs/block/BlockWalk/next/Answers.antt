@@ -1,8 +1,8 @@
 use Rattle.std.proofs.Common.{◌+◌, ◌==◌, ◌&&◌, nat_le, max, ◌∙◌, List, [], ◌∷◌, ◌++◌, Some, None, length, sym, ap, arith}
 use Rattle.iv_cover.specs.declared.block.Block.{Block}
-use Rattle.iv_cover.specs.Inside.RemainingBlocks.{coming, left}
-use Rattle.iv_cover.specs.TrackBlocks.{Group, with_members}
-use Rattle.iv_cover.proofs.Comings.{coming-begun, coming-joined, coming-split_up}
+use Rattle.iv_cover.specs.Inside.RemainingBlocks.{remaining_blocks, left}
+use Rattle.iv_cover.specs.TrackBlocks.{BlockWithMembers, with_members}
+use Rattle.iv_cover.proofs.RemainingLemmas.{remaining-begun, remaining-joined, remaining-split_up}
 use Rattle.iv_cover.proofs.block.BlockWalk.next.Goals.{in-Some, in-None+in_ok-first-in-None}
 use Rattle.iv_cover.proofs.block.BlockWalk.next.Goals as goal
 
@@ -11,24 +11,24 @@ loop-record-init g c =
     let i = c.self.inside in
     let now = c.match-take.self-inside in
     let first = c.match-take.first.now in
-    let begun = coming-begun now.distance first now.rows c.of-block.result c.of-block.ensures in
+    let begun = remaining-begun now.distance first now.records c.of-block.result c.of-block.ensures in
     elim c.match-take.branch [
       | in-Some w ↦ (
         first ∷ [],
         sym c.self.view_is
-            ∙ ap (λ o. coming i.distance None (left o i.rows)) (sym c.take.ensures.value ∙ w.in-Some.is)
-            ∙ ap (λ f. coming i.distance None (f.now ∷ i.rows)) (sym w.first-is)
-            ∙ ap (λ s. coming s.distance None (first ∷ s.rows)) (sym w.self-inside-is)
+            ∙ ap (λ o. remaining_blocks i.distance None (left o i.records)) (sym c.take.ensures.value ∙ w.in-Some.is)
+            ∙ ap (λ f. remaining_blocks i.distance None (f.now ∷ i.records)) (sym w.first-is)
+            ∙ ap (λ s. remaining_blocks s.distance None (first ∷ s.records)) (sym w.self-inside-is)
             ∙ begun,
         ap (λ s. s.ahead) w.self-inside-is ∙ c.take.ensures.after,
       )
       | in-None+in_ok-first-in-None w ↦ (
         first ∷ [],
         sym c.self.view_is
-            ∙ ap (λ o. coming i.distance None (left o i.rows)) (sym c.take.ensures.value ∙ w.in-None.is)
-            ∙ ap (coming i.distance None) w.in_ok-first-in-None.ensures.row
-            ∙ ap (λ f. coming i.distance None (f.now ∷ w.next.new.self)) (sym w.first-is)
-            ∙ ap (λ s. coming s.distance None (first ∷ s.rows)) (sym w.self-inside-is)
+            ∙ ap (λ o. remaining_blocks i.distance None (left o i.records)) (sym c.take.ensures.value ∙ w.in-None.is)
+            ∙ ap (remaining_blocks i.distance None) w.in_ok-first-in-None.ensures.feature
+            ∙ ap (λ f. remaining_blocks i.distance None (f.now ∷ w.next.new.self)) (sym w.first-is)
+            ∙ ap (λ s. remaining_blocks s.distance None (first ∷ s.records)) (sym w.self-inside-is)
             ∙ begun,
         ap (λ s. s.ahead) w.self-inside-is ∙ c.take.ensures.after,
       )
@@ -40,13 +40,13 @@ returns-then-not-is_joined_by g c =
     let d = c.loop-record.self-inside.distance in
     let b = with_members c.loop-record.block i.0 in (
       i.0,
-      i.1 ∙ ap (coming d (Some b)) c.in-Some-next.ensures.row
-          ∙ coming-split_up d b c.in-Some-next.record.now c.next-in-loop-record.new.self
+      i.1 ∙ ap (remaining_blocks d (Some b)) c.in-Some-next.ensures.feature
+          ∙ remaining-split_up d b c.in-Some-next.record.now c.next-in-loop-record.new.self
           (sym (c.is_joined_by.ensures ∙ ap (λ (n : Block). (n.sequence == b.sequence) && nat_le n.start (b.stop + d)) c.of-next.ensures) ∙ c.if-not-is_joined_by.true),
     )
 
 pub loop-record-smaller : goal.loop-record-smaller
-loop-record-smaller g c = omega (arith, ap length c.in-Some-next.ensures.row)
+loop-record-smaller g c = omega (arith, ap length c.in-Some-next.ensures.feature)
 
 pub loop-record-preserved : goal.loop-record-preserved
 loop-record-preserved g c =
@@ -56,10 +56,10 @@ loop-record-preserved g c =
     let r = c.in-Some-next.record.now in
     let rest = c.next-in-loop-record.new.self in (
       i.0 ++ r ∷ [],
-      i.1 ∙ ap (coming d (Some b)) c.in-Some-next.ensures.row
-          ∙ coming-joined d b r rest
+      i.1 ∙ ap (remaining_blocks d (Some b)) c.in-Some-next.ensures.feature
+          ∙ remaining-joined d b r rest
           (sym (c.is_joined_by.ensures ∙ ap (λ (n : Block). (n.sequence == b.sequence) && nat_le n.start (b.stop + d)) c.of-next.ensures) ∙ c.if-not-is_joined_by.false)
-          ∙ ap (λ (next : Block). coming d (Some (with_members next (i.0 ++ r ∷ []))) rest)
+          ∙ ap (λ (next : Block). remaining_blocks d (Some (with_members next (i.0 ++ r ∷ []))) rest)
           (sym (c.with-block.ensures ∙ ap (λ (n : Block). record { sequence = b.sequence; start = b.start; stop = max b.stop n.stop }) c.of-next.ensures)),
       i.2,
     )
@@ -69,8 +69,8 @@ returns g c =
     let i = c.loop-record.invariant in
     let d = c.loop-record.self-inside.distance in
     let b = with_members c.loop-record.block i.0 in
-    let empty = c.in_default.ensures.row in (
+    let empty = c.in_default.ensures.feature in (
       i.0,
-      i.1 ∙ ap (coming d (Some b)) empty.0
-          ∙ ap (λ (l : List Group). b ∷ l) (sym (ap (λ o. coming d None (left o c.next-in-loop-record.new.self)) i.2 ∙ ap (coming d None) empty.1)),
+      i.1 ∙ ap (remaining_blocks d (Some b)) empty.0
+          ∙ ap (λ (l : List BlockWithMembers). b ∷ l) (sym (ap (λ o. remaining_blocks d None (left o c.next-in-loop-record.new.self)) i.2 ∙ ap (remaining_blocks d None) empty.1)),
     )

@@ -1,15 +1,15 @@
 use Rattle.std.proofs.Common.{◌≡◌, List, length, Some, None}
 use Rattle.iv_text.specs.RecordValue.{RecordValue}
 use Rattle.iv_cover.specs.TrackBlocks.{with_members}
-use Rattle.iv_cover.specs.Inside.RemainingBlocks.{coming}
+use Rattle.iv_cover.specs.Inside.RemainingBlocks.{remaining_blocks}
 use Rattle.iv_cover.proofs.block.BlockWalk.next.Given as goal
 
 -- the block that is open, with some members, and the records that are left
 abbrev pub invariant-loop-record : goal.invariant-loop-record
 invariant-loop-record g l =
     (members : List RecordValue)
-    × (l.fn.self ≡ coming l.self-inside.distance (Some (with_members l.block members)) l.self-inside.rows)
+    × (l.fn.self ≡ remaining_blocks l.self-inside.distance (Some (with_members l.block members)) l.self-inside.records)
     × (l.self-inside.ahead ≡ None)
 
 abbrev pub decreases-loop-record : goal.decreases-loop-record
-decreases-loop-record g l = length l.self-inside.rows
+decreases-loop-record g l = length l.self-inside.records

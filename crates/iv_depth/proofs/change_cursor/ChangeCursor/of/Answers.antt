@@ -1,5 +1,5 @@
 use Rattle.std.proofs.Common.{◌∙◌}
-use Rattle.iv_depth.proofs.Comings.{ahead-read, filter-from_first}
+use Rattle.iv_depth.proofs.RemainingLemmas.{ahead-read, filter-from_first}
 use Rattle.iv_depth.proofs.change_cursor.ChangeCursor.of.Goals as goal
 
 pub returns-clause-all : goal.returns-clause-all

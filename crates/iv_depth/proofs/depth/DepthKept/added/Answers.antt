@@ -9,7 +9,7 @@ pub add_record-requires : goal.add_record-requires
 add_record-requires g c =
     let before = c.requires.right in
     let entries : c.self.inside.changes ≡ c.args.self.now = c.self.view_is in
-    AreChanges-without c.args.track.now.rows before.others c.args.row.now c.self.inside.changes before.rows_are (omega (arith, c.len-few.ensures))
+    AreChanges-without c.args.track.now.records before.others c.args.feature.now c.self.inside.changes before.rows_are (omega (arith, c.len-few.ensures))
     (rw entries before.right)
 
 pub returns-clause-right : goal.returns-clause-right
@@ -17,6 +17,6 @@ returns-clause-right g c =
     let before = c.requires.right in
     let entries : c.self.inside.changes ≡ c.args.self.now = c.self.view_is in
     on_ok_weaker c.add_record.result
-    (λ (step : (rows : List RecordValue) → AreChangesOf rows c.self.inside.changes → AreChangesOf (c.args.row.now ∷ rows) c.add_record.new.changes).
-    rw before.rows_are (AreChangesOf-placed before.others c.args.row.now c.add_record.new.changes (step before.others (rw entries before.right))))
+    (λ (step : (records : List RecordValue) → AreChangesOf records c.self.inside.changes → AreChangesOf (c.args.feature.now ∷ records) c.add_record.new.changes).
+    rw before.rows_are (AreChangesOf-placed before.others c.args.feature.now c.add_record.new.changes (step before.others (rw entries before.right))))
     c.add_record.ensures.ok

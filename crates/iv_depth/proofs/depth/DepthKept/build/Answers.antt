@@ -4,17 +4,17 @@ use Rattle.iv_depth.proofs.depth.DepthKept.build.Goals as goal
 
 pub from_entries-requires-clause-ascend : goal.from_entries-requires-clause-ascend
 from_entries-requires-clause-ascend g c es run =
-    let rows = c.args.track.now.rows in
+    let records = c.args.track.now.records in
     let starts = c.as_slice.result.now in
     let stops = c.as_slice-2.result.now in
-    let edges : AreEdgesOf rows starts stops = rw (c.as_slice.ensures.value, c.as_slice-2.ensures.value) c.in_ok-starts.ensures in
-    given-ledger _ 0 es run.1.0 (edges-rise rows starts stops edges) run.1.1
+    let edges : AreEdgesOf records starts stops = rw (c.as_slice.ensures.value, c.as_slice-2.ensures.value) c.in_ok-starts.ensures in
+    given-ledger _ 0 es run.1.0 (edges-rise records starts stops edges) run.1.1
 
 pub returns-clause-right : goal.returns-clause-right
 returns-clause-right g c =
-    let rows = c.args.track.now.rows in
+    let records = c.args.track.now.records in
     let starts = c.as_slice.result.now in
     let stops = c.as_slice-2.result.now in
-    let edges : AreEdgesOf rows starts stops = rw (c.as_slice.ensures.value, c.as_slice-2.ensures.value) c.in_ok-starts.ensures in
+    let edges : AreEdgesOf records starts stops = rw (c.as_slice.ensures.value, c.as_slice-2.ensures.value) c.in_ok-starts.ensures in
     let e = c.in_ok-from_entries.ensures in
-    edges-changes rows starts stops e.values.0 c.in_ok-from_entries.field-0 edges e.values.1 e.ordered e.values.2
+    edges-changes records starts stops e.values.0 c.in_ok-from_entries.field-0 edges e.values.1 e.ordered e.values.2

@@ -12,7 +12,7 @@ pub returns-in_err-take_piece-clause-err : goal.returns-in_err-take_piece-clause
 returns-in_err-take_piece-clause-err g c =
     let genome = c.args.genome.now in
     let begun = ap (fasta_of genome) (sym c.as_slice.ensures.value)
-    ∙ sym (text-so genome c.new-reader.result c.as_slice.result.now (λ text. c.new-reader.ensures.coming genome text c.lemma_of_names.ensures)) in
+    ∙ sym (text-so genome c.new-reader.result c.as_slice.result.now (λ text. c.new-reader.ensures.read_on genome text c.lemma_of_names.ensures)) in
     handed-on c.from_residual.result _ _ c.from_residual.ensures.1
     (elim c.in_err-take_piece.ensures.err [ inl memory ↦ inl memory | inr refused ↦ inr (begun ∙ refused []) ])
 
@@ -20,7 +20,7 @@ pub returns-in_err-fasta-clause-err : goal.returns-in_err-fasta-clause-err
 returns-in_err-fasta-clause-err g c =
     let genome = c.args.genome.now in
     let begun = ap (fasta_of genome) (sym c.as_slice.ensures.value)
-    ∙ sym (text-so genome c.new-reader.result c.as_slice.result.now (λ text. c.new-reader.ensures.coming genome text c.lemma_of_names.ensures)) in
+    ∙ sym (text-so genome c.new-reader.result c.as_slice.result.now (λ text. c.new-reader.ensures.read_on genome text c.lemma_of_names.ensures)) in
     handed-on c.from_residual-in_err-fasta.result _ _ c.from_residual-in_err-fasta.ensures.1
     (elim c.in_err-fasta.ensures.err [ inl memory ↦ inl memory | inr refused ↦ inr (begun ∙ c.in_ok-take_piece.ensures.ok [] ∙ refused) ])
 
@@ -28,7 +28,7 @@ pub returns-clause-ok : goal.returns-clause-ok
 returns-clause-ok g c =
     let genome = c.args.genome.now in
     let begun = ap (fasta_of genome) (sym c.as_slice.ensures.value)
-    ∙ sym (text-so genome c.new-reader.result c.as_slice.result.now (λ text. c.new-reader.ensures.coming genome text c.lemma_of_names.ensures)) in
+    ∙ sym (text-so genome c.new-reader.result c.as_slice.result.now (λ text. c.new-reader.ensures.read_on genome text c.lemma_of_names.ensures)) in
     begun ∙ c.in_ok-take_piece.ensures.ok [] ∙ c.in_ok-fasta.ensures.ok
 
 pub returns-clause-lengths : goal.returns-clause-lengths
@@ -36,6 +36,6 @@ returns-clause-lengths g c =
     let genome = c.args.genome.now in
     let text = c.args.text.items in
     let begun = ap (fasta_of genome) (sym c.as_slice.ensures.value)
-    ∙ sym (text-so genome c.new-reader.result c.as_slice.result.now (λ text. c.new-reader.ensures.coming genome text c.lemma_of_names.ensures)) in
+    ∙ sym (text-so genome c.new-reader.result c.as_slice.result.now (λ text. c.new-reader.ensures.read_on genome text c.lemma_of_names.ensures)) in
     let means = (fasta-value genome text _).0 (begun ∙ c.in_ok-take_piece.ensures.ok [] ∙ c.in_ok-fasta.ensures.ok) in
     lengths-of genome (sequences_said (lines text)) _ c.lemma_of_names.ensures means.1 means.2

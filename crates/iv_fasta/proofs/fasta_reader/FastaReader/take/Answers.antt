@@ -1,6 +1,6 @@
 use Rattle.std.proofs.Common.{◌≡◌, ◌++◌, ℕ, List, [], ap, sym, ◌∙◌, inl, inr, ◌-◌, length, take, drop, arith, length-drop}
 use Rattle.iv_text.proofs.BedReadingLemmas.{handed-on, rest-whole}
-use Rattle.iv_fasta.specs.FastaReading.{Reading, coming, size_of}
+use Rattle.iv_fasta.specs.FastaReading.{Reading, read_on, size_of}
 use Rattle.iv_fasta.proofs.ReadingLemmas.{taken-so, refused-so}
 use Rattle.iv_fasta.proofs.fasta_reader.FastaReader.take.Goals as goal
 
@@ -17,7 +17,7 @@ returns-in_err-taken-clause-err g c =
     (elim c.in_err-taken.ensures.err [
       | inl memory ↦ inl memory
       | inr refused ↦ inr (λ more.
-          ap (λ (r : Reading). coming c.args.genome.now r (c.args.bytes.now ++ more)) (sym c.self.view_is)
+          ap (λ (r : Reading). read_on c.args.genome.now r (c.args.bytes.now ++ more)) (sym c.self.view_is)
           ∙ refused-so c.args.genome.now old c.args.bytes.now _ none refused more)
     ])
 
@@ -37,5 +37,5 @@ returns-clause-ok g c = λ more.
     let old : Reading = record { read = c.self.inside.draft; tail = c.self.inside.tail.items } in
     let none : old.tail ≡ [] = ap (λ (r : Reading). r.tail) c.self.view_is ∙ c.requires.none in
     let tail : c.keep.new.tail.items ≡ drop taken bytes = c.in_ok-keep.ensures.ok ∙ ap (λ (t : List ℕ). t ++ take (length bytes - taken) (drop taken bytes)) none ∙ rest-whole bytes taken in
-    ap (λ (r : Reading). coming c.args.genome.now r (bytes ++ more)) (sym c.self.view_is)
+    ap (λ (r : Reading). read_on c.args.genome.now r (bytes ++ more)) (sym c.self.view_is)
     ∙ taken-so c.args.genome.now old c.take_text.new.self bytes c.keep.new.tail.items taken none c.take_text.ensures.wanted c.in_ok-taken.ensures.ok tail more

@@ -1,14 +1,14 @@
 use Rattle.std.proofs.Common.{◌∙◌, List, map, sym, ap, subst}
 use Rattle.iv_text.specs.Ordered.{AreInOrder}
 use Rattle.iv_text.specs.RecordValue.{RecordValue}
-use Rattle.iv_index.specs.Inside.Locators.{span_of}
-use Rattle.iv_index.proofs.BareLemmas.{in_order-bare}
+use Rattle.iv_locators.specs.Inside.Locators.{span_of}
+use Rattle.iv_locators.proofs.BareLemmas.{in_order-bare}
 use Rattle.iv_pair.proofs.CountLemmas.{AreEndsOf-moved}
 use Rattle.iv_pair.proofs.hit_counts.HitCounts.of.Goals as goal
 
 pub invariant_of-result : goal.invariant_of-result
 invariant_of-result g c = record {
-  ends_are = AreEndsOf-moved c.in_ok-ends.ends.items c.locators.result.now c.in_ok-intervals.intervals.rows
+  ends_are = AreEndsOf-moved c.in_ok-ends.ends.items c.locators.result.now c.in_ok-intervals.intervals.records
       (c.locators.ensures.spots ∙ ap (λ (l : List RecordValue). map span_of l) c.records.ensures) c.in_ok-ends.ensures.moved c.in_ok-ends.ensures.ordered;
-  ordered = subst AreInOrder (sym c.in_ok-intervals.ensures) (in_order-bare c.args.second.now.rows c.len-count.ensures.ordered);
+  ordered = subst AreInOrder (sym c.in_ok-intervals.ensures) (in_order-bare c.args.second.now.records c.len-count.ensures.ordered);
 }

@@ -21,14 +21,14 @@ invariant_of-self g c =
     let s = c.self.inside in
     let i = c.self.invariant in
     let t = c.take_begun in
-    let records = s.second.now.rows in
+    let records = s.second.now.records in
     let on : IsOnward s.seq s.start seq start = c.is_onward-goes_on.ensures c.if-goes_on.true in
     let begun : AllBegun seq start s.carried = all-begun s.seq s.start seq start s.carried i.placed.cover on in
-    let alike : HitAlike seq start (s.carried ++ s.rows) records = alike-onward s.seq s.start seq start (s.carried ++ s.rows) records i.placed.alike on in
-    let kept : HitAlike seq start (c.keep.new.self ++ s.rows) records
-    = subst (λ (l : List RecordValue). HitAlike seq start (l ++ s.rows) records) (sym c.keep.ensures) (kept-alike seq start s.carried s.rows records begun alike) in
+    let alike : HitAlike seq start (s.carried ++ s.walk) records = alike-onward s.seq s.start seq start (s.carried ++ s.walk) records i.placed.alike on in
+    let kept : HitAlike seq start (c.keep.new.self ++ s.walk) records
+    = subst (λ (l : List RecordValue). HitAlike seq start (l ++ s.walk) records) (sym c.keep.ensures) (kept-alike seq start s.carried s.walk records begun alike) in
     record {
-      placed = placed-on records t.new.carried t.new.rows c.keep.new.self s.rows seq start t.ensures.cover t.ensures.ordered t.ensures.few i.placed.rows_few t.ensures.alike kept;
+      placed = placed-on records t.new.carried t.new.walk c.keep.new.self s.walk seq start t.ensures.cover t.ensures.ordered t.ensures.few i.placed.rows_few t.ensures.alike kept;
       ordered = i.ordered;
       few = i.few;
       up_to = subst (λ (f : Finding). AreUpTo seq c.longest_on-longest.result f.records) (sym c.self.view_is) c.longest_on-longest.ensures;
@@ -40,16 +40,16 @@ invariant_of-self-2 g c =
     let seq = c.args.seq in
     let start = c.args.start in
     let longest = c.longest_on-longest.result in
-    let records = c.self.inside.second.now.rows in
+    let records = c.self.inside.second.now.records in
     let i = c.self.invariant in
     let now = c.if-goes_on.self-inside in
-    let are : (now.second.now.rows ≡ records) × (now.seq ≡ seq) × (now.start ≡ start) × (now.longest ≡ longest) = elim c.if-goes_on.branch [
+    let are : (now.second.now.records ≡ records) × (now.seq ≡ seq) × (now.start ≡ start) × (now.longest ≡ longest) = elim c.if-goes_on.branch [
       | then-goes_on+else-begins_from w ↦ rw w.self-inside-is (refl, refl, refl, refl)
       | else-goes_on w ↦ rw w.self-inside-is (refl, refl, refl, refl)
     ] in
     let up : AreUpTo seq longest records = subst (λ (f : Finding). AreUpTo seq longest f.records) (sym c.self.view_is) c.longest_on-longest.ensures in
     let from = c.first_start-from.result in
-    let walked = c.walk-self-inside.ensures.rows ∙ ap (λ (l : List RecordValue). filter (is_from seq from) l) are.0 in
+    let walked = c.walk-self-inside.ensures.records ∙ ap (λ (l : List RecordValue). filter (is_from seq from) l) are.0 in
     rw (are.0, are.1, are.2, are.3)
     (record {
       placed = placed-anew records c.clear.new.self c.walk-self-inside.result seq start from longest c.clear.ensures walked i.ordered i.few up (omega (arith, c.first_start-from.ensures));

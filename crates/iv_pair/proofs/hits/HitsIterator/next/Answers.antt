@@ -9,10 +9,10 @@ use Rattle.iv_pair.proofs.hits.HitsIterator.next.Goals as goal
 
 pub returns-then-is_from-clause-steps : goal.returns-then-is_from-clause-steps
 returns-then-is_from-clause-steps g c =
-    let i = c.loop-row.self-inside in
-    let row = c.in-Some-next.row.now in
+    let i = c.loop-feature.self-inside in
+    let feature = c.in-Some-next.feature.now in
     let others = c.next.new.self in
-    let none = hits_beyond i.seq i.start i.stop row others (subst AreInOrder c.in-Some-next.ensures.row c.loop-row.invariant.ordered) (sym c.is_from.ensures ∙ c.if-is_from.true) in (
-      sym c.loop-row.invariant.same ∙ hit_not i.rows others row i.seq i.start i.stop c.in-Some-next.ensures.row (sym c.overlaps.ensures ∙ c.if-overlaps.false) ∙ none,
-      ap (λ (l : List (Option (Bor RecordValue))). held l ++ hits others i.seq i.start i.stop) c.loop-row.invariant.carried ∙ none,
+    let none = hits_beyond i.seq i.start i.stop feature others (subst AreInOrder c.in-Some-next.ensures.feature c.loop-feature.invariant.ordered) (sym c.is_from.ensures ∙ c.if-is_from.true) in (
+      sym c.loop-feature.invariant.same ∙ hit_not i.walk others feature i.seq i.start i.stop c.in-Some-next.ensures.feature (sym c.overlaps.ensures ∙ c.if-overlaps.false) ∙ none,
+      ap (λ (l : List (Option (Bor RecordValue))). held l ++ hits others i.seq i.start i.stop) c.loop-feature.invariant.carried ∙ none,
     )

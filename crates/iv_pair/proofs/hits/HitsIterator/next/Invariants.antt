@@ -7,23 +7,23 @@ use Rattle.iv_pair.proofs.hits.HitsIterator.next.Given as goal
 -- slots without a record were passed
 abbrev pub invariant-loop-self : goal.invariant-loop-self
 invariant-loop-self g l = record {
-  ordered : AreInOrder l.self-inside.rows;
-  few : length l.self-inside.rows < 2 ^ 32;
+  ordered : AreInOrder l.self-inside.walk;
+  few : length l.self-inside.walk < 2 ^ 32;
   few_carried : length l.self-inside.carried.now ≤ 64;
-  same : held l.self-inside.carried.now ++ hits l.self-inside.rows l.self-inside.seq l.self-inside.start l.self-inside.stop ≡ l.fn.self;
+  same : held l.self-inside.carried.now ++ hits l.self-inside.walk l.self-inside.seq l.self-inside.start l.self-inside.stop ≡ l.fn.self;
 }
 
 abbrev pub decreases-loop-self : goal.decreases-loop-self
 decreases-loop-self g l = length l.self-inside.carried.now
 
 -- none is carried, the records left are in order and few, and the hits among them are all that were left
-abbrev pub invariant-loop-row : goal.invariant-loop-row
-invariant-loop-row g l = record {
+abbrev pub invariant-loop-feature : goal.invariant-loop-feature
+invariant-loop-feature g l = record {
   carried : l.self-inside.carried.now ≡ [];
-  ordered : AreInOrder l.self-inside.rows;
-  few : length l.self-inside.rows < 2 ^ 32;
-  same : hits l.self-inside.rows l.self-inside.seq l.self-inside.start l.self-inside.stop ≡ l.fn.self;
+  ordered : AreInOrder l.self-inside.walk;
+  few : length l.self-inside.walk < 2 ^ 32;
+  same : hits l.self-inside.walk l.self-inside.seq l.self-inside.start l.self-inside.stop ≡ l.fn.self;
 }
 
-abbrev pub decreases-loop-row : goal.decreases-loop-row
-decreases-loop-row g l = length l.self-inside.rows
+abbrev pub decreases-loop-feature : goal.decreases-loop-feature
+decreases-loop-feature g l = length l.self-inside.walk

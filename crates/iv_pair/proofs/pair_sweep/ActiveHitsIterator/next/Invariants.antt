@@ -4,13 +4,13 @@ use Rattle.iv_track.specs.Regions.{hits}
 use Rattle.iv_pair.proofs.pair_sweep.ActiveHitsIterator.next.Given as goal
 
 -- the records left are in order and few, and the hits among them are all that were left
-abbrev pub invariant-loop-row : goal.invariant-loop-row
-invariant-loop-row l = record {
+abbrev pub invariant-loop-feature : goal.invariant-loop-feature
+invariant-loop-feature l = record {
   active : l.self-inside.active.now ≡ [];
   ordered : AreInOrder l.self-inside.rest;
   few : length l.self-inside.rest < 2 ^ 64;
   same : hits l.self-inside.rest l.self-inside.seq l.self-inside.start l.self-inside.stop ≡ l.fn.self;
 }
 
-abbrev pub decreases-loop-row : goal.decreases-loop-row
-decreases-loop-row l = length l.self-inside.rest
+abbrev pub decreases-loop-feature : goal.decreases-loop-feature
+decreases-loop-feature l = length l.self-inside.rest

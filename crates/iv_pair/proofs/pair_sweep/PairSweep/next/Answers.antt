@@ -10,17 +10,17 @@ use Rattle.iv_pair.proofs.pair_sweep.PairSweep.next.Goals as goal
 
 pub take_begun-requires-clause-active : goal.take_begun-requires-clause-active
 take_begun-requires-clause-active g c =
-    let a = c.in_ok-row.row in
-    let split : c.self.inside.first ≡ a ∷ c.in_ok-row.others = c.in_ok-row.ensures in
+    let a = c.in_ok-feature.feature in
+    let split : c.self.inside.first ≡ a ∷ c.in_ok-feature.others = c.in_ok-feature.ensures in
     let held = c.self.inside.active.items in
     let begun = subst (λ (l : List RecordValue). All (λ y. All (λ b. Precedes b y) held) l) split c.self.invariant.begun in
-    subst (All (Covers a)) (sym c.drop_passed.ensures.kept) (kept-covers a held (All-head (λ y. All (λ b. Precedes b y) held) a c.in_ok-row.others begun))
+    subst (All (Covers a)) (sym c.drop_passed.ensures.kept) (kept-covers a held (All-head (λ y. All (λ b. Precedes b y) held) a c.in_ok-feature.others begun))
 
 pub invariant_of-self : goal.invariant_of-self
 invariant_of-self g c =
-    let a = c.in_ok-row.row in
-    let split : c.self.inside.first ≡ a ∷ c.in_ok-row.others = c.in_ok-row.ensures in
-    let others = c.in_ok-row.others in
+    let a = c.in_ok-feature.feature in
+    let split : c.self.inside.first ≡ a ∷ c.in_ok-feature.others = c.in_ok-feature.ensures in
+    let others = c.in_ok-feature.others in
     let s = c.self.inside in
     let t = c.take_begun.ensures in
     let taken = c.take_begun.new.active.items in
@@ -38,9 +38,9 @@ invariant_of-self g c =
 
 pub returns : goal.returns
 returns g c =
-    let a = c.in_ok-row.row in
-    let split : c.self.inside.first ≡ a ∷ c.in_ok-row.others = c.in_ok-row.ensures in
-    let others = c.in_ok-row.others in
+    let a = c.in_ok-feature.feature in
+    let split : c.self.inside.first ≡ a ∷ c.in_ok-feature.others = c.in_ok-feature.ensures in
+    let others = c.in_ok-feature.others in
     let s = c.self.inside in
     let t = c.take_begun.ensures in
     let taken = c.take_begun.new.active.items in

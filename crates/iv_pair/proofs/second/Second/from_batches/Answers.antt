@@ -5,7 +5,7 @@ use Rattle.iv_pair.proofs.second.Second.from_batches.Goals as goal
 
 pub lengths_of-requires : goal.lengths_of-requires
 lengths_of-requires g c =
-    subst (λ (t : Tracked). length t.rows < 2 ^ 32 - 1) (sym c.in_ok-track.ensures) (omega (arith, few-ordered c.args.records c.args.limit c.requires.few, c.requires.limit))
+    subst (λ (t : Tracked). length t.records < 2 ^ 32 - 1) (sym c.in_ok-track.ensures) (omega (arith, few-ordered c.args.records c.args.limit c.requires.few, c.requires.limit))
 
 pub invariant_of-result : goal.invariant_of-result
 invariant_of-result g c =

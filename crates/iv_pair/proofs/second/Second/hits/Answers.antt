@@ -8,23 +8,23 @@ use Rattle.iv_pair.proofs.HitsLemmas.{hits_from, length-filter_le}
 use Rattle.iv_pair.proofs.second.Second.hits.Goals as goal
 
 pub of-hits-requires-clause-ordered : goal.of-hits-requires-clause-ordered
-of-hits-requires-clause-ordered g c = subst AreInOrder (sym c.walk.ensures.rows) (in_order-filter record_cmp (is_from c.args.seq c.first_start-from.result) c.args.self.now.rows c.walk.ensures.ordered)
+of-hits-requires-clause-ordered g c = subst AreInOrder (sym c.walk.ensures.records) (in_order-filter record_cmp (is_from c.args.seq c.first_start-from.result) c.args.self.now.records c.walk.ensures.ordered)
 
 pub of-hits-requires-clause-few : goal.of-hits-requires-clause-few
-of-hits-requires-clause-few g c = omega (arith, ap (λ (l : List RecordValue). length l) c.walk.ensures.rows, length-filter_le (is_from c.args.seq c.first_start-from.result) c.args.self.now.rows, c.walk.ensures.few)
+of-hits-requires-clause-few g c = omega (arith, ap (λ (l : List RecordValue). length l) c.walk.ensures.records, length-filter_le (is_from c.args.seq c.first_start-from.result) c.args.self.now.records, c.walk.ensures.few)
 
 pub returns-clause-hits : goal.returns-clause-hits
 returns-clause-hits g c =
     c.of-hits.ensures
-    ∙ ap (λ (l : List RecordValue). hits l c.args.seq c.args.start c.args.stop) c.walk.ensures.rows
-    ∙ hits_from c.args.self.now.rows c.args.seq c.args.start c.args.stop c.first_start-from.result c.longest.result c.longest.ensures (omega (arith, c.first_start-from.ensures))
+    ∙ ap (λ (l : List RecordValue). hits l c.args.seq c.args.start c.args.stop) c.walk.ensures.records
+    ∙ hits_from c.args.self.now.records c.args.seq c.args.start c.args.stop c.first_start-from.result c.longest.result c.longest.ensures (omega (arith, c.first_start-from.ensures))
 
 pub returns-clause-few : goal.returns-clause-few
 returns-clause-few g c =
     omega (
       arith,
-      ap (λ (l : List RecordValue). length l) (c.of-hits.ensures ∙ ap (λ (l : List RecordValue). hits l c.args.seq c.args.start c.args.stop) c.walk.ensures.rows
-          ∙ hits_from c.args.self.now.rows c.args.seq c.args.start c.args.stop c.first_start-from.result c.longest.result c.longest.ensures (omega (arith, c.first_start-from.ensures))),
-      length-filter_le (overlaps c.args.seq c.args.start c.args.stop) c.args.self.now.rows,
+      ap (λ (l : List RecordValue). length l) (c.of-hits.ensures ∙ ap (λ (l : List RecordValue). hits l c.args.seq c.args.start c.args.stop) c.walk.ensures.records
+          ∙ hits_from c.args.self.now.records c.args.seq c.args.start c.args.stop c.first_start-from.result c.longest.result c.longest.ensures (omega (arith, c.first_start-from.ensures))),
+      length-filter_le (overlaps c.args.seq c.args.start c.args.stop) c.args.self.now.records,
       c.walk.ensures.few,
     )

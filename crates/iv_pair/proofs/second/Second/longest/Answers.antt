@@ -7,5 +7,5 @@ use Rattle.iv_pair.proofs.second.Second.longest.Goals as goal
 pub returns : goal.returns
 returns g c =
     let i = c.self.inside in
-    subst (λ (t : Tracked). AreUpTo c.args.seq c.longest.result t.rows) c.self.view_is
-    (AreLengths-up_to i.lengths i.track.rows c.args.seq c.longest.result c.self.invariant.counted c.longest.ensures)
+    subst (λ (t : Tracked). AreUpTo c.args.seq c.longest.result t.records) c.self.view_is
+    (AreLengths-up_to i.lengths i.track.records c.args.seq c.longest.result c.self.invariant.counted c.longest.ensures)

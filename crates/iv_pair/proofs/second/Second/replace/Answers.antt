@@ -10,20 +10,20 @@ use Rattle.iv_pair.proofs.second.Second.replace.Goals as goal
 
 pub unreachable-requires : goal.unreachable-requires
 unreachable-requires g c =
-    let rows = c.self.inside.track.rows in
-    let none : copies (added rows c.args.new) c.args.old.now ≡ 0 = ap (λ (t : Tracked). copies t.rows c.args.old.now) (sym c.in_ok-stage.ensures.ok) ∙ refused-absent c.stage.new.track c.args.old.now _ c.in-Err.ensures.why in
-    omega (arith, none, copies-added record_cmp rows c.args.new c.args.old.now, c.copies.ensures.value, c.if-copies-eq0.false)
+    let records = c.self.inside.track.records in
+    let none : copies (added records c.args.new) c.args.old.now ≡ 0 = ap (λ (t : Tracked). copies t.records c.args.old.now) (sym c.in_ok-stage.ensures.ok) ∙ refused-absent c.stage.new.track c.args.old.now _ c.in-Err.ensures.why in
+    omega (arith, none, copies-added record_cmp records c.args.new c.args.old.now, c.copies.ensures.value, c.if-copies-eq0.false)
 
 pub invariant_of-self-2 : goal.invariant_of-self-2
 invariant_of-self-2 g c = record {
   counted = c.take.ensures.counted;
-  few = subst (λ (t : Tracked). length t.rows ≤ t.limit) (sym c.in-Ok.ensures.ok)
+  few = subst (λ (t : Tracked). length t.records ≤ t.limit) (sym c.in-Ok.ensures.ok)
       (omega (
         arith,
-        length-removed record_cmp c.stage.new.track.rows c.args.old.now c.in-Ok.ensures.there,
-        ap (λ (t : Tracked). length t.rows) c.in_ok-stage.ensures.ok,
+        length-removed record_cmp c.stage.new.track.records c.args.old.now c.in-Ok.ensures.there,
+        ap (λ (t : Tracked). length t.records) c.in_ok-stage.ensures.ok,
         ap (λ (t : Tracked). t.limit) c.in_ok-stage.ensures.ok,
-        length-added record_cmp c.self.inside.track.rows c.args.new,
+        length-added record_cmp c.self.inside.track.records c.args.new,
         c.self.invariant.few,
       ));
 }
@@ -31,9 +31,9 @@ invariant_of-self-2 g c = record {
 pub returns-clause-ok : goal.returns-clause-ok
 returns-clause-ok g c =
     let t = c.self.inside.track in
-    let some : 0 < copies t.rows c.args.old.now = omega (arith, c.copies.ensures.value, c.if-copies-eq0.false) in
-    let with_rows : List RecordValue → Tracked = λ rows. record { rows = rows; width = t.width; limit = t.limit } in
+    let some : 0 < copies t.records c.args.old.now = omega (arith, c.copies.ensures.value, c.if-copies-eq0.false) in
+    let with_rows : List RecordValue → Tracked = λ records. record { records = records; width = t.width; limit = t.limit } in
     c.in-Ok.ensures.ok
-    ∙ ap (λ (s : Tracked). record s { rows = removed s.rows c.args.old.now }) c.in_ok-stage.ensures.ok
-    ∙ ap with_rows (removed-added record_cmp records_total rows_exact t.rows c.args.new c.args.old.now c.copies.ensures.ordered some)
-    ∙ ap (λ (s : Tracked). record s { rows = added (removed s.rows c.args.old.now) c.args.new }) c.self.view_is
+    ∙ ap (λ (s : Tracked). record s { records = removed s.records c.args.old.now }) c.in_ok-stage.ensures.ok
+    ∙ ap with_rows (removed-added record_cmp records_total rows_exact t.records c.args.new c.args.old.now c.copies.ensures.ordered some)
+    ∙ ap (λ (s : Tracked). record s { records = added (removed s.records c.args.old.now) c.args.new }) c.self.view_is

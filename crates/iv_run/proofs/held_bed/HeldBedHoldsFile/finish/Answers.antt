@@ -1,5 +1,5 @@
 use Rattle.std.proofs.Common.{◌<◌, ◌^◌, List, ℕ, length, sym, subst, arith}
-use Rattle.iv_index.specs.Locators.{bare}
+use Rattle.iv_locators.specs.Locators.{bare}
 use Rattle.iv_run.proofs.PieceLemmas.{says-few, says-sound}
 use Rattle.iv_run.proofs.HeldLemmas.{answers-intervals, answers-whole, held-text}
 use Rattle.iv_run.proofs.held_bed.HeldBedHoldsFile.finish.Goals as goal

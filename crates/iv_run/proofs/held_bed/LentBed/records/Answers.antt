@@ -16,6 +16,6 @@ pub returns-in_ok-into_locators-in-Some-clause-fit : goal.returns-in_ok-into_loc
 returns-in_ok-into_locators-in-Some-clause-fit g c =
     let genome = c.args.genome.now in
     let held = ap (λ (h : Held). h.intervals) (sym c.self.view_is) ∙ c.in-Some.is in
-    subst (λ (b : Bed). All (Fits genome b.width) b.rows) (sym c.of_intervals.ensures)
+    subst (λ (b : Bed). All (Fits genome b.width) b.records) (sym c.of_intervals.ensures)
     (subst (All (Fits genome 3)) (sym c.in_ok-into_locators-in-Some.ensures)
     (intervals-fit genome c.args.self c.in-Some.said _ c.requires.intervals held (rw c.in-Some.is at c.in_ok-said-in-Some.was)))

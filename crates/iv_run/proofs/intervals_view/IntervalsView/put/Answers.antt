@@ -1,7 +1,7 @@
 use Rattle.std.proofs.Common.{subst}
 use Rattle.std.proofs.lemmas.Result.{err_from_is_err_and}
 use Rattle.iv_bytes.specs.Sinks.{FailsIn, Takes}
-use Rattle.iv_index.specs.Inside.Spans.{span_records}
+use Rattle.iv_locators.specs.Inside.Spans.{span_records}
 use Rattle.iv_run.proofs.IntervalsAlone.{genomecov-text}
 use Rattle.iv_run.proofs.IntervalsLemmas.{of-merge, of-complement, of-genomecov}
 use Rattle.iv_run.proofs.intervals_view.IntervalsView.put.Goals as goal

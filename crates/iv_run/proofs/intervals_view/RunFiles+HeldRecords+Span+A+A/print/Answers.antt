@@ -1,6 +1,6 @@
 use Rattle.std.proofs.Common.{ℕ, subst}
 use Rattle.std.proofs.lemmas.Result.{err_from_is_err_and}
-use Rattle.iv_index.specs.Locators.{bare}
+use Rattle.iv_locators.specs.Locators.{bare}
 use Rattle.iv_run.specs.Loading.{parsed}
 use Rattle.iv_run.specs.RunFiles.{ReportsProjected}
 use Rattle.iv_run.proofs.IntervalsLemmas.{shows-places}

@@ -5,7 +5,7 @@ use Rattle.std.proofs.lemmas.Result.{err_from_is_err_and}
 use Rattle.iv_text.specs.BedFile.{Bed}
 use Rattle.iv_text.specs.Read.{Fits}
 use Rattle.iv_text.specs.declared.fault.LoadFault.{LoadFault}
-use Rattle.iv_index.proofs.SortedLemmas.{on_genome-fit}
+use Rattle.iv_locators.proofs.SortedLemmas.{on_genome-fit}
 use Rattle.iv_run.specs.Inside.Shots.{bases_said}
 use Rattle.iv_fasta.specs.Fasta.{Bases}
 use Rattle.iv_run.specs.Loading.{IsAnswer}
@@ -43,4 +43,4 @@ returns g c = λ sizes text other bases genome held second_held fasta_held.
 pub invariant_of-result : goal.invariant_of-result
 invariant_of-result g c =
     on_genome-fit c.args.genome c.in_ok-first.first
-    (subst (λ (r : Result Bed LoadFault). IfOk r (λ file. All (Fits c.args.genome file.width) file.rows)) c.in_ok-first.ensures.ok c.records.ensures.fit)
+    (subst (λ (r : Result Bed LoadFault). IfOk r (λ file. All (Fits c.args.genome file.width) file.records)) c.in_ok-first.ensures.ok c.records.ensures.fit)

@@ -1,6 +1,6 @@
 use Rattle.std.proofs.Common.{◌≡◌, Ok, refl, ap, ◌∙◌}
 use Rattle.std.specs.Option.{is_some}
-use Rattle.iv_view.proofs.WordLemmas.{needs-there, bases-there}
+use Rattle.iv_view.proofs.ArgumentLemmas.{needs-there, bases-there}
 use Rattle.iv_view.specs.declared.view.View.TheVariants as view
 use Rattle.iv_view.specs.declared.written_view.WrittenView.TheVariants as written
 use Rattle.iv_run.proofs.one_shot.TextFiles.put.Goals as goal
@@ -8,10 +8,10 @@ use Rattle.iv_run.proofs.one_shot.TextFiles.put.Goals as goal
 pub put_pairs-requires : goal.put_pairs-requires
 put_pairs-requires g c =
     let one = c.in-Written-Paired.is in
-    let two : c.in-Written-Paired.field-0 ≡ written.Paired c.in-Written-Paired.rows = rw one at c.in-Written-Paired.field-0-is in
-    let view-is : c.args.view ≡ view.Written (written.Paired c.in-Written-Paired.rows) = one ∙ ap view.Written two in
+    let two : c.in-Written-Paired.field-0 ≡ written.Paired c.in-Written-Paired.output = rw one at c.in-Written-Paired.field-0-is in
+    let view-is : c.args.view ≡ view.Written (written.Paired c.in-Written-Paired.output) = one ∙ ap view.Written two in
     let files = c.args.self in
-    needs-there files.first.width (is_some files.second) (is_some files.bases) c.requires.0 (view.Written (written.Paired c.in-Written-Paired.rows)) (c.requires.2 ∙ ap Ok view-is) refl
+    needs-there files.first.width (is_some files.second) (is_some files.bases) c.requires.0 (view.Written (written.Paired c.in-Written-Paired.output)) (c.requires.2 ∙ ap Ok view-is) refl
 
 pub put_fasta-requires : goal.put_fasta-requires
 put_fasta-requires g c =

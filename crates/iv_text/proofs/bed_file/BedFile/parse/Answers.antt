@@ -1,7 +1,7 @@
 use Rattle.std.proofs.Common.{◌≡◌, ◌∙◌, ◌++◌, List, ℕ, [], Ok, sym, ap, inl, inr, append-nil}
 use Rattle.iv_text.specs.BedFile.{bed_of}
 use Rattle.iv_text.specs.RecordValue.{RecordValue}
-use Rattle.iv_text.specs.BedReading.{Reading, begun, coming, finished}
+use Rattle.iv_text.specs.BedReading.{Reading, begun, read_on, finished}
 use Rattle.iv_text.proofs.BedReadingLemmas.{handed-on, kept-all, rows-all, fit-all, whole-file}
 use Rattle.iv_text.proofs.bed_file.BedFile.parse.Goals as goal
 
@@ -18,8 +18,8 @@ returns-in_err-take_piece-clause-err g c =
       | inr refused ↦ inr (
           sym (kept-all (bed_of genome empty limit text))
           ∙ sym (whole-file same genome limit empty text)
-          ∙ ap (λ (t : List ℕ). finished empty (coming same genome limit begun t)) (sym (append-nil text))
-          ∙ ap (λ (r : Reading). finished empty (coming same genome limit r (text ++ []))) (sym c.new-draft.ensures)
+          ∙ ap (λ (t : List ℕ). finished empty (read_on same genome limit begun t)) (sym (append-nil text))
+          ∙ ap (λ (r : Reading). finished empty (read_on same genome limit r (text ++ []))) (sym c.new-draft.ensures)
           ∙ ap (finished empty) (refused []))
     ])
 
@@ -30,11 +30,11 @@ returns-in_err-width-clause-err g c =
     let empty = c.args.empty_width in
     let text : List ℕ = c.args.text.now in
     let same : RecordValue → RecordValue = λ r. r in
-    let whole : bed_of genome empty limit text ≡ finished empty (coming same genome limit c.take_piece.new.self []) =
+    let whole : bed_of genome empty limit text ≡ finished empty (read_on same genome limit c.take_piece.new.self []) =
     sym (kept-all (bed_of genome empty limit text))
     ∙ sym (whole-file same genome limit empty text)
-    ∙ ap (λ (t : List ℕ). finished empty (coming same genome limit begun t)) (sym (append-nil text))
-    ∙ ap (λ (r : Reading). finished empty (coming same genome limit r (text ++ []))) (sym c.new-draft.ensures)
+    ∙ ap (λ (t : List ℕ). finished empty (read_on same genome limit begun t)) (sym (append-nil text))
+    ∙ ap (λ (r : Reading). finished empty (read_on same genome limit r (text ++ []))) (sym c.new-draft.ensures)
     ∙ ap (finished empty) (c.in_ok-take_piece.ensures.ok []) in
     handed-on c.from_residual-in_err-width.result _ _ c.from_residual-in_err-width.ensures.1
     (elim c.in_err-width.ensures.err [
@@ -49,13 +49,13 @@ returns-clause-ok g c =
     let empty = c.args.empty_width in
     let text : List ℕ = c.args.text.now in
     let same : RecordValue → RecordValue = λ r. r in
-    let whole : bed_of genome empty limit text ≡ finished empty (coming same genome limit c.take_piece.new.self []) =
+    let whole : bed_of genome empty limit text ≡ finished empty (read_on same genome limit c.take_piece.new.self []) =
     sym (kept-all (bed_of genome empty limit text))
     ∙ sym (whole-file same genome limit empty text)
-    ∙ ap (λ (t : List ℕ). finished empty (coming same genome limit begun t)) (sym (append-nil text))
-    ∙ ap (λ (r : Reading). finished empty (coming same genome limit r (text ++ []))) (sym c.new-draft.ensures)
+    ∙ ap (λ (t : List ℕ). finished empty (read_on same genome limit begun t)) (sym (append-nil text))
+    ∙ ap (λ (r : Reading). finished empty (read_on same genome limit r (text ++ []))) (sym c.new-draft.ensures)
     ∙ ap (finished empty) (c.in_ok-take_piece.ensures.ok []) in
-    whole ∙ c.in_ok-width.ensures.ok ∙ ap (λ (rows : List RecordValue). Ok (record { width = c.in_ok-width.width; rows = rows })) (rows-all c.in_ok-width.records ∙ sym c.in_ok-records.ensures)
+    whole ∙ c.in_ok-width.ensures.ok ∙ ap (λ (records : List RecordValue). Ok (record { width = c.in_ok-width.width; records = records })) (rows-all c.in_ok-width.records ∙ sym c.in_ok-records.ensures)
 
 pub returns-clause-fit : goal.returns-clause-fit
 returns-clause-fit g c =

@@ -35,6 +35,6 @@ returns-clause-ok g c =
       short.some,
       short.within,
       short-taken k.held_of genome c.args.limit old c.take_one.new.self w text line c.in-Some-from_interval.one short wide known
-          (c.in-Some-from_interval.ensures short.row (short-read genome w text line short) ∙ ap (k.held_of short.row) c.at-at.ensures.value)
+          (c.in-Some-from_interval.ensures short.feature (short-read genome w text line short) ∙ ap (k.held_of short.feature) c.at-at.ensures.value)
           (subst (λ (n : ℕ). n < 2 ^ 32) c.at-at.ensures.value c.at-at.ensures.small) taken.free taken.ok,
     )

@@ -3,7 +3,7 @@ use Rattle.iv_text.specs.BedFile.{Bed}
 use Rattle.iv_text.specs.Lines.{lines}
 use Rattle.iv_text.specs.RecordValue.{RecordValue}
 use Rattle.iv_text.specs.declared.fault.LoadFault.{LoadFault}
-use Rattle.iv_text.specs.BedReading.{IsProjected, Reading, after, coming, shown, finished}
+use Rattle.iv_text.specs.BedReading.{IsProjected, Reading, after, read_on, shown, finished}
 use Rattle.iv_text.proofs.BedReadingLemmas.{handed-on, projected-again, refused-so, sound-kept, taken-so}
 use Rattle.iv_text.proofs.bed_reader.BedReader.finish.Goals as goal
 
@@ -19,7 +19,7 @@ returns-in_err-take_lines-clause-err g c =
     (elim c.in_err-take_lines.ensures.err [
       | inl memory ↦ inl memory
       | inr refused ↦ inr (
-          ap (λ (r : Reading). coming k.projected genome limit r []) (sym c.self.view_is)
+          ap (λ (r : Reading). read_on k.projected genome limit r []) (sym c.self.view_is)
           ∙ ap (λ (t : List ℕ). after k.projected genome limit (shown k.as_record read) (lines t)) (append-nil c.self.inside.tail.items ∙ sym c.as_slice.ensures.value)
           ∙ ap (after k.projected genome limit (shown k.as_record read)) (sym (append-nil (lines line)))
           ∙ refused-so k.held_of genome limit k.projected k.as_record law.again law.stands read line _ refused [])
@@ -35,16 +35,16 @@ returns-clause-ok g c =
     let read = c.self.inside.read in
     let new = c.take_lines.new.self in
     let line : List ℕ = c.as_slice.result.now in
-    let done : ℕ → List RecordValue → Result Bed LoadFault = λ w rows. Ok (record { width = w; rows = rows }) in
-    let rows : List RecordValue = map k.as_record new.kept in
+    let done : ℕ → List RecordValue → Result Bed LoadFault = λ w records. Ok (record { width = w; records = records }) in
+    let records : List RecordValue = map k.as_record new.kept in
     let wide = sound-kept k.projected genome limit (shown k.as_record new) empty c.in_ok-take_lines.ensures.sound c.requires.width.0 c.requires.width.1 in
     ap (finished empty)
-    (ap (λ (r : Reading). coming k.projected genome limit r []) (sym c.self.view_is)
+    (ap (λ (r : Reading). read_on k.projected genome limit r []) (sym c.self.view_is)
     ∙ ap (λ (t : List ℕ). after k.projected genome limit (shown k.as_record read) (lines t)) (append-nil c.self.inside.tail.items ∙ sym c.as_slice.ensures.value)
     ∙ ap (after k.projected genome limit (shown k.as_record read)) (sym (append-nil (lines line)))
     ∙ taken-so k.held_of genome limit k.projected k.as_record law.again law.stands read new line c.in_ok-take_lines.ensures.ok [])
-    ∙ ap (done (unwrap_or new.width empty)) (projected-again k.projected genome limit law.again _ rows wide.2)
-    ∙ ap (λ w. done w rows) (ap (λ o. unwrap_or o empty) (sym c.finish-width.ensures.width) ∙ sym c.unwrap_or.ensures)
+    ∙ ap (done (unwrap_or new.width empty)) (projected-again k.projected genome limit law.again _ records wide.2)
+    ∙ ap (λ w. done w records) (ap (λ o. unwrap_or o empty) (sym c.finish-width.ensures.width) ∙ sym c.unwrap_or.ensures)
     ∙ ap (λ items. done c.unwrap_or.result (map k.as_record items)) (sym c.finish-width.ensures.kept)
 
 pub returns-clause-kept : goal.returns-clause-kept

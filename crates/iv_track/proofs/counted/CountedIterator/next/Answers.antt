@@ -5,8 +5,8 @@ use Rattle.iv_track.proofs.CountedLemmas.{IsCounting, counting-begins, counting-
 use Rattle.iv_track.proofs.counted.CountedIterator.next.Goals.{in-Some, in-None+in_ok-first-in-None}
 use Rattle.iv_track.proofs.counted.CountedIterator.next.Goals as goal
 
-pub loop-row-init : goal.loop-row-init
-loop-row-init g c =
+pub loop-feature-init : goal.loop-feature-init
+loop-feature-init g c =
     let i = c.self.inside in
     let now = c.match-take.self-inside in
     let first = c.match-take.first in
@@ -30,35 +30,35 @@ loop-row-init g c =
 
 pub overflow_add-count : goal.overflow_add-count
 overflow_add-count g c =
-    let rest = c.next-in-loop-row.new.self in
-    let few : c.loop-row.count + suc (length rest) < 2 ^ 32 =
-    (subst (λ (l : List RecordValue). IsCounting c.args.self.now c.match-take.first c.loop-row.count l) c.in-Some-next.ensures.steps c.loop-row.invariant.0).few in
+    let rest = c.next-in-loop-feature.new.self in
+    let few : c.loop-feature.count + suc (length rest) < 2 ^ 32 =
+    (subst (λ (l : List RecordValue). IsCounting c.args.self.now c.match-take.first c.loop-feature.count l) c.in-Some-next.ensures.steps c.loop-feature.invariant.0).few in
     record { fits = omega (arith, few) }
 
-pub loop-row-preserved : goal.loop-row-preserved
-loop-row-preserved g c =
-    let l = c.loop-row in (
-      counting-more c.args.self.now c.match-take.first c.in-Some-next.row l.count c.next-in-loop-row.new.self
+pub loop-feature-preserved : goal.loop-feature-preserved
+loop-feature-preserved g c =
+    let l = c.loop-feature in (
+      counting-more c.args.self.now c.match-take.first c.in-Some-next.feature l.count c.next-in-loop-feature.new.self
           (sym c.ne.ensures ∙ c.if-ne.false)
-          (subst (λ (rows : List RecordValue). IsCounting c.args.self.now c.match-take.first l.count rows) c.in-Some-next.ensures.steps l.invariant.0),
+          (subst (λ (records : List RecordValue). IsCounting c.args.self.now c.match-take.first l.count records) c.in-Some-next.ensures.steps l.invariant.0),
       l.invariant.1,
     )
 
 pub returns-then-ne : goal.returns-then-ne
 returns-then-ne g c =
-    let l = c.loop-row in
-    let rest = c.next-in-loop-row.new.self in
-    let is : c.args.self.now ≡ (c.match-take.first, l.count) ∷ grouped record_cmp (c.in-Some-next.row ∷ rest) =
-    counting-ends c.args.self.now c.match-take.first c.in-Some-next.row l.count rest (sym c.ne.ensures ∙ c.if-ne.true)
-    (subst (λ (rows : List RecordValue). IsCounting c.args.self.now c.match-take.first l.count rows) c.in-Some-next.ensures.steps l.invariant.0) in
-    let longer : length c.args.self.now ≡ suc (length (grouped record_cmp (c.in-Some-next.row ∷ rest))) = ap length is in
+    let l = c.loop-feature in
+    let rest = c.next-in-loop-feature.new.self in
+    let is : c.args.self.now ≡ (c.match-take.first, l.count) ∷ grouped record_cmp (c.in-Some-next.feature ∷ rest) =
+    counting-ends c.args.self.now c.match-take.first c.in-Some-next.feature l.count rest (sym c.ne.ensures ∙ c.if-ne.true)
+    (subst (λ (records : List RecordValue). IsCounting c.args.self.now c.match-take.first l.count records) c.in-Some-next.ensures.steps l.invariant.0) in
+    let longer : length c.args.self.now ≡ suc (length (grouped record_cmp (c.in-Some-next.feature ∷ rest))) = ap length is in
     record { steps = (is, c.lemma_of_interval.ensures); goes = record { on = λ _. (tt, tt, omega (arith, longer)); keeps = tt; rests = λ _. tt } }
 
 pub returns : goal.returns
 returns g c =
-    let l = c.loop-row in
+    let l = c.loop-feature in
     let now = c.in_default.ensures.steps in
-    let rest = c.next-in-loop-row.new.self in
+    let rest = c.next-in-loop-feature.new.self in
     let nothing : grouped record_cmp (left l.self-inside.ahead rest) ≡ [] =
     ap (λ o. grouped record_cmp (left o rest)) l.invariant.1 ∙ ap (grouped record_cmp) now.1 in
     let is : c.args.self.now ≡ (c.match-take.first, l.count) ∷ grouped record_cmp (left l.self-inside.ahead rest) =
@@ -69,7 +69,7 @@ returns g c =
 
 pub invariant_of-self-then-ne : goal.invariant_of-self-then-ne
 invariant_of-self-then-ne g c =
-    let rest = c.next-in-loop-row.new.self in
-    let few : c.loop-row.count + suc (length rest) < 2 ^ 32 =
-    (subst (λ (l : List RecordValue). IsCounting c.args.self.now c.match-take.first c.loop-row.count l) c.in-Some-next.ensures.steps c.loop-row.invariant.0).few in
+    let rest = c.next-in-loop-feature.new.self in
+    let few : c.loop-feature.count + suc (length rest) < 2 ^ 32 =
+    (subst (λ (l : List RecordValue). IsCounting c.args.self.now c.match-take.first c.loop-feature.count l) c.in-Some-next.ensures.steps c.loop-feature.invariant.0).few in
     omega (arith, few)

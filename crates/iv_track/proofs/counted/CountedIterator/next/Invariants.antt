@@ -3,8 +3,8 @@ use Rattle.iv_track.proofs.CountedLemmas.{IsCounting}
 use Rattle.iv_track.proofs.counted.CountedIterator.next.Given as goal
 
 -- the entry so far, and the records that are left
-abbrev pub invariant-loop-row : goal.invariant-loop-row
-invariant-loop-row g l = IsCounting l.fn.self l.first l.count l.self-inside.rest × (l.self-inside.ahead ≡ None)
+abbrev pub invariant-loop-feature : goal.invariant-loop-feature
+invariant-loop-feature g l = IsCounting l.fn.self l.first l.count l.self-inside.rest × (l.self-inside.ahead ≡ None)
 
-abbrev pub decreases-loop-row : goal.decreases-loop-row
-decreases-loop-row g l = length l.self-inside.rest
+abbrev pub decreases-loop-feature : goal.decreases-loop-feature
+decreases-loop-feature g l = length l.self-inside.rest

@@ -10,13 +10,13 @@ returns-in_err-next-clause-next g c =
     let i = c.self.inside in
     rw c.from_residual.ensures (
     c.in_err-next.ensures.entry
-    ∙ sym (next-entry (λ q. is_lt (record_cmp c.args.row.now q)) i.ledger i.len i.width i.limit c.self.invariant.track)
-    ∙ ap (λ (t : Tracked). next_after t.rows c.args.row.now) c.self.view_is
+    ∙ sym (next-entry (λ q. is_lt (record_cmp c.args.feature.now q)) i.ledger i.len i.width i.limit c.self.invariant.track)
+    ∙ ap (λ (t : Tracked). next_after t.records c.args.feature.now) c.self.view_is
     )
 
 pub returns-clause-next : goal.returns-clause-next
 returns-clause-next g c =
     let i = c.self.inside in
     c.in_ok-next.ensures.entry
-    ∙ sym (next-entry (λ q. is_lt (record_cmp c.args.row.now q)) i.ledger i.len i.width i.limit c.self.invariant.track)
-    ∙ ap (λ (t : Tracked). next_after t.rows c.args.row.now) c.self.view_is
+    ∙ sym (next-entry (λ q. is_lt (record_cmp c.args.feature.now q)) i.ledger i.len i.width i.limit c.self.invariant.track)
+    ∙ ap (λ (t : Tracked). next_after t.records c.args.feature.now) c.self.view_is

@@ -10,23 +10,23 @@ returns-in_err-least-clause-next g c =
     rw c.from_residual.ensures (
     sym (find-nowhere c.args.seq c.args.start i.ledger c.in_err-least.ensures c.self.invariant.track.placed)
     ∙ sym (next-entry (is_from c.args.seq c.args.start) i.ledger i.len i.width i.limit c.self.invariant.track)
-    ∙ ap (λ (t : Tracked). next_from t.rows c.args.seq c.args.start) c.self.view_is
+    ∙ ap (λ (t : Tracked). next_from t.records c.args.seq c.args.start) c.self.view_is
     )
 
-pub returns-in_err-row-clause-next : goal.returns-in_err-row-clause-next
-returns-in_err-row-clause-next g c =
+pub returns-in_err-feature-clause-next : goal.returns-in_err-feature-clause-next
+returns-in_err-feature-clause-next g c =
     let i = c.self.inside in
-    rw c.from_residual-in_err-row.ensures (
-    c.in_err-row.ensures.entry
+    rw c.from_residual-in_err-feature.ensures (
+    c.in_err-feature.ensures.entry
     ∙ find-begun c.args.seq c.args.start c.in_ok-least.least i.ledger c.in_ok-least.ensures c.self.invariant.track.placed
     ∙ sym (next-entry (is_from c.args.seq c.args.start) i.ledger i.len i.width i.limit c.self.invariant.track)
-    ∙ ap (λ (t : Tracked). next_from t.rows c.args.seq c.args.start) c.self.view_is
+    ∙ ap (λ (t : Tracked). next_from t.records c.args.seq c.args.start) c.self.view_is
     )
 
 pub returns-clause-next : goal.returns-clause-next
 returns-clause-next g c =
     let i = c.self.inside in
-    c.in_ok-row.ensures.entry
+    c.in_ok-feature.ensures.entry
     ∙ find-begun c.args.seq c.args.start c.in_ok-least.least i.ledger c.in_ok-least.ensures c.self.invariant.track.placed
     ∙ sym (next-entry (is_from c.args.seq c.args.start) i.ledger i.len i.width i.limit c.self.invariant.track)
-    ∙ ap (λ (t : Tracked). next_from t.rows c.args.seq c.args.start) c.self.view_is
+    ∙ ap (λ (t : Tracked). next_from t.records c.args.seq c.args.start) c.self.view_is

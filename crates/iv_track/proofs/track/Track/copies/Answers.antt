@@ -12,12 +12,12 @@ pub returns-clause-value : goal.returns-clause-value
 returns-clause-value g c =
     c.unwrap_or.ensures
     ∙ ap (λ o. unwrap_or o 0) (c.copied.ensures ∙ c.get.ensures.value)
-    ∙ sym (copies-expanded record_cmp records_total c.self.inside.ledger c.args.row.now c.self.invariant.track.ordered)
-    ∙ ap (λ (t : Tracked). copies t.rows c.args.row.now) c.self.view_is
+    ∙ sym (copies-expanded record_cmp records_total c.self.inside.ledger c.args.feature.now c.self.invariant.track.ordered)
+    ∙ ap (λ (t : Tracked). copies t.records c.args.feature.now) c.self.view_is
 
 pub returns-clause-steps : goal.returns-clause-steps
 returns-clause-steps g c = takes_within _ _ 1 2 (lit≤ tt) (takes_one_more _ _ _ 0 (takes_none _) c.get.ensures.step)
 
 pub returns-clause-ordered : goal.returns-clause-ordered
 returns-clause-ordered g c =
-    subst (λ (t : Tracked). AreInOrder t.rows) c.self.view_is (in_order-expanded record_cmp records_total c.self.inside.ledger c.self.invariant.track.ordered)
+    subst (λ (t : Tracked). AreInOrder t.records) c.self.view_is (in_order-expanded record_cmp records_total c.self.inside.ledger c.self.invariant.track.ordered)

@@ -23,13 +23,13 @@ passed g c =
 
 -- and their records those of the track
 meant : (g : given.Over) (c : goal.Joined-least g)
-    → expanded (filter (λ e. is_from c.args.seq c.args.start e.0) c.self.inside.ledger) ≡ filter (is_from c.args.seq c.args.start) c.args.self.now.rows
+    → expanded (filter (λ e. is_from c.args.seq c.args.start e.0) c.self.inside.ledger) ≡ filter (is_from c.args.seq c.args.start) c.args.self.now.records
 meant g c =
     expanded-filter (is_from c.args.seq c.args.start) c.self.inside.ledger
-    ∙ ap (λ (t : Tracked). filter (is_from c.args.seq c.args.start) t.rows) c.self.view_is
+    ∙ ap (λ (t : Tracked). filter (is_from c.args.seq c.args.start) t.records) c.self.view_is
 
-pub returns-clause-rows : goal.returns-clause-rows
-returns-clause-rows g c = ap expanded (passed g c) ∙ meant g c
+pub returns-clause-records : goal.returns-clause-records
+returns-clause-records g c = ap expanded (passed g c) ∙ meant g c
 
 pub returns-clause-each : goal.returns-clause-each
 returns-clause-each g c =

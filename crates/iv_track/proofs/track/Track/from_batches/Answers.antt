@@ -18,7 +18,7 @@ of-lengths-requires g c =
       arith,
       ap (λ (es : List (RecordValue × ℕ)). length (expanded es)) c.all.ensures,
       ap length c.in_ok-ledger.ensures.rows_are,
-      length-all_added record_cmp c.args.rows [],
+      length-all_added record_cmp c.args.records [],
       c.requires.few,
       c.requires.limit,
     )
@@ -27,9 +27,9 @@ pub invariant_of-result : goal.invariant_of-result
 invariant_of-result g c =
     let W : RecordValue → Type 0 = λ q. q.width ≡ c.args.width in
     record {
-      track = counted_track c.in_ok-ledger.ledger (ordered c.args.rows) c.len-len.result c.args.width c.args.limit c.in_ok-ledger.ensures
-          (omega (arith, c.len-len.ensures, length-all_added record_cmp c.args.rows []))
-          (All-from_recursion W (ordered c.args.rows) (all-all_added record_cmp W c.args.rows [] (recursion_from_All W c.args.rows c.requires.width) tt))
+      track = counted_track c.in_ok-ledger.ledger (ordered c.args.records) c.len-len.result c.args.width c.args.limit c.in_ok-ledger.ensures
+          (omega (arith, c.len-len.ensures, length-all_added record_cmp c.args.records []))
+          (All-from_recursion W (ordered c.args.records) (all-all_added record_cmp W c.args.records [] (recursion_from_All W c.args.records c.requires.width) tt))
           (omega (arith, c.len-len.ensures, c.requires.few))
           c.requires.limit;
       lengths = subst (λ (es : List (RecordValue × ℕ)). AreClasses c.of-lengths.result (expanded es)) c.all.ensures c.of-lengths.ensures;
@@ -37,5 +37,5 @@ invariant_of-result g c =
 
 pub returns : goal.returns
 returns g c =
-    let with_rows : List RecordValue → Tracked = λ rows. record { rows = rows; width = c.args.width; limit = c.args.limit } in
+    let with_rows : List RecordValue → Tracked = λ records. record { records = records; width = c.args.width; limit = c.args.limit } in
     ap with_rows c.in_ok-ledger.ensures.rows_are

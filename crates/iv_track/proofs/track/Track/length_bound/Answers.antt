@@ -10,7 +10,7 @@ use Rattle.iv_track.proofs.track.Track.length_bound.Goals as goal
 pub returns-clause-up_to : goal.returns-clause-up_to
 returns-clause-up_to g c =
     let i = c.self.inside in
-    subst (λ (t : Tracked). All (λ r. r.stop ≤ r.start + c.bound.result) t.rows) c.self.view_is
+    subst (λ (t : Tracked). All (λ r. r.stop ≤ r.start + c.bound.result) t.records) c.self.view_is
     (bound-above i.lengths (expanded i.ledger) c.bound.result c.self.invariant.lengths (placed-expanded i.ledger c.self.invariant.track.placed) c.bound.ensures.above)
 
 pub returns-clause-near : goal.returns-clause-near
@@ -24,6 +24,6 @@ returns-clause-near g c =
             arith,
             bound-near i.lengths (expanded i.ledger) one.0 c.self.invariant.lengths (placed-expanded i.ledger c.self.invariant.track.placed) one.1,
             one.2,
-            ap (λ (t : Tracked). longest t.rows) c.self.view_is,
+            ap (λ (t : Tracked). longest t.records) c.self.view_is,
           )
     ]

@@ -14,33 +14,33 @@ use Rattle.iv_track.proofs.track.Track.stage.Goals as goal
 pub overflow_add-count : goal.overflow_add-count
 overflow_add-count g c =
     let i = c.self.inside in
-    let e : c.unwrap_or-count.result ≡ unwrap_or (value_at record_cmp i.ledger c.args.row) 0 = c.unwrap_or-count.ensures ∙ ap (λ o. unwrap_or o 0) (c.copied.ensures ∙ c.get.ensures.value) in
-    record { fits = omega (arith, e, count-le-len i.ledger i.len i.width i.limit c.args.row c.self.invariant.track, c.self.invariant.track.room, c.self.invariant.track.bounded) }
+    let e : c.unwrap_or-count.result ≡ unwrap_or (value_at record_cmp i.ledger c.args.feature) 0 = c.unwrap_or-count.ensures ∙ ap (λ o. unwrap_or o 0) (c.copied.ensures ∙ c.get.ensures.value) in
+    record { fits = omega (arith, e, count-le-len i.ledger i.len i.width i.limit c.args.feature c.self.invariant.track, c.self.invariant.track.room, c.self.invariant.track.bounded) }
 
 pub invariant_of-self-2 : goal.invariant_of-self-2
 invariant_of-self-2 g c =
     let i = c.self.inside in
     let e = c.unwrap_or-count.ensures ∙ ap (λ o. unwrap_or o 0) (c.copied.ensures ∙ c.get.ensures.value) in
     record {
-      track = staged_track i.ledger c.put.new.self i.len i.width i.limit c.args.row c.self.invariant.track c.unwrap_or-count.result e c.in_ok-put.ensures.ok c.in_ok-put.ensures.ordered
+      track = staged_track i.ledger c.put.new.self i.len i.width i.limit c.args.feature c.self.invariant.track c.unwrap_or-count.result e c.in_ok-put.ensures.ok c.in_ok-put.ensures.ordered
           (c.requires.width ∙ sym (ap (λ (t : Tracked). t.width) c.self.view_is))
           c.lemma_of_interval.ensures
-          (omega (arith, c.requires.room, len-rows i.ledger i.len i.width i.limit c.self.invariant.track, ap (λ (t : Tracked). length t.rows) c.self.view_is, ap (λ (t : Tracked). t.limit) c.self.view_is));
+          (omega (arith, c.requires.room, len-rows i.ledger i.len i.width i.limit c.self.invariant.track, ap (λ (t : Tracked). length t.records) c.self.view_is, ap (λ (t : Tracked). t.limit) c.self.view_is));
       lengths =
-          let within : length_class c.args.row < 33 = omega (arith, c.length_class-class.ensures.is, c.length_class-class.ensures.within) in
-          let rows = staged_rows i.ledger c.put.new.self i.len i.width i.limit c.args.row c.self.invariant.track c.unwrap_or-count.result e c.in_ok-put.ensures.ok in
+          let within : length_class c.args.feature < 33 = omega (arith, c.length_class-class.ensures.is, c.length_class-class.ensures.within) in
+          let records = staged_rows i.ledger c.put.new.self i.len i.width i.limit c.args.feature c.self.invariant.track c.unwrap_or-count.result e c.in_ok-put.ensures.ok in
           subst (λ (l : List ℕ). AreClasses l (expanded c.put.new.self))
           (sym (c.add.ensures ∙ ap (λ k. slice_set i.lengths k (slice_index_or i.lengths k 0 + 1)) c.length_class-class.ensures.is))
-          (subst (AreClasses (slice_set i.lengths (length_class c.args.row) (slice_index_or i.lengths (length_class c.args.row) 0 + 1))) (sym rows) (classes-added i.lengths (expanded i.ledger) c.args.row c.self.invariant.lengths within));
+          (subst (AreClasses (slice_set i.lengths (length_class c.args.feature) (slice_index_or i.lengths (length_class c.args.feature) 0 + 1))) (sym records) (classes-added i.lengths (expanded i.ledger) c.args.feature c.self.invariant.lengths within));
     }
 
 pub returns-clause-ok : goal.returns-clause-ok
 returns-clause-ok g c =
     let i = c.self.inside in
     let e = c.unwrap_or-count.ensures ∙ ap (λ o. unwrap_or o 0) (c.copied.ensures ∙ c.get.ensures.value) in
-    let with_rows : List RecordValue → Tracked = λ rows. record { rows = rows; width = i.width; limit = i.limit } in
-    ap with_rows (staged_rows i.ledger c.put.new.self i.len i.width i.limit c.args.row c.self.invariant.track c.unwrap_or-count.result e c.in_ok-put.ensures.ok)
-    ∙ ap (λ (t : Tracked). record t { rows = added t.rows c.args.row }) c.self.view_is
+    let with_rows : List RecordValue → Tracked = λ records. record { records = records; width = i.width; limit = i.limit } in
+    ap with_rows (staged_rows i.ledger c.put.new.self i.len i.width i.limit c.args.feature c.self.invariant.track c.unwrap_or-count.result e c.in_ok-put.ensures.ok)
+    ∙ ap (λ (t : Tracked). record t { records = added t.records c.args.feature }) c.self.view_is
 
 -- what holds holds after a refusal
 after_refusal : {X E : Type 0} (res : Result X E) (P : Type 0) → P → OnErr res P
@@ -50,9 +50,9 @@ after_refusal (Err e) P p = p
 pub returns-in_err-put-clause-memory : goal.returns-in_err-put-clause-memory
 returns-in_err-put-clause-memory g c =
     let i = c.self.inside in
-    after_refusal c.from_residual.result (copies c.args.self.now.rows c.args.row ≡ 0) (
-    ap (λ (t : Tracked). copies t.rows c.args.row) (sym c.self.view_is)
-    ∙ count_here i.ledger i.len i.width i.limit c.args.row c.self.invariant.track
+    after_refusal c.from_residual.result (copies c.args.self.now.records c.args.feature ≡ 0) (
+    ap (λ (t : Tracked). copies t.records c.args.feature) (sym c.self.view_is)
+    ∙ count_here i.ledger i.len i.width i.limit c.args.feature c.self.invariant.track
     ∙ ap (λ o. unwrap_or o 0) c.in_err-put.ensures.absent
     )
 

@@ -13,13 +13,13 @@ use Rattle.iv_track.proofs.track.Track.walk.Goals as goal
 pub invariant_of-result : goal.invariant_of-result
 invariant_of-result g c = rw c.walk.ensures.entries (present-filter (λ e. is_le (record_cmp c.least_at-least.result e.0)) c.self.inside.ledger c.self.invariant.track.present)
 
-pub returns-clause-rows : goal.returns-clause-rows
-returns-clause-rows g c =
+pub returns-clause-records : goal.returns-clause-records
+returns-clause-records g c =
     let i = c.self.inside in
     ap expanded (c.walk.ensures.entries ∙ ap (λ k. filter (λ e. is_le (record_cmp k e.0)) i.ledger) c.least_at-least.ensures ∙ filter-least c.args.seq c.args.start i.ledger c.self.invariant.track.placed)
     ∙ expanded-filter (is_from c.args.seq c.args.start) i.ledger
-    ∙ ap (λ (t : Tracked). filter (is_from c.args.seq c.args.start) t.rows) c.self.view_is
+    ∙ ap (λ (t : Tracked). filter (is_from c.args.seq c.args.start) t.records) c.self.view_is
 
 pub returns-clause-ordered : goal.returns-clause-ordered
 returns-clause-ordered g c =
-    subst (λ (t : Tracked). AreInOrder t.rows) c.self.view_is (in_order-expanded record_cmp records_total c.self.inside.ledger c.self.invariant.track.ordered)
+    subst (λ (t : Tracked). AreInOrder t.records) c.self.view_is (in_order-expanded record_cmp records_total c.self.inside.ledger c.self.invariant.track.ordered)

@@ -9,23 +9,23 @@ use Rattle.iv_track.proofs.StepLemmas.{takes_none, takes_one_more}
 use Rattle.iv_track.proofs.WalkLemmas.{expanded-filter, present-filter}
 use Rattle.iv_track.proofs.track.Track.walk_from.Goals as goal
 
-pub returns-in_default-clause-rows : goal.returns-in_default-clause-rows
-returns-in_default-clause-rows g c =
+pub returns-in_default-clause-records : goal.returns-in_default-clause-records
+returns-in_default-clause-records g c =
     let i = c.self.inside in
     c.none.ensures
     ∙ ap expanded (sym (filter-nowhere c.args.seq c.args.start i.ledger c.in_default.ensures c.self.invariant.track.placed))
     ∙ expanded-filter (is_from c.args.seq c.args.start) i.ledger
-    ∙ ap (λ (t : Tracked). filter (is_from c.args.seq c.args.start) t.rows) c.self.view_is
+    ∙ ap (λ (t : Tracked). filter (is_from c.args.seq c.args.start) t.records) c.self.view_is
 
 pub invariant_of-result : goal.invariant_of-result
 invariant_of-result g c = rw c.walk.ensures.entries (present-filter (λ e. is_le (record_cmp c.in-Some.least e.0)) c.self.inside.ledger c.self.invariant.track.present)
 
-pub returns-clause-rows : goal.returns-clause-rows
-returns-clause-rows g c =
+pub returns-clause-records : goal.returns-clause-records
+returns-clause-records g c =
     let i = c.self.inside in
     ap expanded (c.walk.ensures.entries ∙ filter-begun c.args.seq c.args.start c.in-Some.least i.ledger c.in-Some.ensures c.self.invariant.track.placed)
     ∙ expanded-filter (is_from c.args.seq c.args.start) i.ledger
-    ∙ ap (λ (t : Tracked). filter (is_from c.args.seq c.args.start) t.rows) c.self.view_is
+    ∙ ap (λ (t : Tracked). filter (is_from c.args.seq c.args.start) t.records) c.self.view_is
 
 pub returns-clause-steps : goal.returns-clause-steps
 returns-clause-steps g c = takes_one_more _ _ _ 0 (takes_none _) c.walk.ensures.step

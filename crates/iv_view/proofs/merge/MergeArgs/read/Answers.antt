@@ -8,7 +8,7 @@ pub options-preserved-then-eq : goal.options-preserved-then-eq
 options-preserved-then-eq c =
     let ws = c.options.rest.now in
     going-flag ws (record { ref_ptr = (0, 0); now = [] }) _ _ c.in-len1-up.len_at_least (ap (bytes_eq (get_or ws 0 (record { ref_ptr = (0, 0); now = [] })).now) (sym c.as_slice.ensures) ∙ sym c.if-eq.ensures) c.if-said.false
-    (subst (λ (s : MergeArgs). said_by (map (λ word. word.now) ws) s ≡ said_by (map (λ word. word.now) c.args.words.now) nothing_said) (sym c.said.view_is) c.options.invariant)
+    (subst (λ (s : MergeArgs). said_by (map (λ argument. argument.now) ws) s ≡ said_by (map (λ argument. argument.now) c.args.arguments.now) nothing_said) (sym c.said.view_is) c.options.invariant)
 
 pub options-preserved : goal.options-preserved
 options-preserved c =

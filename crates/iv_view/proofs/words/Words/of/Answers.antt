@@ -9,12 +9,12 @@ use Rattle.iv_view.proofs.words.Words.of.Goals.{else-not-is_empty-via-then-not-i
 pub loop-field-preserved-then-count-lt-MOST_WORDS : goal.loop-field-preserved-then-count-lt-MOST_WORDS
 loop-field-preserved-then-count-lt-MOST_WORDS c =
     let inv = c.loop-field.invariant in
-    let room : c.loop-field.count < length c.loop-field.words = omega (arith, inv.size, c.if-count-lt-MOST_WORDS.true) in
+    let room : c.loop-field.count < length c.loop-field.arguments = omega (arith, inv.size, c.if-count-lt-MOST_WORDS.true) in
     let long : 0 < length c.in-Some.field.now = positive (length c.in-Some.field.now) (sym c.if-not-is_empty.ensures) in
     record {
-      words = ap (take 9) (word-taken c.loop-field.count c.loop-field.words c.in-Some.field _ _ room c.in-Some.ensures long) ∙ inv.words;
+      arguments = ap (take 9) (word-taken c.loop-field.count c.loop-field.arguments c.in-Some.field _ _ room c.in-Some.ensures long) ∙ inv.arguments;
       few = omega (arith, c.if-count-lt-MOST_WORDS.true);
-      size = length-set c.loop-field.words c.loop-field.count c.in-Some.field ∙ inv.size;
+      size = length-set c.loop-field.arguments c.loop-field.count c.in-Some.field ∙ inv.size;
     }
 
 pub loop-field-preserved : goal.loop-field-preserved
@@ -22,12 +22,12 @@ loop-field-preserved c =
     let inv = c.loop-field.invariant in
     elim c.else-not-is_empty.branch [
       | else-not-is_empty-via-then-not-is_empty+else-count-lt-MOST_WORDS w ↦ record {
-        words = word-past c.loop-field.count c.loop-field.words _ _ (omega (arith, inv.few, w.if-count-lt-MOST_WORDS.false)) (omega (arith, inv.few, inv.size)) ∙ inv.words;
+        arguments = word-past c.loop-field.count c.loop-field.arguments _ _ (omega (arith, inv.few, w.if-count-lt-MOST_WORDS.false)) (omega (arith, inv.few, inv.size)) ∙ inv.arguments;
         few = inv.few;
         size = inv.size;
       }
       | else-not-is_empty-via-else-not-is_empty w ↦ record {
-        words = ap (λ (l : List (List ℕ)). take 9 (shown c.loop-field.count c.loop-field.words ++ l)) (word-empty c.in-Some.field.now _ _ c.in-Some.ensures (eqb-true (length c.in-Some.field.now) 0 (sym w.if-not-is_empty.ensures))) ∙ inv.words;
+        arguments = ap (λ (l : List (List ℕ)). take 9 (shown c.loop-field.count c.loop-field.arguments ++ l)) (word-empty c.in-Some.field.now _ _ c.in-Some.ensures (eqb-true (length c.in-Some.field.now) 0 (sym w.if-not-is_empty.ensures))) ∙ inv.arguments;
         few = inv.few;
         size = inv.size;
       }
@@ -36,10 +36,10 @@ loop-field-preserved c =
 pub returns : goal.returns
 returns c =
     let inv = c.loop-field.invariant in
-    let within : c.loop-field.count ≤ length c.loop-field.words = omega (arith, inv.few, inv.size) in
-    let size : length (shown c.loop-field.count c.loop-field.words) ≡ c.loop-field.count =
-    length-map (take c.loop-field.count c.loop-field.words) (λ (word : Bor (List ℕ)). word.now) ∙ length-take-le c.loop-field.count c.loop-field.words within in
-    sym (take_all 9 (shown c.loop-field.count c.loop-field.words) (omega (arith, size, inv.few)))
-    ∙ ap (take 9) (sym (append-nil (shown c.loop-field.count c.loop-field.words)))
-    ∙ ap (λ (l : List (List ℕ)). take 9 (shown c.loop-field.count c.loop-field.words ++ filter some l)) (sym c.in_default.ensures.0)
-    ∙ inv.words
+    let within : c.loop-field.count ≤ length c.loop-field.arguments = omega (arith, inv.few, inv.size) in
+    let size : length (shown c.loop-field.count c.loop-field.arguments) ≡ c.loop-field.count =
+    length-map (take c.loop-field.count c.loop-field.arguments) (λ (argument : Bor (List ℕ)). argument.now) ∙ length-take-le c.loop-field.count c.loop-field.arguments within in
+    sym (take_all 9 (shown c.loop-field.count c.loop-field.arguments) (omega (arith, size, inv.few)))
+    ∙ ap (take 9) (sym (append-nil (shown c.loop-field.count c.loop-field.arguments)))
+    ∙ ap (λ (l : List (List ℕ)). take 9 (shown c.loop-field.count c.loop-field.arguments ++ filter some l)) (sym c.in_default.ensures.0)
+    ∙ inv.arguments

@@ -6,9 +6,9 @@ use Rattle.iv_view.proofs.words.Words.of.Given as goal
 
 abbrev pub invariant-loop-field : goal.invariant-loop-field
 invariant-loop-field l = record {
-  words : take 9 (shown l.count l.words ++ filter (λ word. not (length word == 0)) l.fields) ≡ take 9 (words_of l.fn.text);
+  arguments : take 9 (shown l.count l.arguments ++ filter (λ argument. not (length argument == 0)) l.fields) ≡ take 9 (words_of l.fn.text);
   few : l.count ≤ 9;
-  size : length l.words ≡ 9;
+  size : length l.arguments ≡ 9;
 }
 
 abbrev pub decreases-loop-field : goal.decreases-loop-field

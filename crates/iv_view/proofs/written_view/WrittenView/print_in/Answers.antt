@@ -6,21 +6,21 @@ use Rattle.iv_view.specs.Views.{second_records, written_rows}
 use Rattle.iv_view.proofs.RegionLemmas.{first-rows}
 use Rattle.iv_view.proofs.written_view.WrittenView.print_in.Goals as goal
 
-pub rows-init : goal.rows-init
-rows-init g c = record {
-  put = rw c.hits-hits.ensures.rows (Underway-begin _ _);
+pub records-init : goal.records-init
+records-init g c = record {
+  put = rw c.hits-hits.ensures.records (Underway-begin _ _);
   no_less = omega (arith, c.hits-hits.ensures.steps);
   at_most = omega (arith, c.hits-hits.ensures.steps, c.hits-hits.ensures.passes);
 }
 
-pub rows-preserved : goal.rows-preserved
-rows-preserved g c =
+pub records-preserved : goal.records-preserved
+records-preserved g c =
     let a = c.args in
-    let i = c.rows.invariant in
+    let i = c.records.invariant in
     let second = second_records (option_copied a.second) in
     let bases = unwrap_or (option_copied a.fasta) [] in
-    let first : c.rows.hits.rows ≡ c.in-Some.row.now ∷ c.next.new.self.rows = c.in-Some.ensures.row in
-    let next = ap (flat_map (written_rows a.self a.genome.now second bases)) first ∙ first-rows a.self a.genome.now c.in-Some.row.now c.next.new.self.rows second bases in
+    let first : c.records.hits.records ≡ c.in-Some.feature.now ∷ c.next.new.self.records = c.in-Some.ensures.feature in
+    let next = ap (flat_map (written_rows a.self a.genome.now second bases)) first ∙ first-rows a.self a.genome.now c.in-Some.feature.now c.next.new.self.records second bases in
     record {
       put = Underway-more _ _ _ _ _ _ (rw next at i.put) c.in_ok-put_rows.ensures;
       no_less = omega (arith, i.no_less, c.in-Some.ensures.steps);
@@ -30,11 +30,11 @@ rows-preserved g c =
 pub returns-in_err-put_rows : goal.returns-in_err-put_rows
 returns-in_err-put_rows g c =
     let a = c.args in
-    let i = c.rows.invariant in
+    let i = c.records.invariant in
     let second = second_records (option_copied a.second) in
     let bases = unwrap_or (option_copied a.fasta) [] in
-    let first : c.rows.hits.rows ≡ c.in-Some.row.now ∷ c.next.new.self.rows = c.in-Some.ensures.row in
-    let next = ap (flat_map (written_rows a.self a.genome.now second bases)) first ∙ first-rows a.self a.genome.now c.in-Some.row.now c.next.new.self.rows second bases in
+    let first : c.records.hits.records ≡ c.in-Some.feature.now ∷ c.next.new.self.records = c.in-Some.ensures.feature in
+    let next = ap (flat_map (written_rows a.self a.genome.now second bases)) first ∙ first-rows a.self a.genome.now c.in-Some.feature.now c.next.new.self.records second bases in
     record {
       text = Puts-err _ _ c.from_residual.result _ c.from_residual.ensures.0
           (Underway-fails _ _ _ _ _ _ (rw next at i.put) c.in_err-put_rows.ensures);
@@ -46,7 +46,7 @@ returns-in_err-put_rows g c =
 
 pub returns-clause-steps : goal.returns-clause-steps
 returns-clause-steps g c =
-    let i = c.rows.invariant in
+    let i = c.records.invariant in
     record {
       no_less = omega (arith, i.no_less, c.in_default.ensures.steps);
       at_most = omega (arith, i.at_most, c.in_default.ensures.steps);

@@ -7,14 +7,14 @@ use Rattle.iv_view.specs.Views.{second_records, written_rows}
 use Rattle.iv_view.proofs.written_view.WrittenView.print_in.Given as goal
 
 -- the rows of the hits that are left remain to be written
-abbrev pub invariant-rows : goal.invariant-rows
-invariant-rows g l = record {
+abbrev pub invariant-records : goal.invariant-records
+invariant-records g l = record {
   put : Underway (g.S.Sink.state l.fn.sink) (g.S.Sink.state l.sink)
-      (flat_map (written_rows l.self l.genome (second_records (option_copied l.fn.second)) (unwrap_or (option_copied l.fn.fasta) [])) l.hits.rows)
-      (flat_map (written_rows l.self l.genome (second_records (option_copied l.fn.second)) (unwrap_or (option_copied l.fn.fasta) [])) (hits l.track.rows l.fn.at.seq l.fn.at.start l.fn.at.stop));
+      (flat_map (written_rows l.self l.genome (second_records (option_copied l.fn.second)) (unwrap_or (option_copied l.fn.fasta) [])) l.hits.records)
+      (flat_map (written_rows l.self l.genome (second_records (option_copied l.fn.second)) (unwrap_or (option_copied l.fn.fasta) [])) (hits l.track.records l.fn.at.seq l.fn.at.start l.fn.at.stop));
   no_less : l.fn.meter ≤ l.meter;
-  at_most : l.meter + l.hits.passes ≤ l.fn.meter + (1 + length (near l.fn.at l.track.rows));
+  at_most : l.meter + l.hits.passes ≤ l.fn.meter + (1 + length (near l.fn.at l.track.records));
 }
 
-abbrev pub decreases-rows : goal.decreases-rows
-decreases-rows g l = length l.hits.rows
+abbrev pub decreases-records : goal.decreases-records
+decreases-records g l = length l.hits.records

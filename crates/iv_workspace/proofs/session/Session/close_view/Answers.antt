@@ -23,7 +23,7 @@ invariant_of-self g c =
         served = rw c.remove.ensures.seen (all-removed (λ v. IsServed i.second v.view) c.args.name.now (all_seen i.views) c.self.invariant.0.served);
         fresh = rw c.remove.ensures.seen (all-removed IsWrittenFresh c.args.name.now (all_seen i.views) c.self.invariant.0.fresh);
       },
-      c.remove.ensures.right (names_of i.genome) i.track.rows c.self.invariant.1,
+      c.remove.ensures.right (names_of i.genome) i.track.records c.self.invariant.1,
     )
 
 pub returns-clause-there : goal.returns-clause-there

@@ -11,8 +11,8 @@ use Rattle.iv_workspace.proofs.session.Session.from_batches.Goals as goal
 pub from_batches-requires-clause-width : goal.from_batches-requires-clause-width
 from_batches-requires-clause-width g c =
     let first = c.args.first in
-    subst (λ (rows : List RecordValue). All (λ (r : RecordValue). r.width ≡ c.width-width.result) rows) (sym c.into_records.ensures)
-    (subst (λ (w : ℕ). All (λ (r : RecordValue). r.width ≡ w) first.rows) (sym c.width-width.ensures.value) (λ i r within. (c.requires.fit i r within).width_is))
+    subst (λ (records : List RecordValue). All (λ (r : RecordValue). r.width ≡ c.width-width.result) records) (sym c.into_records.ensures)
+    (subst (λ (w : ℕ). All (λ (r : RecordValue). r.width ≡ w) first.records) (sym c.width-width.ensures.value) (λ i r within. (c.requires.fit i r within).width_is))
 
 pub second_of-requires-clause-widths : goal.second_of-requires-clause-widths
 second_of-requires-clause-widths g c = widths-of_file c.args.genome c.args.second c.requires.second_fit
@@ -21,7 +21,7 @@ pub invariant_of-result : goal.invariant_of-result
 invariant_of-result g c =
     let a = c.args in
     let is : c.in_ok-track.track ≡ tracked a.first a.limit =
-    c.in_ok-track.ensures ∙ ap₂ (λ (rows : List RecordValue) (width : ℕ). record { rows = ordered rows; width = width; limit = a.limit }) c.into_records.ensures c.width-width.ensures.value in
+    c.in_ok-track.ensures ∙ ap₂ (λ (records : List RecordValue) (width : ℕ). record { records = ordered records; width = width; limit = a.limit }) c.into_records.ensures c.width-width.ensures.value in
     let known = rw c.width-width.ensures.value at c.width-width.ensures.known in (
       record {
         track_is = subst (IsTrackOn a.genome) (sym is) (track-of_file a.genome a.first a.limit known c.requires.fit c.requires.few);

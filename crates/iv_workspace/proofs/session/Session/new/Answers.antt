@@ -6,14 +6,14 @@ use Rattle.iv_workspace.specs.States.{begun}
 use Rattle.iv_workspace.proofs.session.Session.new.Goals as goal
 
 pub from_batches-requires-clause-fit : goal.from_batches-requires-clause-fit
-from_batches-requires-clause-fit g c = subst (λ (b : Bed). All (Fits c.args.genome b.width) b.rows) (sym c.into_batches-first.ensures) c.requires.fit
+from_batches-requires-clause-fit g c = subst (λ (b : Bed). All (Fits c.args.genome b.width) b.records) (sym c.into_batches-first.ensures) c.requires.fit
 
 pub from_batches-requires-clause-second_fit : goal.from_batches-requires-clause-second_fit
 from_batches-requires-clause-second_fit g c =
-    subst (λ (o : Option Bed). IfSome o (λ file. All (Fits c.args.genome file.width) file.rows)) (sym c.into_batches.ensures) c.requires.second_fit
+    subst (λ (o : Option Bed). IfSome o (λ file. All (Fits c.args.genome file.width) file.records)) (sym c.into_batches.ensures) c.requires.second_fit
 
 pub from_batches-requires-clause-second_few : goal.from_batches-requires-clause-second_few
-from_batches-requires-clause-second_few g c = subst (λ (o : Option Bed). IfSome o (λ file. length file.rows ≤ c.args.limit)) (sym c.into_batches.ensures) c.requires.second_few
+from_batches-requires-clause-second_few g c = subst (λ (o : Option Bed). IfSome o (λ file. length file.records ≤ c.args.limit)) (sym c.into_batches.ensures) c.requires.second_few
 
 pub returns : goal.returns
 returns g c =

@@ -15,16 +15,16 @@ use Rattle.iv_workspace.proofs.SessionLemmas.{edited, track-removed, session-sta
 use Rattle.iv_workspace.proofs.session.Session.remove.Goals as goal
 
 -- the records before, by those after and the one that was taken out
-with-again : (old new : Tracked) (r q : RecordValue) → r ≡ q → old.rows ≡ added (removed old.rows r) r → new ≡ record old { rows = removed old.rows r }
-    → old.rows ≡ added new.rows q
-with-again old new r q same again is = again ∙ ap (λ (t : Tracked). added t.rows r) (sym is) ∙ ap (added new.rows) same
+with-again : (old new : Tracked) (r q : RecordValue) → r ≡ q → old.records ≡ added (removed old.records r) r → new ≡ record old { records = removed old.records r }
+    → old.records ≡ added new.records q
+with-again old new r q same again is = again ∙ ap (λ (t : Tracked). added t.records r) (sym is) ∙ ap (added new.records) same
 
 pub repair-requires-clause-right : goal.repair-requires-clause-right
 repair-requires-clause-right g c =
     let inside = c.self.inside in
     let e = c.in_ok-remove.ensures in
-    let rows = with-again inside.track c.remove.new.self _ c.args.row.now c.in_ok-record.ensures.ok (added-removed inside.track.rows c.in_ok-record.record e.was_ordered e.there) e.ok in
-    record { before = inside.track.rows; right = c.self.invariant.1; changed = rows }
+    let records = with-again inside.track c.remove.new.self _ c.args.feature.now c.in_ok-record.ensures.ok (added-removed inside.track.records c.in_ok-record.record e.was_ordered e.there) e.ok in
+    record { before = inside.track.records; right = c.self.invariant.1; changed = records }
 
 pub repair-requires-clause-fit : goal.repair-requires-clause-fit
 repair-requires-clause-fit g c =
@@ -35,8 +35,8 @@ repair-requires-clause-fit g c =
 
 pub repair-requires-clause-fits : goal.repair-requires-clause-fits
 repair-requires-clause-fits g c =
-    let F : State → Type 0 = λ s. Fits s.genome s.track.width c.args.row.now in
-    subst (λ (t : Tracked). Fits c.self.inside.genome t.width c.args.row.now) (sym c.in_ok-remove.ensures.ok) (subst F (sym c.self.view_is) c.requires)
+    let F : State → Type 0 = λ s. Fits s.genome s.track.width c.args.feature.now in
+    subst (λ (t : Tracked). Fits c.self.inside.genome t.width c.args.feature.now) (sym c.in_ok-remove.ensures.ok) (subst F (sym c.self.view_is) c.requires)
 
 pub invariant_of-self-2 : goal.invariant_of-self-2
 invariant_of-self-2 g c =
@@ -51,15 +51,15 @@ pub returns-clause-ok : goal.returns-clause-ok
 returns-clause-ok g c =
     let inside = c.self.inside in
     let e = c.in_ok-remove.ensures in
-    let rows = with-again inside.track c.remove.new.self _ c.args.row.now c.in_ok-record.ensures.ok (added-removed inside.track.rows c.in_ok-record.record e.was_ordered e.there) e.ok in
-    let same : all_steps (all_seen inside.views) (added c.remove.new.self.rows c.args.row.now) c.args.row.now ≡ all_steps c.args.self.now.views c.args.self.now.track.rows c.args.row.now =
-    ap (λ (l : List RecordValue). all_steps (all_seen inside.views) l c.args.row.now) (sym rows)
-    ∙ ap (λ (s : State). all_steps s.views s.track.rows c.args.row.now) c.self.view_is in
+    let records = with-again inside.track c.remove.new.self _ c.args.feature.now c.in_ok-record.ensures.ok (added-removed inside.track.records c.in_ok-record.record e.was_ordered e.there) e.ok in
+    let same : all_steps (all_seen inside.views) (added c.remove.new.self.records c.args.feature.now) c.args.feature.now ≡ all_steps c.args.self.now.views c.args.self.now.track.records c.args.feature.now =
+    ap (λ (l : List RecordValue). all_steps (all_seen inside.views) l c.args.feature.now) (sym records)
+    ∙ ap (λ (s : State). all_steps s.views s.track.records c.args.feature.now) c.self.view_is in
     let more = c.repair.ensures.steps in
-    let changed = edited (without_record c.args.row.now) _ _ c.remove.new.self _ c.self.view_is (e.ok ∙ ap (λ (r : RecordValue). record inside.track { rows = removed inside.track.rows r }) c.in_ok-record.ensures.ok) c.repair.ensures.stales in
+    let changed = edited (without_record c.args.feature.now) _ _ c.remove.new.self _ c.self.view_is (e.ok ∙ ap (λ (r : RecordValue). record inside.track { records = removed inside.track.records r }) c.in_ok-record.ensures.ok) c.repair.ensures.stales in
     record {
       done = (
-        subst (λ (s : State). 0 < copies s.track.rows c.args.row.now) c.self.view_is (subst (λ (r : RecordValue). 0 < copies inside.track.rows r) c.in_ok-record.ensures.ok e.there),
+        subst (λ (s : State). 0 < copies s.track.records c.args.feature.now) c.self.view_is (subst (λ (r : RecordValue). 0 < copies inside.track.records r) c.in_ok-record.ensures.ok e.there),
         changed.0,
         changed.1,
       );
@@ -72,5 +72,5 @@ returns-in_err-remove-clause-why g c =
     let p = err_from_is_err_and c.from_residual-in_err-remove.result c.from_residual-in_err-remove.ensures.1 in
     let reported = c.in_err-remove.field-0.0 in
     rw (p.1, p.2) (inr
-    (subst (λ (s : State). RefusesRemove s.track c.args.row.now reported) c.self.view_is
+    (subst (λ (s : State). RefusesRemove s.track c.args.feature.now reported) c.self.view_is
     (subst (λ (r : RecordValue). RefusesRemove c.self.inside.track r reported) c.in_ok-record.ensures.ok c.in_err-remove.ensures.why)))

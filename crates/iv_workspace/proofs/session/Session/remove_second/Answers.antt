@@ -16,7 +16,7 @@ returns-in_err-remove-clause-why g c =
     let p = err_from_is_err_and c.from_residual-in_err-remove.result c.from_residual-in_err-remove.ensures.1 in
     let reported = c.in_err-remove.field-0.0 in
     rw (p.1, p.2)
-    (of-second (λ t. RefusesCopy t reported ⊎ RefusesRemove t c.args.row.now reported) _ c.args.self.now c.in-Some.second c.self.view_is c.in-Some.is
+    (of-second (λ t. RefusesCopy t reported ⊎ RefusesRemove t c.args.feature.now reported) _ c.args.self.now c.in-Some.second c.self.view_is c.in-Some.is
     (inr (subst (λ (r : RecordValue). RefusesRemove c.in-Some.second r reported) c.in_ok-record.ensures.ok c.in_err-remove.ensures.why)))
 
 pub returns-clause-ok : goal.returns-clause-ok
@@ -25,8 +25,8 @@ returns-clause-ok g c =
     let e = c.in_ok-remove.ensures in
     record {
       done = (
-        of-second (λ u. 0 < copies u.rows c.args.row.now) _ c.args.self.now t c.self.view_is c.in-Some.is (subst (λ (r : RecordValue). 0 < copies t.rows r) c.in_ok-record.ensures.ok e.there),
-        second-edited (without_record c.args.row.now) _ c.args.self.now t c.remove.new.self c.self.view_is c.in-Some.is
+        of-second (λ u. 0 < copies u.records c.args.feature.now) _ c.args.self.now t c.self.view_is c.in-Some.is (subst (λ (r : RecordValue). 0 < copies t.records r) c.in_ok-record.ensures.ok e.there),
+        second-edited (without_record c.args.feature.now) _ c.args.self.now t c.remove.new.self c.self.view_is c.in-Some.is
             (e.ok ∙ ap (λ (r : RecordValue). without_record r t) c.in_ok-record.ensures.ok),
       );
       steps = omega (arith, e.steps.at_most, c.new-meter.ensures, ap (λ (a : Accepted). a.steps) c.of.ensures);

@@ -29,7 +29,7 @@ returns-clause-ok g c =
     let e = c.in_ok-replace.ensures in
     record {
       done = (
-        of-second (λ u. 0 < copies u.rows c.args.old.now) _ c.args.self.now t c.self.view_is c.in-Some.is (subst (λ (r : RecordValue). 0 < copies t.rows r) c.in_ok-before.ensures.ok e.there),
+        of-second (λ u. 0 < copies u.records c.args.old.now) _ c.args.self.now t c.self.view_is c.in-Some.is (subst (λ (r : RecordValue). 0 < copies t.records r) c.in_ok-before.ensures.ok e.there),
         second-edited (with_replaced c.args.old.now c.args.new.now) _ c.args.self.now t c.replace.new.self c.self.view_is c.in-Some.is
             (e.ok ∙ ap (λ (r : RecordValue). with_replaced r c.in_ok-after.after t) c.in_ok-before.ensures.ok ∙ ap (λ (q : RecordValue). with_replaced c.args.old.now q t) c.in_ok-after.ensures.ok),
       );

@@ -31,7 +31,7 @@ invariant_of-self g c =
     let i = c.self.inside in (
       session-resized _ c.args.self.now c.set_length.new.self (all_seen i.views) c.in-Some.seq c.args.length c.self.view_is c.self.invariant.0 c.set_length.ensures
           (sym c.has_record_past.ensures ∙ c.if-has_record_past.false),
-      subst (λ (names : List (List ℕ)). AreRight i.views names i.track.rows) (sym (ap names_of c.set_length.ensures ∙ names-with_length i.genome c.in-Some.seq c.args.length)) c.self.invariant.1,
+      subst (λ (names : List (List ℕ)). AreRight i.views names i.track.records) (sym (ap names_of c.set_length.ensures ∙ names-with_length i.genome c.in-Some.seq c.args.length)) c.self.invariant.1,
     )
 
 pub returns-clause-ok : goal.returns-clause-ok

@@ -3,7 +3,7 @@ use Rattle.iv_text.specs.Named.{names_of}
 use Rattle.iv_workspace.proofs.views.Views.put.Goals as goal
 
 pub print-requires-clause-kept : goal.print-requires-clause-kept
-print-requires-clause-kept g c = (c.in-Some.ensures.right (names_of c.args.genome.now) c.args.track.now.rows c.requires.right.0).0 ∙ c.state_key.ensures
+print-requires-clause-kept g c = (c.in-Some.ensures.right (names_of c.args.genome.now) c.args.track.now.records c.requires.right.0).0 ∙ c.state_key.ensures
 
 pub print_in-requires-clause-kept : goal.print_in-requires-clause-kept
-print_in-requires-clause-kept g c = (c.in-Some.ensures.right (names_of c.args.genome.now) c.args.track.now.rows c.requires.right.0).0 ∙ c.state_key.ensures
+print_in-requires-clause-kept g c = (c.in-Some.ensures.right (names_of c.args.genome.now) c.args.track.now.records c.requires.right.0).0 ∙ c.state_key.ensures

@@ -7,7 +7,7 @@ use Rattle.iv_workspace.proofs.views.Views.refresh_all.Given as goal
 
 abbrev pub invariant-loop-place : goal.invariant-loop-place
 invariant-loop-place g l =
-    AreRight l.self (names_of l.genome) l.track.rows
+    AreRight l.self (names_of l.genome) l.track.records
     × (all_seen l.self ≡ current_to l.place (all_seen l.fn.self))
     × (length l.fn.self ≡ l.place-end)
     × ((l.meter ≡ l.fn.meter) ⊎ (0 < stale_count (all_seen l.fn.self)))

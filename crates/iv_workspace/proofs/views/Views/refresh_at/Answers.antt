@@ -19,8 +19,8 @@ pub returns-clause-right : goal.returns-clause-right
 returns-clause-right g c =
     let same = same-there _ _ c.index-opened.ensures c.index_mut-opened.ensures.value in
     renewed-in _ _ c.self.view_is c.args.place _ c.index_mut-opened.ensures.value _ c.in_ok-state.state c.renew.ensures
-    (names_of c.args.genome.now) c.args.track.now.rows (subst (λ v. v.stale ≡ true) same c.if-not-opened.false)
-    (subst (λ v. IsMissing (all_owned c.args.self.now) v.view (names_of c.args.genome.now) c.args.track.now.rows c.in_ok-state.state) same c.in_ok-state.ensures) c.requires.right
+    (names_of c.args.genome.now) c.args.track.now.records (subst (λ v. v.stale ≡ true) same c.if-not-opened.false)
+    (subst (λ v. IsMissing (all_owned c.args.self.now) v.view (names_of c.args.genome.now) c.args.track.now.records c.in_ok-state.state) same c.in_ok-state.ensures) c.requires.right
 
 pub returns-clause-ok : goal.returns-clause-ok
 returns-clause-ok g c = renewed-seen _ _ c.self.view_is c.args.place _ c.index_mut-opened.ensures.value _ c.in_ok-state.state c.renew.ensures

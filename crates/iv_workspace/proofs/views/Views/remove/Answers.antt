@@ -17,9 +17,9 @@ returns-clause-seen g c =
     c.hand_on.ensures.seen ∙ ap all_seen left ∙ remove-seen c.args.name.now c.args.self.now
 
 pub returns-clause-right : goal.returns-clause-right
-returns-clause-right g c = λ names rows right.
+returns-clause-right g c = λ names records right.
     let left = c.remove.ensures.rest ∙ ap (remove_entry (bytes_eq c.args.name.now)) c.self.view_is in
     let v = c.in-Some.closed in
-    let all = closed-right c.args.name.now c.args.self.now v names rows (sym (c.in-Some.ensures.value ∙ ap (lookup (bytes_eq c.args.name.now)) c.self.view_is)) right in
-    c.hand_on.ensures.right names rows (subst (λ l. AreOwnRight l names rows) (sym left) all.0)
-    (subst (λ l. HaveStates (owned v ∷ all_owned l) (all_seen l)) (sym left) all.1) (own-kept v names rows all.2)
+    let all = closed-right c.args.name.now c.args.self.now v names records (sym (c.in-Some.ensures.value ∙ ap (lookup (bytes_eq c.args.name.now)) c.self.view_is)) right in
+    c.hand_on.ensures.right names records (subst (λ l. AreOwnRight l names records) (sym left) all.0)
+    (subst (λ l. HaveStates (owned v ∷ all_owned l) (all_seen l)) (sym left) all.1) (own-kept v names records all.2)

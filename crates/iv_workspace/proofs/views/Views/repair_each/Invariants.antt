@@ -6,5 +6,5 @@ use Rattle.iv_workspace.proofs.views.Views.repair_each.Given as goal
 
 abbrev pub invariant-loop-place : goal.invariant-loop-place
 invariant-loop-place g l =
-    Repairing (names_of l.genome) l.track.rows (with_edited l.change l.track.rows l.row) l.row l.kept l.fn.self l.self-inside.views l.place l.fn.meter l.meter
+    Repairing (names_of l.genome) l.track.records (with_edited l.change l.track.records l.feature) l.feature l.kept l.fn.self l.self-inside.views l.place l.fn.meter l.meter
     × (length l.self-inside.views ≡ l.place-end) × (l.place-end ≤ 64)

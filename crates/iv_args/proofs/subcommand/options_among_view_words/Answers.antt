@@ -1,5 +1,0 @@
-use Rattle.iv_args.proofs.PieceLemmas.{plan-swapped}
-use Rattle.iv_args.proofs.subcommand.options_among_view_words.Goals as goal
-
-pub returns : goal.returns
-returns c = plan-swapped

@@ -1,9 +1,0 @@
-use Rattle.std.specs.Prelude.{List}
-use Rattle.std.proofs.lemmas.Result.{on_ok_weaker}
-use Rattle.iv_text.specs.RecordValue.{RecordValue}
-use Rattle.iv_depth.proofs.ChangesLemmas.{AreChangesOf-removed}
-use Rattle.iv_depth.proofs.changes.take_record.Goals as goal
-
-pub returns-clause-ok : goal.returns-clause-ok
-returns-clause-ok g c =
-    on_ok_weaker c.shift.result (λ shift (rows : List RecordValue). AreChangesOf-removed c.args.row.now rows c.args.changes.now c.shift.new.changes shift) c.shift.ensures.ok

@@ -1,0 +1,113 @@
+-- The line at a byte of a text, and the columns of its record.
+use Rattle.std.proofs.Common.{◌≡◌, ℕ, ◌+◌, ◌-◌, ◌<◌, ◌≤◌, ◌⊎◌, inl, inr, Bool, true, false, nat_le, cond, List, [], ◌∷◌, ◌++◌, None, codes, length, take, drop, refl, sym, ap, ◌∙◌, arith, All}
+use Rattle.std.specs.Prelude.{IsSome}
+use Rattle.std.proofs.lemmas.Bool.Decides.{nat_tests}
+use Rattle.std.proofs.lemmas.List.{drop_all, drop-drop}
+use Rattle.std.proofs.lemmas.List.Elements.{All-nil, All-cons}
+use Rattle.iv_text.proofs.BedReadingLemmas.{rest-whole}
+use Rattle.iv_text.proofs.JoinedLemmas.{tabs-columns, whole-printed, with_tabs}
+use Rattle.iv_text.specs.Fields.{columns}
+use Rattle.iv_text.specs.Lines.{lines}
+use Rattle.iv_text.specs.Read.{column}
+use Rattle.iv_text.specs.RecordText.{joined_record, rest_text}
+use Rattle.iv_text.specs.RecordValue.{RecordValue, strand_of}
+use Rattle.iv_locators.specs.Inside.Locators.{HasAllColumns, line_at, record_at}
+use Rattle.iv_locators.specs.declared.locator.Locator.{Locator}
+
+pub line-past : (text : List ℕ) (at : ℕ) → length text ≤ at → line_at text at ≡ []
+unfolding line_at
+line-past text at past = rw (drop_all at text past) refl
+
+pub line-found : (text : List ℕ) (at size : ℕ) (line : List ℕ) → lines (take (length text - at) (drop at text)) ≡ line ∷ lines (drop size (take (length text - at) (drop at text))) → lines (drop at text) ≡ line ∷ lines (drop (at + size) text)
+line-found text at size line e =
+    ap lines (sym (rest-whole text at)) ∙ e ∙ ap (λ t. line ∷ lines (drop size t)) (rest-whole text at) ∙ ap (λ t. line ∷ lines t) (drop-drop size at text)
+
+pub line-is : (text : List ℕ) (at : ℕ) (line : List ℕ) (rest : List (List ℕ)) → lines (drop at text) ≡ line ∷ rest → line_at text at ≡ line
+unfolding line_at
+line-is text at line rest e = rw e refl
+
+-- ---- the columns after the third
+
+-- a line with as many columns as the width, the sixth of them a strand, has no others than its record
+pub line-whole : (w : ℕ) (text : List ℕ) (p : Locator) → length (columns (line_at text p.line)) ≡ w → w ≤ 6
+    → (6 ≤ w → IsSome (strand_of (column (columns (line_at text p.line)) 5))) → HasAllColumns w text p
+line-whole w text p count few strand = record { all = whole-printed w (columns (line_at text p.line)) count few strand }
+
+-- at width 3 it holds for any line
+pub three-whole : (text : List ℕ) (ps : List Locator) → All (HasAllColumns 3 text) ps
+three-whole text [] = All-nil (HasAllColumns 3 text)
+three-whole text (p ∷ ps) = All-cons (HasAllColumns 3 text) p ps (record { all = λ some. absurd (omega arith) }) (three-whole text ps)
+
+-- the record of this interval with these columns after the third, as far as the width goes
+abbrev record_with : ℕ → Locator → List (List ℕ) → RecordValue
+record_with w p cs = record {
+  seq = p.span.seq;
+  start = p.span.start;
+  stop = p.span.stop;
+  name = cond (nat_le 4 w) (column cs 0) [];
+  score = cond (nat_le 5 w) (column cs 1) [];
+  strand = cond (nat_le 6 w) (strand_of (column cs 2)) None;
+  width = w;
+}
+
+abbrev record_of_columns : ℕ → Locator → List (List ℕ) → RecordValue
+record_of_columns w p cs = record {
+  seq = p.span.seq;
+  start = p.span.start;
+  stop = p.span.stop;
+  name = cond (nat_le 4 w) (column cs 3) [];
+  score = cond (nat_le 5 w) (column cs 4) [];
+  strand = cond (nat_le 6 w) (strand_of (column cs 5)) None;
+  width = w;
+}
+
+after-third : (w : ℕ) (p : Locator) (cs : List (List ℕ)) → record_with w p (drop 3 cs) ≡ record_of_columns w p cs
+after-third w p [] = refl
+after-third w p (a ∷ []) = refl
+after-third w p (a ∷ b ∷ []) = refl
+after-third w p (a ∷ b ∷ c ∷ cs) = refl
+
+-- the record of the columns after the third is that of the locator
+pub joined-is : (w : ℕ) (text joined : List ℕ) (p : Locator) → columns joined ≡ drop 3 (columns (line_at text p.line))
+    → joined_record p.span.seq p.span.start p.span.stop joined w ≡ record_at w text p
+joined-is w text joined p are = ap (record_with w p) are ∙ after-third w p (columns (line_at text p.line))
+
+-- the text after the third TAB is what is printed
+pub joined-whole : (w : ℕ) (text joined : List ℕ) (p : Locator) → HasAllColumns w text p → 4 ≤ w → columns joined ≡ drop 3 (columns (line_at text p.line))
+    → codes "\t" ++ joined ≡ rest_text (joined_record p.span.seq p.span.start p.span.stop joined w)
+joined-whole w text joined p whole some are =
+    tabs-columns joined ∙ ap with_tabs are ∙ sym (whole.all some) ∙ ap rest_text (sym (joined-is w text joined p are))
+
+-- a record without columns after the third
+abbrev none_after : ℕ → Locator → RecordValue
+none_after w p = record { seq = p.span.seq; start = p.span.start; stop = p.span.stop; name = []; score = []; strand = None; width = w }
+
+-- the tests of the width don't matter if each column is empty
+untested : (w : ℕ) (p : Locator) (a b c : Bool) → none_after w p ≡ record { seq = p.span.seq; start = p.span.start; stop = p.span.stop; name = cond a [] []; score = cond b [] []; strand = cond c None None; width = w }
+untested w p true true true = refl
+untested w p true true false = refl
+untested w p true false true = refl
+untested w p true false false = refl
+untested w p false true true = refl
+untested w p false true false = refl
+untested w p false false true = refl
+untested w p false false false = refl
+
+-- at width 3, or on a line without a fourth column, the record has no column after the third
+pub none-after-third : (w : ℕ) (text : List ℕ) (p : Locator) → (w < 4) ⊎ (drop 3 (columns (line_at text p.line)) ≡ []) → none_after w p ≡ record_at w text p
+none-after-third w text p (inr none) =
+    untested w p (nat_le 4 w) (nat_le 5 w) (nat_le 6 w) ∙ ap (record_with w p) (sym none) ∙ after-third w p (columns (line_at text p.line))
+none-after-third w text p (inl low) =
+    let cs = columns (line_at text p.line) in
+    let four : nat_le 4 w ≡ false = grind (arith, nat_tests, low) in
+    let five : nat_le 5 w ≡ false = grind (arith, nat_tests, low) in
+    let six : nat_le 6 w ≡ false = grind (arith, nat_tests, low) in
+    λ i. record {
+      seq = p.span.seq;
+      start = p.span.start;
+      stop = p.span.stop;
+      name = cond (sym four i) (column cs 3) [];
+      score = cond (sym five i) (column cs 4) [];
+      strand = cond (sym six i) (strand_of (column cs 5)) None;
+      width = w;
+    }

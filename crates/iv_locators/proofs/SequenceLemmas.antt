@@ -1,0 +1,96 @@
+-- The records of one sequence, in front of those of later ones.
+use Rattle.std.proofs.Common.{ℕ, zero, suc, ◌+◌, ◌<◌, ◌≤◌, ◌≡◌, ◌==◌, nat_le, nat_lt, inl, inr, Bool, true, false, List, [], ◌∷◌, refl, sym, ap, ◌∙◌, subst, All, get_or, length, map, take, drop, filter, arith, eq-eqb, eqb-true, lt-ltb, ltb-true, le-leb, leb-true}
+use Rattle.std.specs.List.{AllByRecursion}
+use Rattle.std.specs.List.Sorted.{IsPartitionedBy, IsPartitionPoint}
+use Rattle.std.proofs.lemmas.Bool.{and_parts, and_from, le-ltb, ne_eqb, leb-false}
+use Rattle.std.proofs.lemmas.List.Elements.{All-head, All-tail}
+use Rattle.iv_text.specs.Ordered.{AreInOrder}
+use Rattle.iv_text.specs.RecordValue.{RecordValue, record_cmp}
+use Rattle.std.specs.Ordering.{is_le}
+use Rattle.iv_text.specs.CoveredPositions.{on}
+use Rattle.iv_text.proofs.ListLemmas.{same_tests, mem-all, mem-filter, filter-filter, filter-agree, filter-all}
+use Rattle.iv_text.proofs.InOrderLemmas.{in_order-filter}
+use Rattle.iv_text.proofs.PrecedesLemmas.{precedes-from}
+
+module _ {X : Type 0} (feature : X → RecordValue) (rank : ℕ) where
+  -- each of these records is on this sequence or a later one
+  low-at : (r : RecordValue) (locators : List X) → AllByRecursion (λ y. is_le (record_cmp r y) ≡ true) (map feature locators)
+      → (j : ℕ) (d : X) → j < length locators → r.seq ≤ (feature (get_or locators j d)).seq
+  low-at r [] all j d lt = absurd (omega arith)
+  low-at r (p ∷ locators) all zero d lt = elim (precedes-from r (feature p) all.0) [
+    | inl less ↦ omega arith
+    | inr same ↦ omega (arith, same.0)
+  ]
+  low-at r (p ∷ locators) all (suc j) d lt = low-at r locators all.1 j d (omega arith)
+
+  -- those up to a rank come first
+  parted : (locators : List X) → AreInOrder (map feature locators) → IsPartitionedBy (λ locator. nat_le (feature locator).seq rank) locators
+  parted [] order i j d le lt e = absurd (omega arith)
+  parted (p ∷ locators) order zero zero d le lt e = e
+  parted (p ∷ locators) order zero (suc j) d le lt e =
+      let low : (feature p).seq ≤ (feature (get_or locators j d)).seq = low-at (feature p) locators order.0 j d (omega arith) in
+      le-leb (feature p).seq rank (omega (arith, leb-true (feature (get_or locators j d)).seq rank e))
+  parted (p ∷ locators) order (suc i) zero d le lt e = absurd (omega arith)
+  parted (p ∷ locators) order (suc i) (suc j) d le lt e = parted locators order.1 i j d (omega arith) (omega arith) e
+
+  -- if none is below the rank, they are the records on it, and those after them are on later ones
+  split-here : (locators : List X) (n : ℕ) → n ≤ length locators
+      → IsPartitionPoint (λ locator. nat_le (feature locator).seq rank ≡ true) (λ locator. nat_le (feature locator).seq rank ≡ false) locators n
+      → All (λ r. rank ≤ r.seq) (map feature locators)
+      → (take n (map feature locators) ≡ on rank (map feature locators))
+      × (drop n (map feature locators) ≡ filter (λ r. nat_lt rank r.seq) (map feature locators))
+  split-here [] zero within point from = (refl, refl)
+  split-here [] (suc n) within point from = absurd (omega arith)
+  split-here (p ∷ locators) zero within point from =
+      let rest = split-here locators zero (omega arith) ((λ k d low high. absurd (omega arith)), (λ k d low high. point.1 (suc k) d (omega arith) (omega arith)))
+      (All-tail (λ (r : RecordValue). rank ≤ r.seq) (feature p) (map feature locators) from) in
+      let past : rank < (feature p).seq = leb-false (feature p).seq rank (point.1 0 p (omega arith) (omega arith)) in
+      let off : ((feature p).seq == rank) ≡ false = ne_eqb (feature p).seq rank (λ at. omega (arith, past, at)) in
+      let later : nat_lt rank (feature p).seq ≡ true = lt-ltb rank (feature p).seq past in
+      (rw off rest.0, rw later (ap (λ (l : List RecordValue). feature p ∷ l) rest.1))
+  split-here (p ∷ locators) (suc n) within point from =
+      let rest = split-here locators n (omega arith) ((λ k d low high. point.0 (suc k) d (omega arith) (omega arith)), (λ k d low high. point.1 (suc k) d (omega arith) (omega arith)))
+      (All-tail (λ (r : RecordValue). rank ≤ r.seq) (feature p) (map feature locators) from) in
+      let first : rank ≤ (feature p).seq = All-head (λ (r : RecordValue). rank ≤ r.seq) (feature p) (map feature locators) from in
+      let low : (feature p).seq ≤ rank = leb-true (feature p).seq rank (point.0 0 p (omega arith) (omega arith)) in
+      let on_it : ((feature p).seq == rank) ≡ true = eq-eqb (feature p).seq rank (omega (arith, first, low)) in
+      let not_later : nat_lt rank (feature p).seq ≡ false = le-ltb rank (feature p).seq low in
+      (rw on_it (ap (λ (l : List RecordValue). feature p ∷ l) rest.0), rw not_later rest.1)
+
+  -- so a search among the intervals of records in order finds how many there are
+  pub split-rows : (locators : List X) (records : List RecordValue) (n : ℕ) → map feature locators ≡ records → AreInOrder records → All (λ r. rank ≤ r.seq) records
+      → n ≤ length locators
+      → (IsPartitionedBy (λ locator. nat_le (feature locator).seq rank) locators → IsPartitionPoint (λ locator. nat_le (feature locator).seq rank ≡ true) (λ locator. nat_le (feature locator).seq rank ≡ false) locators n)
+      → (take n records ≡ on rank records) × (drop n records ≡ filter (λ r. nat_lt rank r.seq) records)
+  split-rows locators records n is order from within found =
+      subst (λ (l : List RecordValue). (take n l ≡ on rank l) × (drop n l ≡ filter (λ r. nat_lt rank r.seq) l)) is
+      (split-here locators n within (found (parted locators (subst AreInOrder (sym is) order))) (subst (All (λ (r : RecordValue). rank ≤ r.seq)) (sym is) from))
+
+-- ---- the records from a sequence on
+
+-- the record is on the sequence of this rank or a later one
+abbrev pub is_from : ℕ → RecordValue → Bool
+is_from rank r = nat_le rank r.seq
+
+pub all-from : (records : List RecordValue) → filter (is_from 0) records ≡ records
+all-from records = filter-all (is_from 0) records (λ q m. le-leb 0 q.seq (omega arith))
+
+pub from-in : (rank : ℕ) (records : List RecordValue) → All (λ r. rank ≤ r.seq) (filter (is_from rank) records)
+from-in rank records = mem-all (λ r. rank ≤ r.seq) (filter (is_from rank) records) (λ q m. leb-true rank q.seq (mem-filter (is_from rank) records q m).1)
+
+pub from-order : (rank : ℕ) (records : List RecordValue) → AreInOrder records → AreInOrder (filter (is_from rank) records)
+from-order rank records order = in_order-filter record_cmp (is_from rank) records order
+
+pub from-here : (rank : ℕ) (records : List RecordValue) → on rank (filter (is_from rank) records) ≡ on rank records
+from-here rank records =
+    filter-filter (λ r. r.seq == rank) (is_from rank) records
+    ∙ filter-agree _ _ records (λ q m. same_tests _ _
+    (λ e. (and_parts (is_from rank q) (q.seq == rank) e).1)
+    (λ e. and_from _ _ (le-leb rank q.seq (omega (arith, eqb-true q.seq rank e))) e))
+
+pub from-later : (rank : ℕ) (records : List RecordValue) → filter (λ r. nat_lt rank r.seq) (filter (is_from rank) records) ≡ filter (is_from (rank + 1)) records
+from-later rank records =
+    filter-filter (λ r. nat_lt rank r.seq) (is_from rank) records
+    ∙ filter-agree _ _ records (λ q m. same_tests _ _
+    (λ e. le-leb (rank + 1) q.seq (omega (arith, ltb-true rank q.seq (and_parts (is_from rank q) (nat_lt rank q.seq) e).1)))
+    (λ e. let low : rank + 1 ≤ q.seq = leb-true (rank + 1) q.seq e in and_from _ _ (le-leb rank q.seq (omega (arith, low))) (lt-ltb rank q.seq (omega (arith, low)))))

@@ -1,0 +1,23 @@
+use Rattle.std.proofs.Common.{subst, rules}
+use Rattle.std.proofs.lemmas.List.Sorted.{IsPermutation-refl, IsPermutation-trans}
+use Rattle.std.specs.List.Sorted.{IsSortedBy}
+use Rattle.iv_locators.specs.Inside.Spans.{record_of_span, span_lt}
+use Rattle.iv_locators.specs.declared.span.Span.{Span}
+use Rattle.iv_locators.proofs.OrderLemmas.{sorted-rows, sorted-by-rows}
+use Rattle.iv_locators.proofs.span.sort_spans.Goals as goal
+
+none : Span
+none = record { seq = 0; start = 0; stop = 0 }
+
+pub returns-then-are_in_order : goal.returns-then-are_in_order
+returns-then-are_in_order g c =
+    let spans = c.args.spans.now.items in
+    let up : IsSortedBy span_lt spans = subst (IsSortedBy span_lt) c.deref.ensures.value (c.are_in_order.ensures.0 c.if-are_in_order.true) in
+    sorted-rows record_of_span none spans spans (IsPermutation-refl spans) up
+
+pub returns : goal.returns
+returns g c =
+    let spans = c.args.spans.now.items in
+    let moved = IsPermutation-trans spans c.order_neighbors.new.items.items c.sort_unstable_by.new.self.items c.order_neighbors.ensures c.sort_unstable_by.ensures.permutation in
+    sorted-rows record_of_span none spans c.sort_unstable_by.new.self.items moved
+    (sorted-by-rows record_of_span c.sort_unstable_by.new.self.items c.sort_unstable_by.ensures.sorted (λ a r f' k. search rules))

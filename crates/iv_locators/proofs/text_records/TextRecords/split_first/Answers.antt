@@ -1,0 +1,14 @@
+use Rattle.std.proofs.Common.{List, subst, All}
+use Rattle.std.proofs.lemmas.List.Elements.{All-tail}
+use Rattle.iv_locators.specs.declared.locator.Locator.{Locator}
+use Rattle.iv_locators.specs.Inside.Locators.{HasAllColumns, HasBase}
+use Rattle.iv_locators.proofs.text_records.TextRecords.split_first.Goals as goal
+
+pub of_locators-requires-clause-bases : goal.of_locators-requires-clause-bases
+of_locators-requires-clause-bases c =
+    All-tail HasBase c.in_ok-locator.locator.now c.in_ok-locator.rest.now (subst (λ (ps : List Locator). All HasBase ps) c.in_ok-locator.ensures.cases.0 c.self.invariant.0)
+
+pub of_locators-requires-clause-whole : goal.of_locators-requires-clause-whole
+of_locators-requires-clause-whole c =
+    let has = HasAllColumns c.self.inside.width c.self.inside.text.now in
+    All-tail has c.in_ok-locator.locator.now c.in_ok-locator.rest.now (subst (λ (ps : List Locator). All has ps) c.in_ok-locator.ensures.cases.0 c.self.invariant.1)
