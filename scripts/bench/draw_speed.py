@@ -51,7 +51,7 @@ def draw(bars, file):
     axes.axvline(1, color=GREY, linestyle="--", linewidth=1)
     axes.invert_yaxis()
     axes.set_xlim(0, 1.08)
-    axes.set_xlabel("bedkeep's time over bedtools' time (1 is as slow as bedtools); black lines: the limit", fontsize=9)
+    axes.set_xlabel("bedkeep's time over bedtools' time; black lines: the limit", fontsize=9)
     axes.tick_params(labelsize=8)
     for side in ("top", "right"):
         axes.spines[side].set_visible(False)
