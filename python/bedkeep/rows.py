@@ -79,6 +79,11 @@ def _shape(words: Sequence[str], columns: int, width: Optional[int]) -> Shape:
     return Shape(_row_class(fields), lambda line: line.split("\t"), [*integers, *numbers])
 
 
+def shows_second(words: Sequence[str]) -> bool:
+    """Whether the rows of a view have the columns of a record of the second file."""
+    return "-wb" in words
+
+
 def count_of(words: Sequence[str], width: int, second: int) -> int:
     """How many columns the rows of a view have over a track of that width, and a second file of that."""
     kind, options = words[0], words[1:]
@@ -86,7 +91,7 @@ def count_of(words: Sequence[str], width: int, second: int) -> int:
         return 3 if "-d" in options else 4
     if kind in ("merge", "complement", "getfasta"):
         return 3
-    return width + (kind == "cluster" or "-c" in options) + (second if "-wb" in options else 0)
+    return width + (kind == "cluster" or "-c" in options) + (second if shows_second(options) else 0)
 
 
 def fields_of(words: Sequence[str], columns: int, width: Optional[int]) -> tuple[str, ...]:
@@ -102,7 +107,7 @@ def fields_of(words: Sequence[str], columns: int, width: Optional[int]) -> tuple
         return ("chromosome", "position", "depth") if "-d" in options else RECORD[:3] + ("depth",)
     if kind == "intersect" and "-c" in options:
         return RECORD[:columns - 1] + ("hits",)
-    if kind == "intersect" and "-wb" in options:
+    if kind == "intersect" and shows_second(options):
         if width is None:
             return RECORD[:3] + tuple(f"column_{number}" for number in range(4, columns + 1))
         return RECORD[:width] + tuple(f"second_{field}" for field in RECORD[:columns - width])

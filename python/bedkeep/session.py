@@ -14,7 +14,7 @@ from .files import same_file, whole
 from .interrupts import Interrupts
 from .lookup import Lookup
 from .program import Path, find
-from .rows import RECORD, Lines, Reader, Row, count_of, fields_of, row_of
+from .rows import RECORD, Lines, Reader, Row, count_of, fields_of, row_of, shows_second
 from .script import Script, edits_of, line_of, text_of
 from .sources import Genome, Sources, Track, path_of
 from .tables import SCORE, frame_of_text, score_of
@@ -270,7 +270,7 @@ class Session:
         if text:
             count = text[:text.index(b"\n")].count(b"\t") + 1
         else:
-            count = count_of(listed, self.width, self._find_width("removeb") if "-wb" in listed else 0)
+            count = count_of(listed, self.width, self._find_width("removeb") if shows_second(listed) else 0)
         return frame_of_text(text, listed, fields_of(listed, count, self.width), names)
 
     def save(self, path: Path) -> None:

@@ -1,13 +1,13 @@
 #!/usr/bin/env python3
-"""Makes lists of options from the one table of them, crates/iv_args/src/options.rt: the usage and the list of each help text, the synopsis and
-the heads of the views in the man page, the completions, the options in the tables of README and FORMAT, and the keyword arguments of the
-Python package.
+"""Makes lists of options from the one table of them, crates/iv_args/src/options.rt: the usage and the list of each help text, the list of views in
+the general help, the synopsis and the heads of the views in the man page, the completions, the options in the tables of README and FORMAT, and the
+keyword arguments of the Python package. An option that the list of its view in the man page lacks is added there by its meaning.
 
     python3 scripts/test/options.py --write            writes them into these files
     python3 scripts/test/options.py build/bedkeep      compares them with these files, and with the help of the built program, which
                                                        has to accept the options of the table and no others
 
-The second also compares the table with what is written by hand, the lists of the man page. An option has to be refused if it is given twice,
+The second also compares the table with the lists of the man page, whose texts may say more. An option has to be refused if it is given twice,
 without its value, or beside one that excludes it.
 """
 import os
@@ -127,6 +127,16 @@ def general_usage(runs):
     return "".join(lines).replace("       ", "usage: ", 1)
 
 
+def help_views(runs):
+    """The list of views in the general help: each with its options below it."""
+    lines = ""
+    for run in runs[1:]:
+        lines += textwrap.fill(run.meaning, 80, initial_indent=f"  {run.name:<18}", subsequent_indent=" " * 20, break_on_hyphens=False) + "\n"
+        lines += "".join(textwrap.fill(option.meaning, 80, initial_indent=f"    {option.usage:<16}", subsequent_indent=" " * 20, break_on_hyphens=False) + "\n"
+                         for option in run.view)
+    return lines
+
+
 def replaced(text, pattern, new, where):
     """A text with another one instead of the one part of it that matches."""
     if len(re.findall(pattern, text, re.M | re.S)) != 1:
@@ -136,6 +146,7 @@ def replaced(text, pattern, new, where):
 
 def in_help(text, runs):
     text = replaced(text, r"^usage: bedkeep session -g.*?(?=^ {7}bedkeep --help )", general_usage(runs), "help.rt")
+    text = replaced(text, r"(?<=^Views, with the same options in a script and on the command line:\n).*?(?=^$)", help_views(runs), "help.rt")
     for run in runs:
         front, head, rest = text.partition(f'const {run.name.upper()}: &[u8] =')
         part, end, back = rest.partition('";\n')
@@ -159,7 +170,26 @@ def in_man(text, runs):
         *pieces, last = [macros_of(piece) for piece in run.usage[len(run.needed):len(run.usage) - len(run.others)]] or [""]
         pieces = [re.sub(r"^\[(.*)\]$", r"Oo \1 Oc", piece) for piece in pieces] + [last.replace("[", "Op ").replace("]", "")]
         text = replaced(text, rf"^\.It Cm {run.name}( (Oo|Op|Fl) [^\n]*)?$", " ".join([".It Cm", run.name, *pieces]).rstrip(), "the man page")
+        text = with_list(text, run)
     return text
+
+
+def with_list(text, run):
+    """The man page whose list of a view has the options of the table, in its order: each with the text that it has there, or with its meaning."""
+    if not run.view:
+        return text
+    views = text.index(".Sh OPTIONS OF A VIEW\n")
+    found = re.compile(rf'^\.It Cm {run.name}( [^\n]*)?\n.*?^\.Bl -tag -width "-o LIST" -compact\n(?P<items>.*?)^\.El$', re.M | re.S).search(text, views)
+    if found is None:
+        sys.exit(f"the man page: {run.name} has no list of options")
+    there = {item.split()[0]: item for item in re.split(r"^\.It Fl ", found["items"], flags=re.M)[1:]}
+    made = {option.name[1:]: f"{macros_of(option.usage)[3:]}\n{sentence(option.meaning)}\n" for option in run.view}
+    items = "".join(f".It Fl {there.get(name, item)}" for name, item in made.items())
+    return text[:found.start("items")] + items + text[found.end("items"):]
+
+
+def sentence(words):
+    return f"{words[0].upper()}{words[1:]}."
 
 
 def bash_kind(option):

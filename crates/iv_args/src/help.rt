@@ -51,24 +51,33 @@ Empty lines and lines that begin with # are skipped. A REGION is three fields,
 SEQUENCE  START  END: rows that share a position with it are printed whole.
 
 Views, with the same options in a script and on the command line:
-  merge             the blocks of records that overlap or are book-ended;
-                    -d N joins over gaps of up to N bases,
-                    -s keeps strands apart, -c LIST -o LIST add summaries of
-                    columns (count, sum, min, max, collapse, distinct)
-  cluster           every record with the number of its block; -d N
-  complement        what no record covers; -L only on sequences with a record
-  genomecov -bg     depth above 0: a row for each interval of one depth
-  genomecov -bga    the same, also where the depth is 0
-  genomecov -d      depth at each position, counted from 1
-  intersect         each overlap of a record with one of the second file;
-                    -wa the record whole, -wb also the other record whole,
-                    -u the record once if it has an overlap, -v if it has none,
-                    -c the record with their number
-  subtract          the parts of each record that the second file doesn't cover;
-                    -A the record whole if it has no overlap
-  getfasta          the bases of each record whose sequence the FASTA file has;
-                    -s with the strand, and those on - as the opposite strand,
-                    -tab on one line
+  merge             blocks of records that overlap or are book-ended
+    -d N            records at most N bases apart are one block too
+    -s              blocks of each strand by itself, without records of strand
+                    .; needs six columns
+    -c LIST         columns by number, separated by commas: a summary of each
+    -o LIST         operations: count, sum, min, max, collapse, distinct
+                    (default sum)
+  cluster           every record with the number of its block
+    -d N            records at most N bases apart are in one block
+  complement        what no record covers
+    -L              only on sequences that have a record
+  genomecov         how many records cover a position
+    -bg             a row for each interval of one depth above 0
+    -bga            the same, also where the depth is 0
+    -d              a row for each position, counted from 1
+  intersect         overlaps with the records of a second file
+    -wa             the record whole
+    -wb             also the other record whole
+    -u              the record once if it has an overlap
+    -v              the record once if it has none
+    -c              each record with the number of its overlaps
+  subtract          what a second file does not cover
+    -A              only whole records that have no overlap
+  getfasta          the bases of the records
+    -s              with the strand, and the bases of records on - reversed and
+                    complemented; needs six columns
+    -tab            head and bases on one line, separated by a TAB
   records           every record with all its columns
 
 examples:

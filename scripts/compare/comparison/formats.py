@@ -2,6 +2,8 @@
 
 import re
 
+from comparison import table
+
 # the greatest length of a sequence, and the greatest distance of -d
 LONGEST = 4_000_000_000
 FARTHEST = 1_000_000_000
@@ -156,11 +158,11 @@ def list_of(options, option):
 
 def good_words(subcommand, options):
     """Does bedkeep take these options together? Each comes once here, and each value has its form."""
-    if subcommand == "genomecov":
-        return len(options) == 1
-    if subcommand == "intersect":
-        alone = sum(option in options for option in ("-u", "-v", "-c"))
-        return alone == 0 or alone == 1 and "-wb" not in options
+    run = table.RUNS[subcommand]
+    if any(other in options for option in options for other in run.excluded(option)):
+        return False
+    if run.view_usage.startswith("-") and not options:
+        return False
     if subcommand == "merge":
         columns, operations = list_of(options, "-c"), list_of(options, "-o")
         fit = len(columns) == len(operations) or 1 in (len(columns), len(operations)) or not operations

@@ -4,7 +4,7 @@ import itertools
 import random
 from collections import namedtuple
 
-from comparison import formats
+from comparison import formats, table
 
 # `order` is how a user of bedtools sorts a.bed first: "sort", "bedtools sort" or, if the file is given as it is, "".
 Inputs = namedtuple("Inputs", "files order without")
@@ -294,9 +294,12 @@ def list_words(chance, width):
 
 
 def other_options(chance):
-    yield from (("cluster", options) for options in ((), ("-d", str(chance.choice([0, 1, 3, 10, formats.FARTHEST])))))
-    yield from (("complement", options) for options in ((), ("-L",)))
-    for subcommand, words in (("genomecov", ("-bg", "-bga", "-d")), ("intersect", ("-wa", "-wb", "-u", "-v", "-c")), ("getfasta", ("-s", "-tab"))):
+    """Each option of the other subcommands, and each pair of those that have no value."""
+    for run in table.SHARED:
+        if run.name == "merge":
+            continue
         for count in range(3):
-            yield from ((subcommand, options) for options in itertools.combinations(words, count))
-    yield from (("subtract", options) for options in ((), ("-A",)))
+            yield from ((run.name, options) for options in itertools.combinations(table.plain_options(run.name), count))
+        for option in run.view:
+            if option.kind == "Distance":
+                yield run.name, (option.name, str(chance.choice([0, 1, 3, 10, formats.FARTHEST])))

@@ -1,26 +1,13 @@
 """What bedtools has and bedkeep doesn't. That nothing is left out is checked by the help of bedtools, that bedkeep refuses it by running it."""
 
+import functools
 import re
 import subprocess
 
-from comparison import formats, programs
+from comparison import formats, programs, table
 
-# options of bedtools that its subcommands share and bedkeep hasn't
+# options that all subcommands of bedtools have and bedkeep hasn't
 SHARED = ["-nobuf", "-iobuf"]
-FRACTIONS = ["-s", "-S", "-f", "-F", "-r", "-e", "-split"]
-SWEEP = ["-sorted", "-nonamecheck"]
-# for each subcommand its options that bedkeep has, and those that it doesn't have
-OPTIONS = {
-    "merge": (["-s", "-d", "-c", "-o"], ["-S", "-delim", "-prec", "-header", "-bed"]),
-    "cluster": (["-d"], ["-s"]),
-    "complement": (["-L"], []),
-    "genomecov": (["-bg", "-bga", "-d"], ["-dz", "-strand", "-5", "-3", "-scale", "-max", "-split", "-trackline", "-trackopts", "-ibam", "-pc", "-fs", "-du",
-                                          "-ignoreD"]),
-    "intersect": (["-wa", "-wb", "-u", "-v", "-c", "-g"], ["-wo", "-wao", "-loj", "-C", *FRACTIONS, *SWEEP, "-names", "-filenames", "-sortout", "-header", "-bed",
-                                                           "-ubam"]),
-    "subtract": (["-A", "-g"], ["-N", "-wb", "-wo", *FRACTIONS, *SWEEP, "-header", "-bed"]),
-    "getfasta": (["-s", "-tab", "-fi", "-bed"], ["-name", "-name+", "-nameOnly", "-fo", "-bedOut", "-fullHeader", "-split", "-rna"]),
-}
 OPERATIONS = ["absmin", "absmax", "mean", "median", "mode", "antimode", "stdev", "sstdev", "distinct_sort_num", "distinct_sort_num_desc", "distinct_only",
               "count_distinct", "first", "last"]
 SUBCOMMANDS = ["annotate", "bamtobed", "bamtofastq", "bed12tobed6", "bedpetobam", "bedtobam", "closest", "coverage", "expand", "fisher", "flank", "groupby", "igv",
@@ -28,16 +15,22 @@ SUBCOMMANDS = ["annotate", "bamtobed", "bamtofastq", "bed12tobed6", "bedpetobam"
                "sample", "shift", "shuffle", "slop", "sort", "spacing", "split", "summary", "tag", "unionbedg", "window"]
 
 
+@functools.lru_cache(maxsize=None)
+def missing_of(subcommand):
+    """The options that the help of bedtools has for a subcommand and bedkeep's table hasn't, in the order of the help."""
+    found = re.findall(r"(?m)^\s+(-[A-Za-z0-9]+\+?)\s", help_of([subcommand, "-h"]))
+    there = {option.name for option in table.RUNS[subcommand].options}
+    return [option for option in dict.fromkeys(found) if option not in there and option not in SHARED]
+
+
 def fault(desk):
-    """What is wrong with the lists above, or None."""
+    """What is wrong with the lists above, or with an option that isn't refused; or None."""
     found = re.findall(r"(?m)^    ([a-z0-9]+) +\S", help_of(["--help"]))
-    if sorted(found) != sorted([*SUBCOMMANDS, *OPTIONS]):
-        return f"bedtools has other subcommands: {sorted(set(found) ^ {*SUBCOMMANDS, *OPTIONS})}"
-    for subcommand, (there, missing) in OPTIONS.items():
-        found = {option for option in re.findall(r"(?m)^\s+(-[A-Za-z0-9]+\+?)\s", help_of([subcommand, "-h"])) if option not in SHARED}
-        if found != {*there, *missing}:
-            return f"bedtools {subcommand} has other options: {sorted(found ^ {*there, *missing})}"
-        for option in [*missing, *SHARED]:
+    subcommands = [run.name for run in table.SHARED]
+    if sorted(found) != sorted([*SUBCOMMANDS, *subcommands]):
+        return f"bedtools has other subcommands: {sorted(set(found) ^ {*SUBCOMMANDS, *subcommands})}"
+    for subcommand in subcommands:
+        for option in [*missing_of(subcommand), *SHARED]:
             if not refused(desk, subcommand, (option,)):
                 return f"bedkeep {subcommand} {option} isn't refused"
     operations = [operation for operation in OPERATIONS if not refused(desk, "merge", ("-c", "1", "-o", operation))]
@@ -58,7 +51,7 @@ def refused(desk, subcommand, options):
 def rows():
     """The first cell of each row that the table of BEDTOOLS.md must have, and the names in that row."""
     yield "other subcommands", SUBCOMMANDS
-    for subcommand, (_, missing) in OPTIONS.items():
-        yield f"`{subcommand}`", missing
+    for run in table.SHARED:
+        yield f"`{run.name}`", missing_of(run.name)
     yield "operations of `merge`", OPERATIONS
     yield "all of them", SHARED

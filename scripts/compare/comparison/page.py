@@ -5,6 +5,7 @@ import re
 import signal
 
 from comparison import formats, missing, programs
+from comparison import table as table_of_options
 from comparison.inputs import KINDS
 from comparison.reasons import REASONS
 from comparison.refusals import REFUSALS
@@ -15,7 +16,6 @@ GROUPS = (SAME, ORDER, DIFFERENT, REFUSED)
 HEADS = [group.capitalize() for group in GROUPS]
 KNOWN = [*REASONS, *REFUSALS]
 REFUSED_HERE = {refusal.name for refusal in REFUSALS}
-VALUES = {"merge": {"-d": "N", "-c": "LIST", "-o": "LIST"}, "cluster": {"-d": "N"}}
 # of BEDTOOLS.md: the heading above its table of what isn't there, and how it links to the report
 MISSING, REPORT = "## What bedkeep doesn't have", "bedtools-report.md"
 # rows of a file or an output that an example shows
@@ -70,7 +70,7 @@ def example_key(found):
 
 def options_shown(found):
     """The options with N and LIST for their values."""
-    values, words = VALUES.get(found.subcommand, {}), list(found.options)
+    values, words = table_of_options.values_of(found.subcommand), list(found.options)
     for at, word in enumerate(found.options[:-1]):
         if word in values:
             words[at + 1] = values[word]
