@@ -547,6 +547,13 @@ def mostly_unknown_bases(size):
     return {"g": f"big\t{known}\n", "a": "big\t0\t10\n", "f": f">other\n{'C' * (size - known)}\n>big\n{'A' * known}\n"}
 
 
+def mostly_unnamed_bases(size):
+    """So many bytes of bases of the genome's sequences, hardly any of one that a record is on."""
+    known = size // 100
+    return {"g": f"other\t{size - known}\nbig\t{known}\n", "a": lines("big\t%d\t%d\tn\t0\t+", [(start, start + 10) for start in range(0, 10_000)]),
+            "f": f">other\n{'C' * (size - known)}\n>big\n{'A' * known}\n"}
+
+
 # The most bytes that may be held for each record or byte: about 30 % more than is held, and far less than a text that is kept.
 MEMORY = [
     ("a run of merge", "merge -g g -i a", one_long_name, None, "VmHWM", 16),
@@ -555,6 +562,7 @@ MEMORY = [
     ("a session with merge", "session -g g -i a", one_long_name, prints("merge"), "VmHWM", 95),
     ("a session that removes and adds", "session -g g -i a", one_sequence, moved_to_the_end, "VmHWM", 88),
     ("bases that no record can name", "session -g g -i a -fi f", mostly_unknown_bases, prints("getfasta"), "VmRSS", 0.2),
+    ("bases that no record of a run names", "getfasta -g g -bed a -fi f", mostly_unnamed_bases, None, "VmHWM", 0.05),
 ]
 
 
@@ -578,7 +586,7 @@ def memory(runs):
     """Bytes held for each record, or byte, beyond some."""
     found = []
     for name, arguments, files, script, what, most in MEMORY:
-        small, large = (2_000_000, 22_000_000) if files is mostly_unknown_bases else (20_000, 120_000)
+        small, large = (2_000_000, 22_000_000) if files in (mostly_unknown_bases, mostly_unnamed_bases) else (20_000, 120_000)
         sizes = [held(runs, arguments, runs.write(f"{name} {size}", {**files(size), "script": script(size) if script else ""}), what)
                  for size in (small, large)]
         each = (sizes[1] - sizes[0]) / (large - small)

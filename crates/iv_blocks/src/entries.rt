@@ -11,8 +11,8 @@ use crate::group::Key;
 use crate::kept_block::KeptBlock;
 use crate::options::BlockOptions;
 use iv_cover::{Block, BlockWalk, results_in};
-use iv_text::{Batches, Genome, Record};
-use iv_track::{Meter, Track};
+use iv_text::{Batches, Genome};
+use iv_track::{Meter, Track, TrackRecord};
 use std::alloc::{AllocError, Allocator};
 use std::marker::Model;
 
@@ -36,13 +36,13 @@ pub(crate) fn entries_of<A: Allocator + Copy>(
         return Ok(entries);
     };
     first.lemma_of_interval();
-    let mut block = Block::of(first);
+    let mut block = Block::of(&first);
     let mut members = Vec::new(alloc);
     let mut memory = Vec::new(alloc);
     members.push(first)?;
     while let Some(record) = records.next(meter) {
         record.lemma_of_interval();
-        let next = Block::of(record);
+        let next = Block::of(&record);
         if block.is_joined_by(next, options.distance) {
             block = block.with(next);
         } else {
@@ -79,11 +79,11 @@ fn push_entry<A: Allocator + Copy>(
     options: &BlockOptions,
     genome: &Genome<A>,
     block: Block,
-    members: &[&Record<A>],
+    members: &[TrackRecord<'_, A>],
     memory: Vec<u8, A>,
     entries: &mut Batches<(Key, KeptBlock<A>), A>,
 ) -> Result<Vec<u8, A>, AllocError>
-    ensures { OnOk result (entries.new ≡ entries.old ++ kept_entry genome.now (listed options.now.summaries) (with_members block (map (λ feature. feature.now) members.now)) ∷ []) }
+    ensures { OnOk result (entries.new ≡ entries.old ++ kept_entry genome.now (listed options.now.summaries) (with_members block members.now) ∷ []) }
 {
     let name = genome.name_of(block.sequence);
     let results = results_in(alloc, options.summaries.as_slice(), name, members, memory)?;

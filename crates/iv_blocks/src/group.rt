@@ -1,6 +1,6 @@
 //! Groups of records that may be in one block with one another, and the walk over the members of one.
 ghost use Rattle.std.specs.Prelude.{◌≡◌, if◌then◌else◌, not, Bool, true, false, length, MatchOption};
-ghost use Rattle.std.specs.Iterator.{YieldsFirstRef};
+ghost use Rattle.std.specs.Iterator.{YieldsFirst};
 ghost use Rattle.iv_text.specs.Ordered.{AreInOrder};
 ghost use Rattle.iv_track.specs.Steps.{TakesUpTo};
 ghost use Rattle.iv_blocks.specs.Inside.Groups.{is_in_group, between_on, is_apart, is_minus as is_minus_side, is_on, members_between};
@@ -9,8 +9,8 @@ ghost use Rattle.iv_blocks.specs.Inside.MembersLeft.{TakesForEach, end_step};
 ghost use Rattle.iv_blocks.specs.Inside.Insertion.{key_of};
 
 use iv_locators::TextRecord;
-use iv_text::{Record, RecordRef, Strand};
-use iv_track::{Meter, Track, TrackRecords};
+use iv_text::{RecordRef, Strand};
+use iv_track::{Meter, Track, TrackRecord, TrackRecords};
 use std::alloc::Allocator;
 use std::marker::Model;
 
@@ -97,7 +97,7 @@ impl Group {
     }
 
     /// Whether the record is in the group.
-    pub(crate) fn has<A: Allocator>(self, feature: &Record<A>) -> bool
+    pub(crate) fn has<A: Allocator + Copy>(self, feature: &TrackRecord<'_, A>) -> bool
         ensures { result ≡ is_in_group (is_apart self.side) self.rank (is_minus_side self.side) feature.now }
     {
         feature.seq() == self.rank && self.side.has_strand(feature.strand())
@@ -158,15 +158,15 @@ impl<'a, A: Allocator + Copy> Members<'a, A> {
     /// The next record, `None` after the last.
     ///
     /// A call takes at most one step for each record of the sequence that it goes past, and one more to find the end.
-    pub(crate) fn next(&mut self, meter: &mut Meter) -> Option<&'a Record<A>>
-        ensures member { YieldsFirstRef (λ m. m.members) self.old result self.new }
+    pub(crate) fn next(&mut self, meter: &mut Meter) -> Option<TrackRecord<'a, A>>
+        ensures member { YieldsFirst (λ m. m.members) self.old result self.new }
         ensures steps { TakesForEach meter.old meter.new self.old self.new (end_step result) }
     {
         while let Some(feature) = self.records.next(meter) {
             if feature.seq() != self.group.rank || feature.start() >= u64::from(self.to) {
                 return None;
             }
-            if self.group.has(feature) {
+            if self.group.has(&feature) {
                 return Some(feature);
             }
         }

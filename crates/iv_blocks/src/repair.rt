@@ -1,5 +1,5 @@
 //! The parts of a repair: blocks that are looked up, joined, taken out and inserted.
-ghost use Rattle.std.specs.Prelude.{◌≡◌, ◌≢◌, ◌+◌, ◌-◌, ◌*◌, ◌<◌, ◌≤◌, ℕ, max, None, true, All, IfOk, MatchOption, OnOk, OnErr, length, map};
+ghost use Rattle.std.specs.Prelude.{◌≡◌, ◌≢◌, ◌+◌, ◌-◌, ◌*◌, ◌<◌, ◌≤◌, ℕ, max, None, true, All, IfOk, MatchOption, OnOk, OnErr, length};
 ghost use Rattle.iv_text.specs.Genome.{sequence_name};
 ghost use Rattle.iv_text.specs.Named.{names_of};
 ghost use Rattle.iv_text.specs.Read.{Fits};
@@ -17,8 +17,8 @@ use crate::blocks::{Blocks, bounds_of};
 use crate::group::{Group, Key, Members, Side};
 use crate::kept_block::KeptBlock;
 use iv_cover::results;
-use iv_text::{Genome, Record};
-use iv_track::{Meter, Track};
+use iv_text::Genome;
+use iv_track::{Meter, Track, TrackRecord};
 use std::alloc::{AllocError, Allocator};
 
 impl<A: Allocator + Copy> Blocks<A> {
@@ -350,8 +350,8 @@ fn gather<'a, A: Allocator + Copy>(
     alloc: A,
     members: Members<'a, A>,
     meter: &mut Meter,
-) -> Result<Vec<&'a Record<A>, A>, AllocError>
-    ensures records { IfOk result (λ v. map (λ feature. feature.now) v.items ≡ members.entry.members) }
+) -> Result<Vec<TrackRecord<'a, A>, A>, AllocError>
+    ensures records { IfOk result (λ v. v.items ≡ members.entry.members) }
     ensures steps { TakesUpTo meter.old meter.new (1 + members.entry.passed_records) }
 {
     let mut members = members;

@@ -13,7 +13,8 @@ use Rattle.iv_workspace.specs.States.{State, begun}
 use Rattle.iv_run.specs.declared.fault.CliFault.{CliFault}
 use Rattle.iv_run.specs.declared.fault.CliFault.TheVariants.{Memory}
 use Rattle.iv_run.specs.Loading.{IsReport, Parsed, parsed}
-use Rattle.iv_run.specs.RunFiles.{AreProjected, ReportsProjected, projected_files}
+use Rattle.iv_run.specs.RunFiles.{AreProjected}
+use Rattle.iv_run.specs.Inside.RunFiles.{ReportsProjected, projected_files}
 use Rattle.iv_cli.specs.Loading.{loaded}
 
 -- what is held of whole records is the records
@@ -62,3 +63,8 @@ module _ (width : ℕ) (sizes text : List ℕ) (other bases : Option (List ℕ))
   begins files (Ok s) all ok err =
       ap (λ (read : Result Parsed CliFault). if_ok read begins_at) (all.1 ∙ ap Ok (sym (all.2 ∙ same-files all.0))) ∙ ap Ok (sym ok)
   begins files (Err k) all ok err = inl err
+
+  -- a file is damaged
+  pub begins-not : (k : CliFault) → ReportsProjected (λ r. r) (Err k) (parsed width sizes text other bases limit) → IsReport {T = State} (Err k) (loaded width sizes text other bases limit)
+  begins-not k (inl memory) = inl memory
+  begins-not k (inr is) = inr (ap (λ (read : Result Parsed CliFault). if_ok read begins_at) is)

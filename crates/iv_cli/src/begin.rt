@@ -4,11 +4,11 @@ ghost use Rattle.std.specs.Option.{option_copied, option_map};
 ghost use Rattle.iv_track.specs.Tracked.{most_records};
 ghost use Rattle.iv_workspace.specs.States.{begun};
 ghost use Rattle.iv_run.specs.Loading.{IsReport};
-ghost use Rattle.iv_run.specs.RunFiles.{AreOf, IsParsed};
+ghost use Rattle.iv_run.specs.RunFiles.{AreAll, AreOf, IsParsed};
 ghost use Rattle.iv_cli.specs.Loading.{loaded};
 
 use iv_args::Plan;
-use iv_run::{CliFault, HeldRecords, Inputs, LoadedFiles, ParsedFile, RunFiles};
+use iv_run::{CliFault, HeldRecords, Inputs, LoadedFiles, ParsedFile, RunFiles, sound_files};
 use iv_text::{BedBatches, Record};
 use iv_workspace::Session;
 use std::alloc::Allocator;
@@ -50,10 +50,16 @@ pub fn begin_session<A: Allocator + Copy>(
     files: RunFiles<HeldRecords<Record<A>, A>, A>,
 ) -> Result<Session<A>, CliFault>
     requires { files.on.limit ≤ most_records }
-    ensures { (sizes first : List ℕ) (second fasta_text : Option (List ℕ)) → AreOf (IsParsed (λ r. r)) sizes first second fasta_text files
+    ensures { (sizes first : List ℕ) (second fasta_text : Option (List ℕ)) → AreOf (IsParsed (λ r. r)) AreAll sizes first second fasta_text files
         → IsReport result (loaded files.on.width sizes first second fasta_text files.on.limit) }
 {
-    session_of(files.finish()?)
+    let RunFiles {
+        on,
+        first,
+        second,
+        fasta,
+    } = files;
+    session_of(sound_files(on, first, second, fasta)?)
 }
 
 /// The session that the files of a run begin, with no view open, or the fault of the first damaged file, given the bytes of the files.

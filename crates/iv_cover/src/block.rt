@@ -6,8 +6,8 @@ ghost use Rattle.iv_text.specs.Read.{IsOnGenome};
 ghost use Rattle.iv_text.specs.RecordValue.{IsPlaced};
 ghost use Rattle.iv_cover.specs.TrackBlocks.{blocks_of, GivesFirst};
 
-use iv_text::{BedRecord, Record};
-use iv_track::{Meter, TrackRecords};
+use iv_text::BedRecord;
+use iv_track::{Meter, TrackRecord, TrackRecords};
 use std::alloc::{Allocator, Global};
 use std::marker::Model;
 
@@ -61,13 +61,14 @@ impl Block {
 pub struct BlockWalk<'a, A: Allocator + Copy = Global> {
     records: TrackRecords<'a, A>,
     // The record that closed the block before.
-    ahead: Option<&'a Record<A>>,
+    ahead: Option<TrackRecord<'a, A>>,
     distance: u32,
 }
 
 impl<'a, A: Allocator + Copy> Model for BlockWalk<'a, A> {
     ghost use Rattle.std.specs.Prelude.{List, None};
-    ghost use Rattle.iv_cover.specs.Inside.RemainingBlocks.{remaining_blocks, left};
+    ghost use Rattle.iv_track.specs.Inside.Counted.{left};
+    ghost use Rattle.iv_cover.specs.Inside.RemainingBlocks.{remaining_blocks};
     ghost use Rattle.iv_cover.specs.TrackBlocks.{BlockWithMembers};
 
     ghost Value = { List BlockWithMembers };
@@ -99,10 +100,10 @@ impl<'a, A: Allocator + Copy> BlockWalk<'a, A> {
             None => self.records.next(meter)?,
         };
         first.lemma_of_interval();
-        let mut block = Block::of(first);
+        let mut block = Block::of(&first);
         while let Some(record) = self.records.next(meter) {
             record.lemma_of_interval();
-            let next = Block::of(record);
+            let next = Block::of(&record);
             if !block.is_joined_by(next, self.distance) {
                 self.ahead = Some(record);
                 return Some(block);

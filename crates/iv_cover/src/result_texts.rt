@@ -9,7 +9,7 @@ use crate::column::{Column, ColumnSummary, asks_distinct};
 use crate::op::Op;
 use crate::summaries::{put_result, put_results};
 use iv_bytes::{Sink, WriteFault};
-use iv_text::Record;
+use iv_track::TrackRecord;
 use std::alloc::{AllocError, Allocator};
 
 /// What an operation gives for the values of a column, in the order of a track.
@@ -36,9 +36,9 @@ pub fn results<A: Allocator + Copy>(
     alloc: A,
     summaries: &[ColumnSummary],
     sequence: &[u8],
-    records: &[&Record<A>],
+    records: &[TrackRecord<'_, A>],
 ) -> Result<Vec<u8, A>, AllocError>
-    ensures { IfOk result (λ text. text.items ≡ results_over sequence.now summaries.now (map (λ feature. feature.now) records.now)) }
+    ensures { IfOk result (λ text. text.items ≡ results_over sequence.now summaries.now records.now) }
 {
     results_in(alloc, summaries, sequence, records, Vec::new(alloc))
 }
@@ -49,10 +49,10 @@ pub fn results_in<A: Allocator + Copy>(
     alloc: A,
     summaries: &[ColumnSummary],
     sequence: &[u8],
-    records: &[&Record<A>],
+    records: &[TrackRecord<'_, A>],
     memory: Vec<u8, A>,
 ) -> Result<Vec<u8, A>, AllocError>
-    ensures { IfOk result (λ text. text.items ≡ results_over sequence.now summaries.now (map (λ feature. feature.now) records.now)) }
+    ensures { IfOk result (λ text. text.items ≡ results_over sequence.now summaries.now records.now) }
 {
     let mut room = Vec::with_capacity(
         alloc,

@@ -8,7 +8,7 @@ ghost use Rattle.iv_cover.specs.declared.column.Column.{Column};
 use crate::column::Column;
 use crate::number::ParsedNumber;
 use crate::value::Value;
-use iv_text::Record;
+use iv_track::TrackRecord;
 use std::alloc::Allocator;
 
 /// What values are read from, one after another: the records of a block, or a list of values, in which each column is the same.
@@ -43,10 +43,10 @@ pub trait Values<'t>: Drop {
         ensures each { (name : List ℕ) (column : Column) → length (left name column self.now) ≡ size self.now };
 }
 
-impl<'t, A: Allocator> Values<'t> for &'t [&'t Record<A>] {
+impl<'t, A: Allocator + Copy> Values<'t> for &'t [TrackRecord<'t, A>] {
     ghost size = { λ records. length records.now };
 
-    ghost left = { λ name column records. map (column_value name column) (map (λ feature. feature.now) records.now) };
+    ghost left = { λ name column records. map (column_value name column) records.now };
 
     fn again(&self) -> Self {
         *self

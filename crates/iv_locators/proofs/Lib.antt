@@ -6,3 +6,4 @@ pub mod BareLemmas
 pub mod DedupLemmas
 pub mod JoinLemmas
 pub mod SequenceLemmas
+pub mod RankLemmas

@@ -1,6 +1,7 @@
--- Definitions that only lemmas and private functions cite. No public contract reaches one.
+-- Definitions that no contract of the program or of the six public crates reaches.
 pub mod Locators
 pub mod Drafts
 pub mod Cover
 pub mod Joins
 pub mod Spans
+pub mod Ranks

@@ -7,6 +7,7 @@ ghost use Rattle.iv_text.specs.declared.fault.LoadCause.TheVariants as cause;
 ghost use Rattle.iv_locators.specs.Inside.Joins.{grown, joined_locators, touches};
 ghost use Rattle.iv_locators.specs.Cover.{is_covered};
 ghost use Rattle.iv_locators.specs.Inside.Cover.{AreApart};
+ghost use Rattle.iv_locators.specs.Inside.Drafts.{AreLocators};
 ghost use Rattle.iv_locators.specs.Inside.Locators.{HasBase, records_at};
 ghost use Rattle.iv_locators.specs.Locators.{bare};
 ghost use Rattle.iv_text.specs.Widths.{IsWidth};
@@ -36,6 +37,29 @@ pub(crate) fn join_locators<A: Allocator>(locators: &mut Vec<Locator, A>)
     ensures { locators.new.items ≡ joined_locators locators.old.items }
 {
     locators.dedup_by(|locator, last| take_in(last, locator));
+}
+
+/// The width of the records of a BED file, and their locators into its text; or the file's first fault.
+pub(crate) fn locate<A: Allocator + Copy>(
+    alloc: A,
+    genome: &Genome<A>,
+    empty_width: u8,
+    limit: u32,
+    text: &[u8],
+) -> Result<(u8, Vec<Locator, A>), LoadFault>
+    requires width { IsWidth empty_width }
+    requires small { length text.now < 2 ^ 32 }
+    ensures ok { IfOk result (λ f. bed_of genome.now empty_width limit text.now ≡ Ok (record { width = f.0; records = records_at f.0 text.now f.1.items })) }
+    ensures sound { IfOk result (λ f. AreLocators f.0 text.now f.1.items) }
+    ensures fit { IfOk result (λ f. All (Fits genome.now f.0) (records_at f.0 text.now f.1.items)) }
+    ensures few { IfOk result (λ f. length (records_at f.0 text.now f.1.items) ≤ limit) }
+    ensures err { IfErr result (λ f. (f ≡ record { line = 0; cause = cause.Memory }) ⊎ (bed_of genome.now empty_width limit text.now ≡ Err f)) }
+{
+    let mut lines: BedLines<Locator, A> = BedLines::new(alloc);
+    lines.take_lines(alloc, genome, limit, text)?;
+    let (width, locators) = lines.finish();
+    let locators = locators.into_vec()?;
+    Ok((width.unwrap_or(empty_width), locators))
 }
 
 /// The records of a BED file, in the order of the file or of a track, all of one width.
@@ -82,15 +106,20 @@ impl<'t, A: Allocator + Copy> BedText<'t, A> {
         ensures few { IfOk result (λ b. length b.records ≤ limit) }
         ensures err { IfErr result (λ f. (f ≡ record { line = 0; cause = cause.Memory }) ⊎ (bed_of genome.now empty_width limit text.now ≡ Err f)) }
     {
-        let mut lines: BedLines<Locator, A> = BedLines::new(alloc);
-        lines.take_lines(alloc, genome, limit, text)?;
-        let (width, locators) = lines.finish();
-        let locators = locators.into_vec()?;
-        Ok(BedText {
+        let (width, locators) = locate(alloc, genome, empty_width, limit, text)?;
+        Ok(BedText::of(text, width, locators))
+    }
+
+    /// The records of these locators into a text, each of so many columns.
+    pub(crate) fn of(text: &'t [u8], width: u8, locators: Vec<Locator, A>) -> BedText<'t, A>
+        requires { AreLocators width text.now locators.items }
+        ensures { result ≡ record { width = width; records = records_at width text.now locators.items } }
+    {
+        BedText {
             text,
             locators,
-            width: width.unwrap_or(empty_width),
-        })
+            width,
+        }
     }
 
     /// Records of which only the intervals are known, in the order of these locators.

@@ -8,8 +8,8 @@ ghost use Rattle.iv_locators.specs.Inside.Locators.{locator_at, row_of, line_at,
 
 use crate::span::Span;
 use iv_text::{
-    FastLine, Fields, FromRecord, RecordRef, Strand, columns, read_strand, split_first_column,
-    split_line,
+    Batches, FastLine, Fields, FromRecord, RecordRef, Strand, columns, read_strand,
+    split_first_column, split_line,
 };
 use std::alloc::{AllocError, Allocator};
 
@@ -23,6 +23,8 @@ pub struct Locator {
 }
 
 impl<A: Allocator + Copy> FromRecord<A> for Locator {
+    type Kept = Batches<Self, A>;
+
     ghost projected = { bare };
 
     ghost as_record = { row_of 3 [] };

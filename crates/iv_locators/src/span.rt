@@ -9,7 +9,7 @@ ghost use Rattle.iv_locators.specs.Inside.Locators.{span_of};
 ghost use Rattle.iv_locators.specs.Inside.Spans.{record_of_span, span_lt, span_records};
 
 use crate::order::order_neighbors;
-use iv_text::{FastLine, FromRecord, RecordRef};
+use iv_text::{Batches, FastLine, FromRecord, RecordRef};
 use std::alloc::{AllocError, Allocator};
 use std::cmp::Ordering;
 
@@ -25,6 +25,8 @@ pub struct Span {
 }
 
 impl<A: Allocator + Copy> FromRecord<A> for Span {
+    type Kept = Batches<Self, A>;
+
     ghost projected = { bare };
 
     ghost as_record = { record_of_span };

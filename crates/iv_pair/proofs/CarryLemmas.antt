@@ -1,5 +1,4 @@
 -- Records that a search carries, and those ahead of it.
-use denote.Ref.{Bor}
 use Rattle.std.proofs.Common.{◌≡◌, ℕ, ◌+◌, ◌-◌, ◌<◌, ◌≤◌, ◌^◌, inl, inr, Bool, true, false, cond, List, [], ◌∷◌, ◌++◌, Option, Some, None, refl, sym, ap, ◌∙◌, subst, arith, length, append_assoc}
 use Rattle.std.specs.Prelude.{filter}
 use Rattle.std.proofs.lemmas.Bool.{cases_lt, false_from_ne_true}
@@ -19,20 +18,20 @@ use Rattle.iv_track.proofs.PlaceLemmas.{pair_le, filter-implied}
 
 -- ---- slots
 
-pub held-append : {K : Type 0} (xs ys : List (Option (Bor K))) → held (xs ++ ys) ≡ held xs ++ held ys
+pub held-append : {K : Type 0} (xs ys : List (Option K)) → held (xs ++ ys) ≡ held xs ++ held ys
 held-append [] ys = refl
 held-append (None ∷ xs) ys = held-append xs ys
-held-append (Some k ∷ xs) ys = ap (λ l. k.now ∷ l) (held-append xs ys)
+held-append (Some k ∷ xs) ys = ap (λ l. k ∷ l) (held-append xs ys)
 
-pub held-filter : {K : Type 0} (p : K → Bool) (xs : List (Option (Bor K))) → held (filter (keeps p) xs) ≡ filter p (held xs)
+pub held-filter : {K : Type 0} (p : K → Bool) (xs : List (Option K)) → held (filter (keeps p) xs) ≡ filter p (held xs)
 held-filter p [] = refl
 held-filter p (None ∷ xs) = held-filter p xs
-held-filter p (Some k ∷ xs) = elim (p k.now) as (λ b. held (cond b (Some k ∷ filter (keeps p) xs) (filter (keeps p) xs)) ≡ cond b (k.now ∷ filter p (held xs)) (filter p (held xs))) [
-  | true ↦ ap (λ l. k.now ∷ l) (held-filter p xs)
+held-filter p (Some k ∷ xs) = elim (p k) as (λ b. held (cond b (Some k ∷ filter (keeps p) xs) (filter (keeps p) xs)) ≡ cond b (k ∷ filter p (held xs)) (filter p (held xs))) [
+  | true ↦ ap (λ l. k ∷ l) (held-filter p xs)
   | false ↦ held-filter p xs
 ]
 
-pub held-few : {K : Type 0} (xs : List (Option (Bor K))) → length (held xs) ≤ length xs
+pub held-few : {K : Type 0} (xs : List (Option K)) → length (held xs) ≤ length xs
 held-few [] = omega arith
 held-few (None ∷ xs) = let r : length (held xs) ≤ length xs = held-few xs in omega arith
 held-few (Some k ∷ xs) = let r : length (held xs) ≤ length xs = held-few xs in omega arith

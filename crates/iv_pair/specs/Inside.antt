@@ -1,4 +1,4 @@
--- Definitions that only lemmas and private functions cite. No public contract reaches one.
+-- Definitions that no contract of the program or of the six public crates reaches.
 pub mod Lengths
 pub mod HitFinder
 pub mod HitLines

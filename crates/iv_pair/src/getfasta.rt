@@ -23,7 +23,7 @@ pub fn print_fasta<A: Allocator + Copy, S: Sink>(
 {
     let mut records = track.walk(0, 0, meter);
     while let Some(feature) = records.next(meter) {
-        put_fasta(output, genome, feature, fasta, sink)?;
+        put_fasta(output, genome, &feature, fasta, sink)?;
     }
     Ok(())
 }

@@ -9,8 +9,8 @@ ghost use Rattle.iv_pair.specs.Inside.Lengths.{AreUpTo};
 use crate::hits::{Hits, is_from};
 use crate::second::{Second, first_start};
 use arrayvec::ArrayVec;
-use iv_text::{BedRecord, Record};
-use iv_track::{Meter, TrackRecords};
+use iv_text::BedRecord;
+use iv_track::{Meter, TrackRecord, TrackRecords};
 use std::alloc::Allocator;
 use std::marker::Model;
 
@@ -146,7 +146,7 @@ fn begins_from<A: Allocator + Copy>(
     meter: &mut Meter,
 ) -> bool {
     match walk.again().next(meter) {
-        Some(feature) => is_from(feature, seq, from),
+        Some(feature) => is_from(&feature, seq, from),
         None => true,
     }
 }
@@ -174,10 +174,10 @@ fn take_begun<'a, A: Allocator + Copy>(
         let Some(feature) = ahead.next(meter) else {
             return;
         };
-        if is_from(feature, seq, start + 1) {
+        if is_from(&feature, seq, start + 1) {
             return;
         }
-        if covers(feature, seq, start) {
+        if covers(&feature, seq, start) {
             if !carried.push(feature) {
                 return;
             }
@@ -192,7 +192,7 @@ fn take_begun<'a, A: Allocator + Copy>(
 /// Its model is their list.
 #[derive(Drop)]
 struct Carried<'a, A: Allocator + Copy> {
-    slots: ArrayVec<Option<&'a Record<A>>, MOST_CARRIED>,
+    slots: ArrayVec<Option<TrackRecord<'a, A>>, MOST_CARRIED>,
 }
 
 impl<'a, A: Allocator + Copy> Model for Carried<'a, A> {
@@ -216,7 +216,7 @@ impl<'a, A: Allocator + Copy> Carried<'a, A> {
     }
 
     /// The records, each in a slot.
-    fn slots(&self) -> &[Option<&'a Record<A>>]
+    fn slots(&self) -> &[Option<TrackRecord<'a, A>>]
         ensures held { held result.now ≡ self.now }
         ensures few { length result.now ≤ 64 }
     {
@@ -231,8 +231,8 @@ impl<'a, A: Allocator + Copy> Carried<'a, A> {
     }
 
     /// One more after them, if there is room.
-    fn push(&mut self, feature: &'a Record<A>) -> bool
-        ensures pushed { result ≡ true → self.new ≡ self.old ++ feature.now ∷ [] }
+    fn push(&mut self, feature: TrackRecord<'a, A>) -> bool
+        ensures pushed { result ≡ true → self.new ≡ self.old ++ feature.entry ∷ [] }
         ensures full { result ≡ false → self.new ≡ self.old }
     {
         if self.slots.is_full() {
@@ -251,11 +251,11 @@ impl<'a, A: Allocator + Copy> Carried<'a, A> {
 }
 
 /// Whether a slot has a record with this position.
-fn is_kept<A: Allocator + Copy>(slot: &Option<&Record<A>>, seq: u32, position: u64) -> bool
+fn is_kept<A: Allocator + Copy>(slot: &Option<TrackRecord<'_, A>>, seq: u32, position: u64) -> bool
     ensures { result ≡ keeps (covers seq position) slot.now }
 {
     match slot {
-        Some(feature) => covers(*feature, seq, position),
+        Some(feature) => covers(feature, seq, position),
         None => false,
     }
 }

@@ -1,13 +1,13 @@
 //! The records that share a position with an interval.
 ghost use Rattle.std.specs.Prelude.{◌≡◌, ◌<◌, ◌≤◌, ◌^◌, ◌++◌, length};
-ghost use Rattle.std.specs.Iterator.{YieldsFirstRef, item_count};
+ghost use Rattle.std.specs.Iterator.{YieldsFirst, item_count};
 ghost use Rattle.iv_text.specs.Ordered.{AreInOrder};
 ghost use Rattle.iv_track.specs.Tracked.{is_from};
 ghost use Rattle.iv_pair.specs.Inside.HitFinder.{held};
 ghost use Rattle.iv_track.specs.Regions.{overlaps, hits};
 
-use iv_text::{BedRecord, Record};
-use iv_track::{Meter, TrackRecords};
+use iv_text::BedRecord;
+use iv_track::{Meter, TrackRecord, TrackRecords};
 use std::alloc::{Allocator, Global};
 use std::marker::Model;
 
@@ -17,7 +17,7 @@ use std::marker::Model;
 #[derive(Drop)]
 pub struct Hits<'a, A: Allocator + Copy = Global> {
     // Hits that are before those of the walk.
-    carried: &'a [Option<&'a Record<A>>],
+    carried: &'a [Option<TrackRecord<'a, A>>],
     walk: TrackRecords<'a, A>,
     meter: Meter,
     seq: u32,
@@ -42,7 +42,7 @@ impl<'a, A: Allocator + Copy> Model for Hits<'a, A> {
 impl<'a, A: Allocator + Copy> Hits<'a, A> {
     /// The hits that are carried, and after them those among the records of a walk.
     pub(crate) fn of(
-        carried: &'a [Option<&'a Record<A>>],
+        carried: &'a [Option<TrackRecord<'a, A>>],
         walk: TrackRecords<'a, A>,
         seq: u32,
         start: u64,
@@ -78,24 +78,24 @@ impl<'a, A: Allocator + Copy> Hits<'a, A> {
 }
 
 impl<'a, A: Allocator + Copy> Iterator for Hits<'a, A> {
-    type Item = &'a Record<A>;
+    type Item = TrackRecord<'a, A>;
 
-    ghost next_gives = { YieldsFirstRef (λ h. h) };
+    ghost next_gives = { YieldsFirst (λ h. h) };
 
     ghost remaining = { item_count (λ h. h) };
 
-    fn next(&mut self) -> Option<&'a Record<A>> {
+    fn next(&mut self) -> Option<TrackRecord<'a, A>> {
         while let [slot, others @ ..] = self.carried {
             self.carried = others;
             if let Some(feature) = slot {
-                return Some(*feature);
+                return Some(feature.again());
             }
         }
         while let Some(feature) = self.walk.next(&mut self.meter) {
-            if overlaps(feature, self.seq, self.start, self.stop) {
+            if overlaps(&feature, self.seq, self.start, self.stop) {
                 return Some(feature);
             }
-            if is_from(feature, self.seq, self.stop) {
+            if is_from(&feature, self.seq, self.stop) {
                 return None;
             }
         }

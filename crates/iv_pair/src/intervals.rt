@@ -6,8 +6,7 @@ ghost use Rattle.iv_pair.specs.Inside.Intervals.{locator_of};
 
 use crate::second::Second;
 use iv_locators::{BedText, Locator, Span};
-use iv_text::Record;
-use iv_track::Meter;
+use iv_track::{Meter, TrackRecord};
 use std::alloc::{AllocError, Allocator};
 
 /// The intervals of a second file, in its order, copies repeated: 16 bytes for each.
@@ -20,13 +19,13 @@ pub(crate) fn intervals_of<A: Allocator + Copy>(
     let mut locators = Vec::with_capacity(second.allocator(), second.len() as usize)?;
     let mut records = second.walk(0, 0, meter);
     while let Some(feature) = records.next(meter) {
-        locators.push(locator_of(feature))?;
+        locators.push(locator_of(&feature))?;
     }
     Ok(BedText::of_intervals(locators))
 }
 
 /// The interval of a record, as a locator without a line.
-fn locator_of<A: Allocator + Copy>(feature: &Record<A>) -> Locator
+fn locator_of<A: Allocator + Copy>(feature: &TrackRecord<'_, A>) -> Locator
     ensures is { result ≡ locator_of feature.now }
     ensures base { HasBase result }
 {

@@ -15,8 +15,8 @@ use crate::pair_sweep::ActiveHits;
 use crate::second::Second;
 use iv_bytes::{Sink, WriteFault};
 use iv_locators::{BedText, TextRecord, TextRecords};
-use iv_text::{BedRecord, Genome, Record};
-use iv_track::Meter;
+use iv_text::{BedRecord, Genome};
+use iv_track::{Meter, TrackRecord};
 use std::alloc::{AllocError, Allocator};
 use std::marker::Model;
 
@@ -73,7 +73,7 @@ impl<A: Allocator + Copy> JoinedCover<A> {
         &mut self,
         output: PairOutput,
         genome: &Genome<A>,
-        feature: &Record<A>,
+        feature: &TrackRecord<'_, A>,
         sink: &mut S,
     ) -> Result<(), WriteFault>
         ensures text { Puts (S.state sink.old) (S.state sink.new) result (pair_rows output genome.now feature.now self.old.records) }

@@ -8,7 +8,7 @@ ghost use Rattle.iv_track.specs.Steps.{TakesUpTo};
 ghost use Rattle.iv_track.specs.Entries.{pair_cmp};
 ghost use Rattle.iv_pair.specs.Inside.Lengths.{AreLengths, IsTally, length_of};
 
-use iv_text::Record;
+use iv_text::BedRecord;
 use iv_track::{Ledger, Meter, Track};
 use std::alloc::{AllocError, Allocator};
 
@@ -16,10 +16,11 @@ use std::alloc::{AllocError, Allocator};
 pub(crate) type Lengths<A> = Ledger<(u32, u32), u32, A>;
 
 /// The rank of a record's sequence, and how many positions the record has.
-pub(crate) fn length_of<A: Allocator + Copy>(feature: &Record<A>) -> (u32, u32)
-    ensures is { result ≡ length_of feature.now }
+pub(crate) fn length_of<R: BedRecord>(feature: &R) -> (u32, u32)
+    ensures is { result ≡ length_of (R.as_record feature.now) }
     ensures small { result.1 < 2 ^ 32 }
 {
+    let feature = feature.to_ref();
     feature.lemma_of_interval();
     (feature.seq(), (feature.stop() - feature.start()) as u32)
 }
@@ -80,7 +81,7 @@ pub(crate) fn lengths_of<A: Allocator + Copy>(
     let mut lengths = Ledger::new(alloc);
     let mut records = track.walk(0, 0, meter);
     while let Some(record) = records.next(meter) {
-        raise(&mut lengths, length_of(record), meter)?;
+        raise(&mut lengths, length_of(&record), meter)?;
     }
     Ok(lengths)
 }

@@ -1,6 +1,6 @@
 //! The rows of one record after another beside a second file, in which many records may lie at one position.
 ghost use Rattle.std.specs.Prelude.{◌≡◌, List, IfOk, IfSome};
-ghost use Rattle.std.specs.Iterator.{YieldsFirstRef, item_count};
+ghost use Rattle.std.specs.Iterator.{YieldsFirst, item_count};
 ghost use Rattle.iv_bytes.specs.Sinks.{Puts};
 ghost use Rattle.iv_pair.specs.PairRows.{pair_rows};
 ghost use Rattle.iv_text.specs.RecordValue.{RecordValue};
@@ -14,8 +14,8 @@ use crate::joined_cover::JoinedCover;
 use crate::pair_rows::{PairOutput, put_pair_rows};
 use crate::second::Second;
 use iv_bytes::{Sink, WriteFault};
-use iv_text::{BedRecord, Genome, Record};
-use iv_track::Meter;
+use iv_text::{BedRecord, Genome};
+use iv_track::{Meter, TrackRecord};
 use std::alloc::{AllocError, Allocator};
 use std::marker::Model;
 
@@ -76,7 +76,7 @@ impl<'a, A: Allocator + Copy> PairPrinter<'a, A> {
         &mut self,
         copy: &mut Option<FileCopy<A>>,
         genome: &Genome<A>,
-        feature: &Record<A>,
+        feature: &TrackRecord<'_, A>,
         meter: &mut Meter,
         sink: &mut S,
     ) -> Result<(), WriteFault>
@@ -112,7 +112,7 @@ impl<'a, A: Allocator + Copy> PairPrinter<'a, A> {
     fn put_by_hits<S: Sink>(
         &mut self,
         genome: &Genome<A>,
-        feature: &Record<A>,
+        feature: &TrackRecord<'_, A>,
         meter: &mut Meter,
         sink: &mut S,
     ) -> Result<(), WriteFault>
@@ -169,7 +169,7 @@ fn put_by_copy<A: Allocator + Copy, S: Sink>(
     output: PairOutput,
     copy: &mut FileCopy<A>,
     genome: &Genome<A>,
-    feature: &Record<A>,
+    feature: &TrackRecord<'_, A>,
     sink: &mut S,
 ) -> Result<(), WriteFault>
     ensures { (second : List RecordValue) → ServesAs output second copy.old → (ServesAs output second copy.new) × Puts (S.state sink.old) (S.state sink.new) result (pair_rows output genome.now feature.now second) }
@@ -205,13 +205,13 @@ impl<'a, 'm, A: Allocator + Copy> Model for CountedHits<'a, 'm, A> {
 }
 
 impl<'a, 'm, A: Allocator + Copy> Iterator for CountedHits<'a, 'm, A> {
-    type Item = &'a Record<A>;
+    type Item = TrackRecord<'a, A>;
 
-    ghost next_gives = { YieldsFirstRef (λ h. h) };
+    ghost next_gives = { YieldsFirst (λ h. h) };
 
     ghost remaining = { item_count (λ h. h) };
 
-    fn next(&mut self) -> Option<&'a Record<A>> {
+    fn next(&mut self) -> Option<TrackRecord<'a, A>> {
         let before = self.hits.steps();
         let next = self.hits.next();
         let steps = self.hits.steps().saturating_sub(before);

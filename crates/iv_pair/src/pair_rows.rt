@@ -59,7 +59,7 @@ pub fn print_pairs<A: Allocator + Copy, S: Sink>(
     let mut copy = None;
     let mut walk = track.walk(0, 0, meter);
     while let Some(feature) = walk.next(meter) {
-        printer.put_rows(&mut copy, genome, feature, meter, sink)?;
+        printer.put_rows(&mut copy, genome, &feature, meter, sink)?;
     }
     Ok(())
 }

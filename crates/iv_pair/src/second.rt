@@ -9,7 +9,7 @@ ghost use Rattle.iv_pair.specs.Inside.Lengths.{AreLengths, AreUpTo};
 
 use crate::hits::Hits;
 use crate::lengths::{Lengths, length_of, lengths_of, longest, lower, raise};
-use iv_text::{Batches, Record};
+use iv_text::{Batches, Record, RecordBatches};
 use iv_track::{EditFault, Meter, Track, TrackRecords};
 use std::alloc::{AllocError, Allocator, Global};
 use std::marker::Model;
@@ -50,7 +50,8 @@ impl<A: Allocator + Copy> Second<A> {
         requires width { All (λ r. r.width ≡ width) records.items }
         ensures { IfOk result (λ s. s ≡ record { records = ordered records.items; width = width; limit = limit }) }
     {
-        Second::from_batches(alloc, width, limit, Batches::of(records))
+        let records = RecordBatches::of(Batches::of(records));
+        Second::from_batches(alloc, width, limit, records)
     }
 
     /// The second file of these records, as [`Second::new`] makes it. Their vectors are freed one after the other while the track is
@@ -59,7 +60,7 @@ impl<A: Allocator + Copy> Second<A> {
         alloc: A,
         width: u8,
         limit: u32,
-        records: Batches<Record<A>, A>,
+        records: RecordBatches<A>,
     ) -> Result<Self, AllocError>
         requires limit { limit ≤ most_records }
         requires few { length records ≤ limit }
@@ -67,7 +68,7 @@ impl<A: Allocator + Copy> Second<A> {
         ensures { IfOk result (λ s. s ≡ record { records = ordered records; width = width; limit = limit }) }
     {
         let mut meter = Meter::new();
-        let track = Track::from_batches(alloc, width, limit, records)?;
+        let track = Track::from_kept(alloc, width, limit, records)?;
         let lengths = lengths_of(alloc, &track, &mut meter)?;
         Ok(Second {
             alloc,

@@ -2,7 +2,7 @@
 ghost use Rattle.std.specs.Prelude.{◌≡◌, List, [], ◌∷◌, ℕ, Option, None, Some, IfOk, IfErr, OnOk, OnErr, true, IfSome};
 ghost use Rattle.std.specs.Option.{option_map, option_to_list};
 ghost use Rattle.iv_args.specs.Arguments.{file_of};
-ghost use Rattle.iv_run.specs.RunFiles.{IsFasta, IsIfNamed};
+ghost use Rattle.iv_run.specs.RunFiles.{IsEnoughOf, IsIfNamed};
 ghost use Rattle.iv_program.specs.Files.{FilesState, IsText, opened, after_opening, after_closing, after_one, after_reading};
 ghost use Rattle.iv_program.specs.Inside.Files.{StopsAt, StopsFile, names_of};
 ghost use Rattle.iv_program.specs.Inside.Runs.{HasTexts};
@@ -101,19 +101,37 @@ fn read_second<H: HoldsFile<A>, A: Allocator + Copy, F: InputFiles>(
     }
 }
 
-/// The FASTA file of a plan, if it names one.
-fn read_fasta<A: Allocator + Copy, F: InputFiles>(
+/// The FASTA file of this name, beside this first file.
+fn read_beside<H: HoldsFile<A>, A: Allocator + Copy, F: InputFiles>(
+    files: &mut F,
+    name: &[u8],
+    on: &RunGenome<A>,
+    first: &H,
+) -> Result<HeldFasta<A>, FileFault>
+    ensures ok { IfOk result (λ held. (text : List ℕ) × IsText (F.state files.old) name.now text × IsEnoughOf (λ wanted. H.is_enough wanted first.now) on.now.genome text held) }
+    ensures after { OnOk result (F.state files.new ≡ after_reading (name.now ∷ []) (F.state files.old)) }
+    ensures err { IfErr result (λ fault. StopsFile (F.state files.old) name.now fault (F.state files.new)) }
+{
+    let mut file = files.open(name)?;
+    let read = on.read_fasta(first, &mut file, MOST_FILE_BYTES);
+    files.close(file);
+    read
+}
+
+/// The FASTA file of a plan, if it names one, beside this first file.
+fn read_fasta<H: HoldsFile<A>, A: Allocator + Copy, F: InputFiles>(
     files: &mut F,
     plan: &Plan<'_, A>,
     on: &RunGenome<A>,
+    first: &H,
 ) -> Result<Option<HeldFasta<A>>, SlotFault>
-    ensures ok { IfOk result (λ held. (bases : Option (List ℕ)) × IsTextIfNamed (F.state files.old) plan.now.bases bases × IsIfNamed (IsFasta on.now.genome) bases held) }
+    ensures ok { IfOk result (λ held. (bases : Option (List ℕ)) × IsTextIfNamed (F.state files.old) plan.now.bases bases × IsIfNamed (IsEnoughOf (λ wanted. H.is_enough wanted first.now) on.now.genome) bases held) }
     ensures after { OnOk result (F.state files.new ≡ after_reading (option_to_list plan.now.bases) (F.state files.old)) }
     ensures err { IfErr result (λ why. (why.0 ≡ Slot.Bases)
         × ((name : List ℕ) × (plan.now.bases ≡ Some name) × StopsFile (F.state files.old) name why.1 (F.state files.new))) }
 {
     match plan.file(Slot::Bases) {
-        Some(name) => Ok(Some(in_slot(Slot::Bases, read_held(files, name, on))?)),
+        Some(name) => Ok(Some(in_slot(Slot::Bases, read_beside(files, name, on, first))?)),
         None => Ok(None),
     }
 }
@@ -124,7 +142,7 @@ pub(crate) fn read_files<H: HoldsFile<A>, A: Allocator + Copy, F: InputFiles>(
     files: &mut F,
     plan: &Plan<'_, A>,
 ) -> Result<RunFiles<H, A>, SlotFault>
-    ensures ok { IfOk result (λ read. (texts : Texts) × AreTexts (F.state files.old) plan.now texts × HasTexts H.is_of plan.now texts read) }
+    ensures ok { IfOk result (λ read. (texts : Texts) × AreTexts (F.state files.old) plan.now texts × HasTexts H.is_of H.is_enough plan.now texts read) }
     ensures after { OnOk result (F.state files.new ≡ after_reading (names_of plan.now) (F.state files.old)) }
     ensures err { IfErr result (λ why. StopsAt plan.now (F.state files.old) (F.state files.new) why.0 why.1) }
 {
@@ -132,7 +150,7 @@ pub(crate) fn read_files<H: HoldsFile<A>, A: Allocator + Copy, F: InputFiles>(
     let on = RunGenome::begin(alloc, plan, sizes.as_slice(), plan.limit());
     let first = in_slot(Slot::First, read_held(files, plan.first_file(), &on))?;
     let second = read_second(files, plan, &on)?;
-    let fasta = read_fasta(files, plan, &on)?;
+    let fasta = read_fasta(files, plan, &on, &first)?;
     Ok(RunFiles {
         on,
         first,

@@ -1,73 +1,133 @@
 -- A FASTA file that comes in pieces.
-use Rattle.std.proofs.Common.{◌≡◌, ◌∙◌, ◌⊎◌, inl, inr, ℕ, ◌+◌, ◌<◌, ◌≤◌, ◌++◌, List, [], Option, None, Some, Result, Ok, Err, IfOk, length, refl, sym, ap, subst, append_assoc, append-nil, length-append, arith}
+use Rattle.std.proofs.Common.{◌≡◌, ◌∙◌, ◌⊎◌, inl, inr, ℕ, ◌+◌, ◌<◌, ◌≤◌, ◌++◌, List, [], Option, None, Some, Result, Ok, Err, IfOk, IfErr, length, refl, sym, ap, subst, append_assoc, append-nil, length-append, arith}
 use Rattle.std.specs.Option.{option_map, option_transpose}
 use Rattle.iv_text.specs.Genome.{Sequences, AreRanked}
 use Rattle.iv_text.specs.declared.fault.LoadFault.{LoadFault}
 use Rattle.iv_text.specs.declared.fault.LoadCause.TheVariants as cause
 use Rattle.iv_fasta.specs.Fasta.{Bases, fasta_of}
-use Rattle.iv_fasta.specs.FastaReading.{Reading, read_on, only_or_fault, size_of}
+use Rattle.iv_fasta.specs.FastaReading.{Reading, Wanted, only, only_or_fault, read_on, size_of}
 use Rattle.iv_fasta.proofs.SummaryLemmas.{only-all-or-fault}
 use Rattle.iv_run.specs.FastaPieces.{FastaSoFar}
 use Rattle.iv_run.specs.Inside.Shots.{bases_said}
 use Rattle.iv_run.specs.Loading.{IsAnswer}
-use Rattle.iv_run.specs.RunFiles.{IsFasta, IsIfNamed}
+use Rattle.iv_run.specs.RunFiles.{IsEnoughOf, IsFasta, IsIfNamed}
+use Rattle.iv_run.proofs.LoadLemmas.{IsWhy}
 
-module _ (g : Sequences) where
+module _ (wanted : Wanted) (g : Sequences) where
+  -- the bases of the wanted sequences of a file, or its first fault
+  abbrev wanted_of : List ℕ → Result Bases LoadFault
+  wanted_of text = only_or_fault wanted (fasta_of g text)
+
   -- nothing has come
-  pub fasta-begun : (r : Reading) → ((genome : Sequences) (text : List ℕ) → AreRanked genome → read_on genome r text ≡ only_or_fault None (fasta_of genome text)) → size_of r ≡ 1 → FastaSoFar g [] (Ok r)
-  fasta-begun r begun size = (omega (arith, size), λ more ranked. begun g more ranked ∙ only-all-or-fault (fasta_of g more))
+  pub fasta-begun : (r : Reading) → ((genome : Sequences) (text : List ℕ) → AreRanked genome → read_on genome r text ≡ only_or_fault wanted (fasta_of genome text)) → size_of r ≡ 1 → FastaSoFar wanted g [] (Ok r)
+  fasta-begun r begun size = (omega (arith, size), λ more ranked. begun g more ranked)
 
   -- a piece more has come
   module _ (front piece : List ℕ) where
-    pub fasta-more : (r next : Reading) → FastaSoFar g front (Ok r) → size_of next ≤ size_of r + length piece
-        → ((more : List ℕ) → read_on g r (piece ++ more) ≡ read_on g next more) → FastaSoFar g (front ++ piece) (Ok next)
+    pub fasta-more : (r next : Reading) → FastaSoFar wanted g front (Ok r) → size_of next ≤ size_of r + length piece
+        → ((more : List ℕ) → read_on g r (piece ++ more) ≡ read_on g next more) → FastaSoFar wanted g (front ++ piece) (Ok next)
     fasta-more r next known few took = (
       omega (arith, known.0, few, length-append front piece),
-      λ more ranked. sym (took more) ∙ known.1 (piece ++ more) ranked ∙ ap (fasta_of g) (sym (append_assoc front piece more)),
+      λ more ranked. sym (took more) ∙ known.1 (piece ++ more) ranked ∙ ap wanted_of (sym (append_assoc front piece more)),
     )
 
-    pub fasta-fault : (r : Reading) (f : LoadFault) → FastaSoFar g front (Ok r)
-        → (f ≡ record { line = 0; cause = cause.Memory }) ⊎ ((more : List ℕ) → read_on g r (piece ++ more) ≡ Err f) → FastaSoFar g (front ++ piece) (Err f)
+    pub fasta-fault : (r : Reading) (f : LoadFault) → FastaSoFar wanted g front (Ok r)
+        → (f ≡ record { line = 0; cause = cause.Memory }) ⊎ ((more : List ℕ) → read_on g r (piece ++ more) ≡ Err f) → FastaSoFar wanted g (front ++ piece) (Err f)
     fasta-fault r f known (inl memory) = inl memory
-    fasta-fault r f known (inr refused) = inr (λ more ranked. ap (fasta_of g) (append_assoc front piece more) ∙ sym (known.1 (piece ++ more) ranked) ∙ refused more)
+    fasta-fault r f known (inr refused) = inr (λ more ranked. ap wanted_of (append_assoc front piece more) ∙ sym (known.1 (piece ++ more) ranked) ∙ refused more)
 
     -- after a fault it stays
-    pub fasta-still : (f : LoadFault) → FastaSoFar g front (Err f) → FastaSoFar g (front ++ piece) (Err f)
+    pub fasta-still : (f : LoadFault) → FastaSoFar wanted g front (Err f) → FastaSoFar wanted g (front ++ piece) (Err f)
     fasta-still f (inl memory) = inl memory
-    fasta-still f (inr refused) = inr (λ more ranked. ap (fasta_of g) (append_assoc front piece more) ∙ refused (piece ++ more) ranked)
+    fasta-still f (inr refused) = inr (λ more ranked. ap wanted_of (append_assoc front piece more) ∙ refused (piece ++ more) ranked)
 
-  pub fasta-few : (front : List ℕ) (r : Result Reading LoadFault) (n : ℕ) → FastaSoFar g front r → 1 + length front < n → IfOk r (λ d. size_of d < n)
+  pub fasta-few : (front : List ℕ) (r : Result Reading LoadFault) (n : ℕ) → FastaSoFar wanted g front r → 1 + length front < n → IfOk r (λ d. size_of d < n)
   fasta-few front (Ok r) n known few = omega (arith, known.0, few)
   fasta-few front (Err f) n known few = tt
 
   -- so there is room for a piece more
-  pub fasta-room : (front piece : List ℕ) (r : Result Reading LoadFault) (n : ℕ) → FastaSoFar g front r → 1 + length front + length piece < n
+  pub fasta-room : (front piece : List ℕ) (r : Result Reading LoadFault) (n : ℕ) → FastaSoFar wanted g front r → 1 + length front + length piece < n
       → IfOk r (λ d. size_of d + length piece < n)
   fasta-room front piece (Ok r) n known few = omega (arith, known.0, few)
   fasta-room front piece (Err f) n known few = tt
 
   -- all has come
   module _ (text : List ℕ) (ranked : AreRanked g) where
-    pub fasta-file : (r : Reading) (f : Bases) → FastaSoFar g text (Ok r) → read_on g r [] ≡ Ok f → IsFasta g text (Ok f)
-    fasta-file r f known is = ap (fasta_of g) (sym (append-nil text)) ∙ sym (known.1 [] ranked) ∙ is
+    pub fasta-file : (r : Reading) (f : Bases) → FastaSoFar wanted g text (Ok r) → read_on g r [] ≡ Ok f → IsFasta wanted g text (Ok f)
+    fasta-file r f known is = ap wanted_of (sym (append-nil text)) ∙ sym (known.1 [] ranked) ∙ is
 
-    pub fasta-damaged : (f : LoadFault) → FastaSoFar g text (Err f) → IsFasta g text (Err f)
+    pub fasta-damaged : (f : LoadFault) → FastaSoFar wanted g text (Err f) → IsFasta wanted g text (Err f)
     fasta-damaged f (inl memory) = inl memory
-    fasta-damaged f (inr refused) = inr (ap (fasta_of g) (sym (append-nil text)) ∙ refused [] ranked)
+    fasta-damaged f (inr refused) = inr (ap wanted_of (sym (append-nil text)) ∙ refused [] ranked)
 
-    pub fasta-end_fault : (r : Reading) (f : LoadFault) → FastaSoFar g text (Ok r)
-        → (f ≡ record { line = 0; cause = cause.Memory }) ⊎ (read_on g r [] ≡ Err f) → IsFasta g text (Err f)
+    pub fasta-end_fault : (r : Reading) (f : LoadFault) → FastaSoFar wanted g text (Ok r)
+        → (f ≡ record { line = 0; cause = cause.Memory }) ⊎ (read_on g r [] ≡ Err f) → IsFasta wanted g text (Err f)
     fasta-end_fault r f known (inl memory) = inl memory
-    fasta-end_fault r f known (inr refused) = inr (ap (fasta_of g) (sym (append-nil text)) ∙ sym (known.1 [] ranked) ∙ refused)
+    fasta-end_fault r f known (inr refused) = inr (ap wanted_of (sym (append-nil text)) ∙ sym (known.1 [] ranked) ∙ refused)
 
-  -- ---- a FASTA file that may be left out
+-- ---- files that may be left out
 
-  abbrev transposed : (r : Result Bases LoadFault) → Result (Option Bases) LoadFault
-  transposed r = option_transpose (Some r)
+pub answer-if-named : {T : Type 0} (of : List ℕ → Result T LoadFault) (text : Option (List ℕ)) (held : Option (Result T LoadFault)) → IsIfNamed (λ t h. IsAnswer h (of t)) text held
+    → IsAnswer (option_transpose held) (option_transpose (option_map of text))
+answer-if-named {T} of None held none = subst (λ (o : Option (Result T LoadFault)). IsAnswer (option_transpose o) (option_transpose (option_map of None))) (sym none) refl
+answer-if-named {T} of (Some text) None named = absurd named
+answer-if-named {T} of (Some text) (Some (Ok f)) named = ap (λ (r : Result T LoadFault). option_transpose (Some r)) named
+answer-if-named {T} of (Some text) (Some (Err f)) (inl memory) = inl memory
+answer-if-named {T} of (Some text) (Some (Err f)) (inr refused) = inr (ap (λ (r : Result T LoadFault). option_transpose (Some r)) refused)
 
-  pub fasta-if-named : (text : Option (List ℕ)) (held : Option (Result Bases LoadFault)) → IsIfNamed (IsFasta g) text held → IsAnswer (option_transpose held) (bases_said g text)
-  fasta-if-named None held none = subst (λ (o : Option (Result Bases LoadFault)). IsAnswer (option_transpose o) (bases_said g None)) (sym none) refl
-  fasta-if-named (Some text) None named = absurd named
-  fasta-if-named (Some text) (Some (Ok f)) named = ap transposed named
-  fasta-if-named (Some text) (Some (Err f)) (inl memory) = inl memory
-  fasta-if-named (Some text) (Some (Err f)) (inr refused) = inr (ap transposed refused)
+-- a FASTA file of which all sequences are held is the file of its text
+all-of : (g : Sequences) (text : List ℕ) (wanted : Wanted) (r : Result Bases LoadFault) → wanted ≡ None → IsFasta wanted g text r → IsAnswer r (fasta_of g text)
+all-of g text wanted r none is =
+    subst (IsAnswer r) (only-all-or-fault (fasta_of g text)) (subst (λ (w : Wanted). IsFasta w g text r) none is)
+
+pub fasta-parsed : (g : Sequences) (text : List ℕ) (r : Result Bases LoadFault) → IfOk r (λ f. fasta_of g text ≡ Ok f)
+    → IfErr r (λ f. (f ≡ record { line = 0; cause = cause.Memory }) ⊎ (fasta_of g text ≡ Err f)) → IsFasta None g text r
+fasta-parsed g text (Ok f) ok err = only-all-or-fault (fasta_of g text) ∙ ok
+fasta-parsed g text (Err f) ok (inl memory) = inl memory
+fasta-parsed g text (Err f) ok (inr refused) = inr (only-all-or-fault (fasta_of g text) ∙ refused)
+
+pub fasta-if-named : (g : Sequences) (text : Option (List ℕ)) (held : Option (Result Bases LoadFault)) → IsIfNamed (IsEnoughOf (λ wanted. wanted ≡ None) g) text held
+    → IsAnswer (option_transpose held) (bases_said g text)
+fasta-if-named g None held none = answer-if-named (fasta_of g) None held none
+fasta-if-named g (Some text) None named = absurd named
+fasta-if-named g (Some text) (Some r) named = answer-if-named (fasta_of g) (Some text) (Some r) (all-of g text named.0 r named.1 named.2)
+
+-- if all are held, they are enough, if all are
+pub fasta-all : (g : Sequences) (text : Option (List ℕ)) (held : Option (Result Bases LoadFault)) (P : Wanted → Type 0) → P None → IsIfNamed (IsFasta None g) text held → IsIfNamed (IsEnoughOf P g) text held
+fasta-all g None held P all none = none
+fasta-all g (Some text) None P all named = absurd named
+fasta-all g (Some text) (Some r) P all named = (None, all, named)
+
+-- ---- a FASTA file of which wanted sequences are held
+
+-- its fault is that of the whole file
+whole-fault : (wanted : Wanted) (r : Result Bases LoadFault) (f : LoadFault) → only_or_fault wanted r ≡ Err f → r ≡ Err f
+whole-fault wanted (Ok fasta) f is = cc
+whole-fault wanted (Err e) f is = is
+
+whole-bases : (wanted : Wanted) (r : Result Bases LoadFault) (found : Bases) → only_or_fault wanted r ≡ Ok found → (whole : Bases) × (r ≡ Ok whole) × (found ≡ only wanted whole)
+whole-bases wanted (Ok fasta) found is = let same : only wanted fasta ≡ found = cc in (fasta, refl, sym same)
+whole-bases wanted (Err e) found is = cc
+
+module _ (g : Sequences) (P : Wanted → Type 0) where
+  pub wanted-why : (text : Option (List ℕ)) (held : Option (Result Bases LoadFault)) (why : LoadFault) → IsIfNamed (IsEnoughOf P g) text held → option_transpose held ≡ Err why → IsWhy why (bases_said g text)
+  wanted-why None held why named is = absurd (cc (sym (ap (λ (o : Option (Result Bases LoadFault)). option_transpose o) named) ∙ is))
+  wanted-why (Some text) None why named is = absurd named
+  wanted-why (Some text) (Some (Ok found)) why named is = absurd (cc is)
+  wanted-why (Some text) (Some (Err f)) why named is = let same : f ≡ why = cc is in subst (λ (k : LoadFault). IsWhy k (bases_said g (Some text))) same (by named.2)
+    where
+      by : IsWhy f (only_or_fault named.0 (fasta_of g text)) → IsWhy f (bases_said g (Some text))
+      by (inl memory) = inl memory
+      by (inr e) = inr (ap (λ (r : Result Bases LoadFault). option_transpose (Some r)) (whole-fault named.0 (fasta_of g text) f e))
+
+  pub wanted-found : P None → (text : Option (List ℕ)) (held : Option (Result Bases LoadFault)) (found : Option Bases) → IsIfNamed (IsEnoughOf P g) text held → option_transpose held ≡ Ok found
+      → (wanted : Wanted) × P wanted × ((whole : Option Bases) × (bases_said g text ≡ Ok whole) × (found ≡ option_map (only wanted) whole))
+  wanted-found all None held found named is =
+      let none : None ≡ found = cc (sym (ap (λ (o : Option (Result Bases LoadFault)). option_transpose o) named) ∙ is) in
+      (None, all, (None, refl, sym none))
+  wanted-found all (Some text) None found named is = absurd named
+  wanted-found all (Some text) (Some (Err f)) found named is = absurd (cc is)
+  wanted-found all (Some text) (Some (Ok held)) found named is =
+      let whole = whole-bases named.0 (fasta_of g text) held named.2 in
+      let some : Some held ≡ found = cc is in
+      (named.0, named.1, (Some whole.0, ap (λ (r : Result Bases LoadFault). option_transpose (Some r)) whole.1, sym some ∙ ap Some whole.2))

@@ -1,5 +1,5 @@
 -- A BED file that is read for a view of all columns.
-use Rattle.std.proofs.Common.{◌≡◌, ◌∙◌, ◌⊎◌, inl, inr, ℕ, ◌+◌, nat_le, cond, Bool, true, false, ◌++◌, List, [], ◌∷◌, map, All, Option, None, Some, Result, Ok, Err, IfOk, IfSome, length, unwrap_or, refl, sym, ap, subst, append_assoc, append-nil, arith}
+use Rattle.std.proofs.Common.{◌≡◌, ◌∙◌, ◌⊎◌, inl, inr, ℕ, ◌+◌, nat_le, cond, Bool, true, false, ◌++◌, List, [], ◌∷◌, map, All, Option, None, Some, Result, Ok, Err, IfOk, length, unwrap_or, refl, sym, ap, subst, append_assoc, append-nil, arith}
 use Rattle.std.specs.Prelude.{IsOkAnd}
 use Rattle.std.proofs.lemmas.List.{map-append}
 use Rattle.std.proofs.lemmas.List.Elements.{All-nil, All-cons, All-head, All-tail}
@@ -16,11 +16,11 @@ use Rattle.iv_text.specs.declared.fault.LoadCause.{LoadCause}
 use Rattle.iv_text.specs.declared.fault.LoadCause.TheVariants as cause
 use Rattle.iv_text.specs.declared.fault.LoadFault.{LoadFault}
 use Rattle.iv_text.proofs.BedReadingLemmas.{turned, whole-file}
-use Rattle.iv_locators.specs.Inside.Locators.{HasBase, locator_at, row_of}
+use Rattle.iv_locators.specs.Inside.Locators.{HasBase, locator_at, records_at, row_of}
 use Rattle.iv_locators.specs.Locators.{bare}
 use Rattle.iv_locators.specs.declared.locator.Locator.{Locator}
 use Rattle.iv_locators.proofs.ReadingLemmas.{locator-row}
-use Rattle.iv_run.specs.Inside.Held.{AreIntervals, Held, HoldsFront, IsThreeWide}
+use Rattle.iv_run.specs.Inside.Held.{HoldsFront, IsThreeWide}
 use Rattle.iv_run.specs.Pieces.{SaysSoFar}
 use Rattle.iv_run.specs.Loading.{IsAnswer}
 use Rattle.iv_run.specs.RunFiles.{AreProjected}
@@ -192,8 +192,6 @@ held-text g limit front Other text so_far is holds = holds
 held-text g limit front Three text so_far (inl is) holds = absurd (cc is)
 held-text g limit front Three text so_far (inr is) holds = absurd (cc is)
 
--- what is held instead of a text
-pub intervals-fit : (g : Sequences) (held : Held) (said : Result Bed LoadFault) (file : Bed) → AreIntervals g held → held.intervals ≡ Some said → said ≡ Ok file → All (Fits g 3) file.records
-intervals-fit g held said file are is sound =
-    (subst (λ (r : Result Bed LoadFault). IfOk r (λ f. (f.width ≡ 3) × All (Fits g 3) f.records)) sound
-    (subst (λ (o : Option (Result Bed LoadFault)). IfSome o (λ r. IfOk r (λ f. (f.width ≡ 3) × All (Fits g 3) f.records))) is are)).1
+-- locators of three columns are the records of a file
+pub three-file : (file : Bed) (ps : List Locator) → file.width ≡ 3 → map (row_of 3 []) ps ≡ file.records → record { width = 3; records = records_at 3 [] ps } ≡ file
+three-file file ps three are = λ i. record { width = sym three i; records = are i }

@@ -5,5 +5,6 @@ mod IntervalsAlone
 pub mod PieceLemmas
 pub mod IntervalsLemmas
 mod HeldLemmas
+mod WantedLemmas
 mod RunFilesLemmas
 pub mod FastaPieceLemmas

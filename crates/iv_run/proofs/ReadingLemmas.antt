@@ -62,6 +62,10 @@ StopsReading-piece a b c limit front piece n fault before after why =
     cause_of TooLong old new most count sum projected same why = (projected, subst (λ (n : ℕ). most < n) (sym same) why)
     cause_of Memory old new most count sum projected same why = (projected, subst (λ (n : ℕ). n ≤ most) (sym same) why)
 
+-- an allocation failed before the first pull
+pub StopsReading-at_once : (s : SourceState) (limit : ℕ) → StopsReading s s limit Memory
+StopsReading-at_once s limit = record { front = []; given = Consumes-nil s.remaining; cause = (refl, omega arith) }
+
 -- a front of the text has no more bytes than the text
 front-few : (old new : Option (List ℕ)) (front text : List ℕ) → old ≡ Some text → Consumes old new front → length front ≤ length text
 front-few old new front text known given = by new (subst (λ (o : Option (List ℕ)). Consumes o new front) known given)

@@ -11,10 +11,10 @@ use Rattle.iv_text.specs.declared.fault.LoadCause.TheVariants as cause
 use Rattle.iv_fasta.specs.Fasta.{Bases}
 use Rattle.iv_args.specs.declared.plan.Slot.{Slot}
 use Rattle.iv_args.specs.declared.plan.Slot.TheVariants as slot
-use Rattle.iv_run.specs.Inside.Held.{Held, IsHeld}
 use Rattle.iv_run.specs.Inside.Shots.{bases_said, second_of}
 use Rattle.iv_run.specs.Loading.{IsAnswer, IsReport, Parsed, damage_of, parsed}
-use Rattle.iv_run.specs.RunFiles.{AreOf, AreProjected, FilesRead, GenomeRead, IsGenomeBy, IsGenomeOf, IsIfNamed, IsOn, IsParsed, ReportsProjected}
+use Rattle.iv_run.specs.RunFiles.{AreAll, AreOf, AreProjected, FilesRead, GenomeRead, IsGenomeBy, IsGenomeOf, IsIfNamed, IsOn, IsParsed}
+use Rattle.iv_run.specs.Inside.RunFiles.{ReportsProjected}
 use Rattle.iv_run.specs.declared.fault.CliFault.{CliFault}
 use Rattle.iv_run.specs.declared.fault.CliFault.TheVariants.{Memory}
 use Rattle.iv_run.proofs.LoadLemmas.{IsWhy, bases-damaged, first-damaged, kept-sound, kept-why, past-second, second-damaged, with_bases}
@@ -23,6 +23,11 @@ use Rattle.iv_run.proofs.LoadLemmas.{IsWhy, bases-damaged, first-damaged, kept-s
 pub answer-of : {T : Type 0} (r said : Result T LoadFault) → IfOk r (λ value. said ≡ Ok value) → IfErr r (λ f. (f ≡ record { line = 0; cause = cause.Memory }) ⊎ (said ≡ Err f)) → IsAnswer r said
 answer-of (Ok value) said ok err = ok
 answer-of (Err f) said ok err = err
+
+-- what follows from the value of a call holds of it
+pub ok-then : {T E : Type 0} (P Q : T → Type 0) (r : Result T E) → ((value : T) → P value → Q value) → IfOk r P → IfOk r Q
+ok-then P Q (Ok value) leads p = leads value p
+ok-then P Q (Err e) leads p = tt
 
 -- a file of a slot is damaged, and this is the report
 abbrev pub IsDamage : {T : Type 0} → Slot → Result T LoadFault → CliFault → Type 0
@@ -64,29 +69,6 @@ module _ (width : ℕ) (sizes text : List ℕ) (limit : ℕ) (g : Sequences) (ge
       pub report-files : (found : Option Bases) → bases_said g bases ≡ Ok found
           → parsed width sizes text other bases limit ≡ Ok (record { genome = g; first = bed; second = second; bases = found; limit = limit })
       report-files found is = past-second width sizes text limit g genome bed sound other second whole bases ∙ ap (with_bases g bed second limit) is
-
--- what is held is that of a second file, or there is none
-module _ (g : Sequences) (width limit : ℕ) where
-  pub second-none : (text : Option (List ℕ)) (held : Option Held) → held ≡ None → IsIfNamed (IsHeld g width limit) text held → second_of g width limit text ≡ Ok None
-  second-none None held none is = refl
-  second-none (Some text) None none is = absurd is
-  second-none (Some text) (Some held) none is = absurd (cc none)
-
-  module _ (held : Held) (said : Result Bed LoadFault) (says : (text : List ℕ) → IsHeld g width limit text held → IsAnswer said (bed_of g width limit text)) where
-    pub second-some : (text : Option (List ℕ)) (bed : Bed) → said ≡ Ok bed → IsIfNamed (IsHeld g width limit) text (Some held) → second_of g width limit text ≡ Ok (Some bed)
-    second-some None bed is names = absurd (cc names)
-    second-some (Some text) bed is names =
-        let sound : bed_of g width limit text ≡ Ok bed = subst (λ (r : Result Bed LoadFault). IsAnswer r (bed_of g width limit text)) is (says text names) in
-        ap (λ (r : Result Bed LoadFault). option_transpose (Some r)) sound
-
-    pub second-fault : (text : Option (List ℕ)) (f : LoadFault) → said ≡ Err f → IsIfNamed (IsHeld g width limit) text (Some held) → IsAnswer {T = Option Bed} (Err f) (second_of g width limit text)
-    second-fault None f is names = absurd (cc names)
-    second-fault (Some text) f is names = by (bed_of g width limit text) (subst (λ (r : Result Bed LoadFault). IsAnswer r (bed_of g width limit text)) is (says text names)) refl
-      where
-        by : (r : Result Bed LoadFault) → IsAnswer {T = Bed} (Err f) r → bed_of g width limit text ≡ r → IsAnswer {T = Option Bed} (Err f) (second_of g width limit (Some text))
-        by r (inl memory) e = inl memory
-        by (Ok bed) (inr wrong) e = absurd (cc wrong)
-        by (Err k) (inr same) e = let fault : k ≡ f = cc same in inr (ap (λ (r : Result Bed LoadFault). option_transpose (Some r)) e ∙ ap Err fault)
 
 -- what is known of the genome file
 module _ (sizes : List ℕ) (known : GenomeRead) (says : IsGenomeOf sizes known) where
@@ -138,7 +120,7 @@ module _ (projected : RecordValue → RecordValue) (g : Sequences) (width limit 
       (Some bed.0, ap (λ (r : Result Bed LoadFault). option_transpose (Some r)) bed.1, sym some ∙ ap Some bed.2)
 
 -- all files were read, and are those of these bytes
-module _ (projected : RecordValue → RecordValue) (sizes text : List ℕ) (other bases : Option (List ℕ)) (files : FilesRead (Result Bed LoadFault)) (are : AreOf (IsParsed projected) sizes text other bases files) where
+module _ (projected : RecordValue → RecordValue) (sizes text : List ℕ) (other bases : Option (List ℕ)) (files : FilesRead (Result Bed LoadFault)) (are : AreOf (IsParsed projected) AreAll sizes text other bases files) where
   abbrev on : GenomeRead
   on = files.on
 

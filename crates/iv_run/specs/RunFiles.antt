@@ -1,14 +1,14 @@
 -- The files of a run once they are read.
 use Rattle.std.specs.Prelude.{◌≡◌, ◌⊎◌, ℕ, ◌≤◌, List, Option, None, Some, All, length, Result, Ok, Err, IfOk}
-use Rattle.std.specs.Option.{option_map}
 use Rattle.iv_text.specs.BedFile.{Bed}
 use Rattle.iv_text.specs.Genome.{Sequences}
 use Rattle.iv_text.specs.GenomeFile.{genome_of}
-use Rattle.iv_text.specs.BedReading.{IsProjected, projected_bed, projected_bed_of}
+use Rattle.iv_text.specs.BedReading.{IsProjected, projected_bed_of}
 use Rattle.iv_text.specs.RecordValue.{RecordValue}
 use Rattle.iv_text.specs.declared.fault.LoadFault.{LoadFault}
 use Rattle.iv_fasta.specs.Fasta.{Bases, fasta_of}
-use Rattle.iv_run.specs.Loading.{IsAnswer, Parsed, parsed}
+use Rattle.iv_fasta.specs.FastaReading.{Wanted, only_or_fault}
+use Rattle.iv_run.specs.Loading.{IsAnswer, parsed}
 use Rattle.iv_run.specs.declared.fault.CliFault.{CliFault}
 use Rattle.iv_run.specs.declared.fault.CliFault.TheVariants.{Memory}
 
@@ -43,16 +43,25 @@ IsIfNamed is_of None held = held ≡ None
 IsIfNamed is_of (Some text) None = ⊥
 IsIfNamed is_of (Some text) (Some held) = is_of text held
 
--- this is the FASTA file of a text on this genome, or its first fault, or out of memory
-abbrev pub IsFasta : Sequences → List ℕ → Result Bases LoadFault → Type 0
-IsFasta g text file = IsAnswer file (fasta_of g text)
+-- these are the bases of the wanted sequences of the FASTA file of a text on this genome, or its first fault, or out of memory
+abbrev pub IsFasta : Wanted → Sequences → List ℕ → Result Bases LoadFault → Type 0
+IsFasta wanted g text file = IsAnswer file (only_or_fault wanted (fasta_of g text))
+
+-- so they are, and so many are wanted as are enough
+abbrev pub IsEnoughOf : (Wanted → Type 0) → Sequences → List ℕ → Result Bases LoadFault → Type 0
+IsEnoughOf is_enough g text file = (wanted : Wanted) × is_enough wanted × IsFasta wanted g text file
+
+-- beside a first file of which a session or a caller may ask anything only all sequences are enough
+abbrev pub AreAll : {H : Type 0} → Wanted → H → Type 0
+AreAll wanted first = wanted ≡ None
 
 -- the files are those of these bytes, if what is held of a BED file on a genome, of this width without a record and with at most so many
--- records, is so of its text
-abbrev pub AreOf : {H : Type 0} → (Sequences → ℕ → ℕ → List ℕ → H → Type 0) → List ℕ → List ℕ → Option (List ℕ) → Option (List ℕ) → FilesRead H → Type 0
-AreOf is_of sizes first second fasta_text files =
+-- records, is so of its text, and if beside such a first file it is enough to hold these sequences of a FASTA file
+abbrev pub AreOf : {H : Type 0} → (Sequences → ℕ → ℕ → List ℕ → H → Type 0) → (Wanted → H → Type 0) → List ℕ → List ℕ → Option (List ℕ) → Option (List ℕ) → FilesRead H → Type 0
+AreOf is_of is_enough sizes first second fasta_text files =
     IsGenomeOf sizes files.on × is_of files.on.genome files.on.width files.on.limit first files.first
-    × IsIfNamed (is_of files.on.genome files.on.width files.on.limit) second files.second × IsIfNamed (IsFasta files.on.genome) fasta_text files.fasta
+    × IsIfNamed (is_of files.on.genome files.on.width files.on.limit) second files.second
+    × IsIfNamed (IsEnoughOf (λ wanted. is_enough wanted files.first) files.on.genome) fasta_text files.fasta
 
 -- the records are projections of records of the file's width on the genome, and they are not more than the limit
 pub record AreProjected (projected : RecordValue → RecordValue) (g : Sequences) (limit : ℕ) (file : Bed) : Type 0 where
@@ -66,12 +75,3 @@ IsOn projected g limit held = IfOk held (AreProjected projected g limit)
 -- this is the BED file of a text with its records projected, or its first fault, or out of memory
 abbrev pub IsParsed : (RecordValue → RecordValue) → Sequences → ℕ → ℕ → List ℕ → Result Bed LoadFault → Type 0
 IsParsed projected g width limit text file = IsAnswer file (projected_bed_of projected g width limit text)
-
--- files with their records projected
-abbrev pub projected_files : (RecordValue → RecordValue) → Parsed → Parsed
-projected_files projected files = record files { first = projected_bed projected files.first; second = option_map (projected_bed projected) files.second }
-
--- a call answers with files, with their records projected; or it reports the fault of the first damaged one, or out of memory
-abbrev pub ReportsProjected : (RecordValue → RecordValue) → Result Parsed CliFault → Result Parsed CliFault → Type 0
-ReportsProjected projected (Ok files) said = (whole : Parsed) × (said ≡ Ok whole) × (files ≡ projected_files projected whole)
-ReportsProjected projected (Err k) said = (k ≡ Memory) ⊎ (said ≡ Err k)

@@ -1,113 +1,36 @@
 //! A BED file that is read for a view of all columns: its text is held only if its records have more columns than three.
-ghost use Rattle.std.specs.Prelude.{◌≡◌, ◌<◌, ◌+◌, ◌^◌, ◌++◌, ℕ, List, [], All, None, Some, length, IfOk, IfErr, IsOkAnd};
+ghost use Rattle.std.specs.Prelude.{◌≡◌, ◌<◌, ◌+◌, ◌^◌, ◌++◌, ℕ, List, [], None, Some, length, IfOk, IfErr, IsOkAnd};
+ghost use Rattle.std.specs.Option.{option_map};
 ghost use Rattle.std.proofs.Common.{arith};
-ghost use Rattle.iv_text.specs.BedFile.{bed_of};
+ghost use Rattle.iv_text.specs.BedReading.{AreSound, size_of};
 ghost use Rattle.iv_text.specs.Genome.{Sequences};
-ghost use Rattle.iv_text.specs.Read.{Fits};
 ghost use Rattle.iv_text.specs.Widths.{IsWidth};
+ghost use Rattle.iv_fasta.specs.FastaReading.{Wanted};
 ghost use Rattle.iv_locators.specs.Locators.{bare};
-ghost use Rattle.iv_run.specs.Loading.{IsAnswer};
 ghost use Rattle.iv_run.specs.declared.fault.FileFault.TheVariants as fault;
-ghost use Rattle.iv_run.specs.Inside.Held.{AreIntervals, HoldsFront, IsHeld};
+ghost use Rattle.iv_run.specs.Inside.Held.{FitsOn, HoldsFront, IsEnough, IsHeld, IsThreeWide};
 ghost use Rattle.iv_run.specs.Pieces.{SaysSoFar};
 
 use crate::fault::FileFault;
-use crate::input_files::{HoldsFile, ParsedFile, finish, take_next};
-use iv_locators::{BedText, Locator};
+use crate::input_files::{HoldsFile, TakesPieces, finish, take_next};
+use iv_locators::{BedText, LocatedBed, Locator};
 use iv_text::{BedReader, Genome, LoadFault};
-use std::alloc::{Allocator, Global};
-use std::marker::Model;
+use std::alloc::{AllocError, Allocator};
 
-/// A BED file that was read for a view that needs the columns of records: its text; or, if its first record has three columns,
-/// its records, whose intervals are all of them, or its first fault.
-#[derive(Drop)]
-pub struct HeldBed<A: Allocator + Copy = Global> {
-    // Empty if there are intervals.
-    text: Vec<u8, A>,
-    intervals: Option<Result<ParsedFile<Locator, A>, LoadFault>>,
-}
+/// A BED file that was read for a view that needs the columns of records: its records, with its text unless they have three columns; or
+/// its first fault.
+pub type HeldBed<A> = Result<LocatedBed<A>, LoadFault>;
 
-impl<A: Allocator + Copy> Model for HeldBed<A> {
-    ghost use Rattle.std.specs.Prelude.{◌<◌, ◌^◌, length};
-    ghost use Rattle.iv_run.specs.Inside.Held.{Held};
-
-    ghost Value = { Held };
-
-    ghost view = { λ h. record { text = h.text.items; intervals = h.intervals } };
-
-    ghost invariant = { λ h. length h.text.items < 2 ^ 32 };
-}
-
-/// A BED file that was read, its text lent.
-#[derive(Drop)]
-pub(crate) struct LentBed<'t, A: Allocator + Copy = Global> {
-    text: &'t [u8],
-    intervals: Option<Result<ParsedFile<Locator, A>, LoadFault>>,
-}
-
-impl<'t, A: Allocator + Copy> Model for LentBed<'t, A> {
-    ghost use Rattle.std.specs.Prelude.{◌<◌, ◌^◌, length};
-    ghost use Rattle.iv_run.specs.Inside.Held.{Held};
-
-    ghost Value = { Held };
-
-    ghost view = { λ h. record { text = h.text.now; intervals = h.intervals } };
-
-    ghost invariant = { λ h. length h.text.now < 2 ^ 32 };
-}
-
-impl<A: Allocator + Copy> HeldBed<A> {
-    /// The file of this text.
-    fn of_text(text: Vec<u8, A>) -> HeldBed<A>
-        requires { length text.items < 2 ^ 32 }
-        ensures { result ≡ record { text = text.items; intervals = None } }
-    {
-        HeldBed {
-            text,
-            intervals: None,
-        }
-    }
-
-    /// Lends the text, and takes the intervals out.
-    pub(crate) fn lend(&mut self) -> LentBed<'_, A>
-        ensures { result ≡ self.old }
-    {
-        LentBed {
-            text: self.text.as_slice(),
-            intervals: self.intervals.take(),
-        }
-    }
-}
-
-impl<'t, A: Allocator + Copy> LentBed<'t, A> {
-    /// The file of this text.
-    pub(crate) fn of_text(text: &'t [u8]) -> LentBed<'t, A>
-        requires { length text.now < 2 ^ 32 }
-        ensures { result ≡ record { text = text.now; intervals = None } }
-    {
-        LentBed {
-            text,
-            intervals: None,
-        }
-    }
-
-    /// The records of the file, or its first fault. A file without a record has the width that is handed in.
-    pub(crate) fn records(
-        self,
-        alloc: A,
-        genome: &Genome<A>,
-        empty_width: u8,
-        limit: u32,
-    ) -> Result<BedText<'t, A>, LoadFault>
-        requires width { IsWidth empty_width }
-        requires intervals { AreIntervals genome.now self }
-        ensures says { (text : List ℕ) → IsHeld genome.now empty_width limit text self.entry → IsAnswer result (bed_of genome.now empty_width limit text) }
-        ensures fit { IfOk result (λ b. All (Fits genome.now b.width) b.records) }
-    {
-        match self.intervals {
-            None => BedText::parse(alloc, genome, empty_width, limit, self.text),
-            Some(said) => Ok(BedText::of_intervals(said?.into_locators()?)),
-        }
+/// Lends the text of a file to its records, which are taken out.
+pub(crate) fn lend<A: Allocator + Copy>(
+    held: &mut HeldBed<A>,
+    alloc: A,
+) -> Result<BedText<'_, A>, LoadFault>
+    ensures { result ≡ held.old }
+{
+    match held {
+        Ok(file) => Ok(file.lend(alloc)),
+        Err(fault) => Err(*fault),
     }
 }
 
@@ -175,40 +98,38 @@ impl<A: Allocator + Copy> Holding<A> {
     }
 }
 
-impl<A: Allocator + Copy> HoldsFile<A> for HeldBed<A> {
-    type Reading = Holding<A>;
+/// The records of a file of three columns, or its first fault, once all bytes have come.
+fn intervals_of<A: Allocator + Copy>(
+    alloc: A,
+    so_far: Result<BedReader<Locator, A>, LoadFault>,
+    genome: &Genome<A>,
+    empty_width: u8,
+    limit: u32,
+) -> HeldBed<A>
+    requires width { IsWidth empty_width }
+    requires known { (front : List ℕ) × SaysSoFar bare genome.now limit front so_far × IsThreeWide genome.now limit front × (length front < 2 ^ 32) }
+    ensures says { (text : List ℕ) → SaysSoFar bare genome.now limit text so_far → IsThreeWide genome.now limit text → IsHeld genome.now empty_width limit text result }
+    ensures fits { FitsOn genome.now result }
+{
+    let file = finish(so_far, genome, empty_width, limit)?;
+    let locators = file.into_locators()?;
+    Ok(LocatedBed::of_intervals(alloc, locators))
+}
 
-    ghost holds_front = { λ genome limit front reading. HoldsFront genome limit front reading.columns reading.text.items reading.so_far };
-
-    ghost is_of = { IsHeld };
-
-    ghost is_on = { λ genome limit held. AreIntervals genome held };
+impl<A: Allocator + Copy> TakesPieces<A> for Holding<A> {
+    ghost has_taken = { λ wanted genome limit front reading. HoldsFront genome limit front reading.columns reading.text.items reading.so_far };
 
     ghost bound = { 2 ^ 32 };
 
     ghost bound_is = { (omega arith, omega arith) };
 
-    fn begin(alloc: A) -> Self::Reading {
-        Holding {
-            alloc,
-            columns: Columns::Unknown,
-            text: Vec::new(alloc),
-            so_far: Ok(BedReader::new(alloc)),
-        }
-    }
-
-    fn take(
-        reading: Self::Reading,
-        genome: &Genome<A>,
-        limit: u32,
-        piece: &[u8],
-    ) -> Result<Self::Reading, FileFault> {
+    fn take(self, genome: &Genome<A>, limit: u32, piece: &[u8]) -> Result<Self, FileFault> {
         let Holding {
             alloc,
             columns,
             mut text,
             so_far,
-        } = reading;
+        } = self;
         match columns {
             Columns::Unknown => {
                 text.extend_from_slice(piece)?;
@@ -232,6 +153,25 @@ impl<A: Allocator + Copy> HoldsFile<A> for HeldBed<A> {
             }
         }
     }
+}
+
+impl<A: Allocator + Copy> HoldsFile<A> for HeldBed<A> {
+    type Reading = Holding<A>;
+
+    ghost is_of = { IsHeld };
+
+    ghost is_on = { λ genome limit held. FitsOn genome held };
+
+    ghost is_enough = { IsEnough };
+
+    fn begin(alloc: A) -> Self::Reading {
+        Holding {
+            alloc,
+            columns: Columns::Unknown,
+            text: Vec::new(alloc),
+            so_far: Ok(BedReader::new(alloc)),
+        }
+    }
 
     fn finish(reading: Self::Reading, genome: &Genome<A>, empty_width: u8, limit: u32) -> Self {
         let Holding {
@@ -241,14 +181,18 @@ impl<A: Allocator + Copy> HoldsFile<A> for HeldBed<A> {
             so_far,
         } = reading;
         match columns {
-            Columns::Three => HeldBed {
-                text: Vec::new(alloc),
-                intervals: Some(finish(so_far, genome, empty_width, limit)),
-            },
+            Columns::Three => intervals_of(alloc, so_far, genome, empty_width, limit),
             Columns::Unknown | Columns::Other => {
                 drop(so_far);
-                HeldBed::of_text(text)
+                LocatedBed::parse(alloc, genome, empty_width, limit, text)
             }
+        }
+    }
+
+    fn wanted(&self, alloc: A) -> Result<Option<Vec<bool, A>>, AllocError> {
+        match self {
+            Ok(file) => Ok(Some(file.ranks(alloc)?)),
+            Err(_) => Ok(Some(Vec::new(alloc))),
         }
     }
 }

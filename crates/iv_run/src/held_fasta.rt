@@ -1,12 +1,17 @@
 //! What is held of a FASTA file while it is read, and then: its bases, or its first fault.
-ghost use Rattle.std.specs.Prelude.{◌≡◌, ◌<◌, ◌≤◌, ◌+◌, ◌^◌, ◌++◌, ℕ, List, length, IfOk};
+ghost use Rattle.std.specs.Prelude.{◌≡◌, ◌<◌, ◌≤◌, ◌+◌, ◌^◌, ◌++◌, ℕ, List, length, IfOk, IfErr};
+ghost use Rattle.std.specs.Option.{option_map};
 ghost use Rattle.std.proofs.Common.{arith};
-ghost use Rattle.iv_fasta.specs.FastaReading.{size_of};
+ghost use Rattle.iv_text.specs.Genome.{Sequences};
+ghost use Rattle.iv_fasta.specs.FastaReading.{Wanted, size_of};
+ghost use Rattle.iv_run.specs.declared.fault.FileFault.TheVariants as fault;
+ghost use Rattle.iv_run.specs.Files.{ReadsWhole, StopsReading};
 ghost use Rattle.iv_run.specs.FastaPieces.{FastaSoFar};
 ghost use Rattle.iv_run.specs.RunFiles.{IsFasta};
 
 use crate::fault::FileFault;
-use crate::input_files::HoldsFile;
+use crate::input_files::{TakesPieces, read_pieces};
+use iv_bytes::Source;
 use iv_fasta::{Fasta, FastaReader};
 use iv_text::{Genome, LoadFault};
 use std::alloc::Allocator;
@@ -21,7 +26,7 @@ fn take_bytes<A: Allocator + Copy>(
     piece: &[u8],
 ) -> Result<FastaReader<A>, LoadFault>
     requires few { IfOk so_far (λ r. size_of r + length piece.now < 2 ^ 64) }
-    ensures { (front : List ℕ) → FastaSoFar genome.now front so_far → FastaSoFar genome.now (front ++ piece.now) result }
+    ensures { (wanted : Wanted) (front : List ℕ) → FastaSoFar wanted genome.now front so_far → FastaSoFar wanted genome.now (front ++ piece.now) result }
 {
     let mut reader = so_far?;
     reader.take_piece(genome, piece)?;
@@ -34,7 +39,7 @@ fn finish_fasta<A: Allocator + Copy>(
     so_far: Result<FastaReader<A>, LoadFault>,
 ) -> HeldFasta<A>
     requires few { IfOk so_far (λ r. size_of r < 2 ^ 64) }
-    ensures { (text : List ℕ) → FastaSoFar genome.now text so_far → IsFasta genome.now text result }
+    ensures { (wanted : Wanted) (text : List ℕ) → FastaSoFar wanted genome.now text so_far → IsFasta wanted genome.now text result }
 {
     genome.lemma_of_names();
     let reader = so_far?;
@@ -42,33 +47,32 @@ fn finish_fasta<A: Allocator + Copy>(
     Ok(fasta)
 }
 
-impl<A: Allocator + Copy> HoldsFile<A> for HeldFasta<A> {
-    type Reading = Result<FastaReader<A>, LoadFault>;
-
-    ghost holds_front = { λ genome limit front reading. FastaSoFar genome front reading };
-
-    ghost is_of = { λ genome width limit text held. IsFasta genome text held };
-
-    ghost is_on = { λ genome limit held. Unit {0} };
+impl<A: Allocator + Copy> TakesPieces<A> for Result<FastaReader<A>, LoadFault> {
+    ghost has_taken = { λ wanted genome limit front reading. FastaSoFar wanted genome front reading };
 
     ghost bound = { 2 ^ 63 };
 
     ghost bound_is = { (omega arith, omega arith) };
 
-    fn begin(alloc: A) -> Self::Reading {
-        Ok(FastaReader::new(alloc, None))
+    fn take(self, genome: &Genome<A>, _limit: u32, piece: &[u8]) -> Result<Self, FileFault> {
+        Ok(take_bytes(genome, self, piece))
     }
+}
 
-    fn take(
-        reading: Self::Reading,
-        genome: &Genome<A>,
-        _limit: u32,
-        piece: &[u8],
-    ) -> Result<Self::Reading, FileFault> {
-        Ok(take_bytes(genome, reading, piece))
-    }
-
-    fn finish(reading: Self::Reading, genome: &Genome<A>, _empty_width: u8, _limit: u32) -> Self {
-        finish_fasta(genome, reading)
-    }
+/// A FASTA file on this genome, read from a source to its end, at most `most` bytes: the bases of those sequences that are wanted, by a
+/// list of ranks or without one.
+pub(crate) fn read_fasta<A: Allocator + Copy, R: Source>(
+    alloc: A,
+    genome: &Genome<A>,
+    wanted: Option<Vec<bool, A>>,
+    source: &mut R,
+    most: u64,
+) -> Result<HeldFasta<A>, FileFault>
+    requires { most < 2 ^ 63 }
+    ensures ok { IfOk result (λ held. (text : List ℕ) × ReadsWhole (R.state source.old) (R.state source.new) most text × IsFasta (option_map (λ ranks. ranks.items) wanted) genome.now text held) }
+    ensures err { IfErr result (λ why. StopsReading (R.state source.old) (R.state source.new) most why) }
+{
+    let begun: Result<FastaReader<A>, LoadFault> = Ok(FastaReader::new(alloc, wanted));
+    let all = read_pieces(begun, genome, 0, source, most)?;
+    Ok(finish_fasta(genome, all))
 }

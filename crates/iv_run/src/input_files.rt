@@ -1,23 +1,25 @@
-//! Files that are read from a source to their ends: all their bytes, or what is held of a BED file.
-ghost use Rattle.std.specs.Prelude.{◌≡◌, ◌↔◌, ◌<◌, ◌≤◌, ◌+◌, ◌^◌, ◌++◌, ℕ, List, [], false, length, map, Some, Result, IfOk, IfErr, OnOk};
+//! Files that are read from a source to their ends: all their bytes, or what is held of a file.
+ghost use Rattle.std.specs.Prelude.{◌≡◌, ◌↔◌, ◌<◌, ◌≤◌, ◌+◌, ◌^◌, ◌++◌, ℕ, List, [], false, length, map, None, Some, Result, IfOk, IfErr, OnOk};
+ghost use Rattle.std.specs.Option.{option_map};
 ghost use Rattle.std.proofs.Common.{arith};
 ghost use Rattle.iv_bytes.specs.Sources.{SourceState};
 ghost use Rattle.iv_text.specs.BedReading.{AreSound, size_of};
 ghost use Rattle.iv_text.specs.Genome.{Sequences};
 ghost use Rattle.iv_text.specs.Widths.{IsWidth};
+ghost use Rattle.iv_fasta.specs.FastaReading.{Wanted};
 ghost use Rattle.iv_locators.specs.Inside.Locators.{row_of};
 ghost use Rattle.iv_locators.specs.Inside.Spans.{span_records};
 ghost use Rattle.iv_run.specs.Files.{ReadsWhole, StopsReading};
 ghost use Rattle.iv_run.specs.Inside.Files.{EndsReading, HadMemory, IsPieceFault, IsTooLong};
 ghost use Rattle.iv_run.specs.Pieces.{SaysSoFar};
-ghost use Rattle.iv_run.specs.RunFiles.{IsOn, IsParsed};
+ghost use Rattle.iv_run.specs.RunFiles.{AreAll, IsOn, IsParsed};
 ghost use Rattle.iv_run.specs.declared.fault.FileFault.{FileFault};
 ghost use Rattle.iv_run.specs.declared.fault.FileFault.TheVariants as fault;
 
 use crate::fault::FileFault;
 use iv_bytes::Source;
 use iv_locators::{Locator, Span};
-use iv_text::{Batches, BedBatches, BedReader, FromRecord, Genome, LoadFault, Record};
+use iv_text::{BedBatches, BedReader, FromRecord, Genome, LoadFault, Record};
 use std::alloc::{AllocError, Allocator, Global};
 use std::marker::Model;
 
@@ -66,49 +68,87 @@ pub fn too_long_above_the_limit()
     ensures { (old new : SourceState) (limit : ℕ) (text : List ℕ) (ended : Result (List ℕ) FileFault) → old.remaining ≡ Some text → EndsReading old new limit ended → new.failed ≡ false → HadMemory ended → IsTooLong ended ↔ (limit < length text) }
 {}
 
-/// What is held of a file that is read in pieces: of a BED file its records or its text, of a FASTA file its bases.
+/// What takes a file in pieces, from its front to its end.
+pub trait TakesPieces<A: Allocator + Copy>: Sized + Drop {
+    /// It is so once these bytes were taken of a file on this genome. A BED file may have so many records; of a FASTA file these
+    /// sequences are wanted.
+    ghost has_taken: { Wanted → Sequences → ℕ → List ℕ → Self → Type 0 };
+    /// A file has fewer bytes than this.
+    ghost bound: { ℕ };
+
+    /// Takes the next bytes.
+    fn take(self, genome: &Genome<A>, limit: u32, piece: &[u8]) -> Result<Self, FileFault>
+        requires { (wanted : Wanted) × (front : List ℕ) × has_taken wanted genome.now limit front self × (length front + length piece.now < bound) }
+        ensures ok { IfOk result (λ next. (wanted : Wanted) (front : List ℕ) → has_taken wanted genome.now limit front self → has_taken wanted genome.now limit (front ++ piece.now) next) }
+        ensures err { IfErr result (λ why. why ≡ fault.Memory) };
+
+    /// Files of up to 4 GiB are taken.
+    ghost bound_is: { (2 ^ 32 ≤ bound) × (bound ≤ 2 ^ 63) };
+}
+
+/// What is held of a BED file that is read in pieces: its records, some of their columns, or its text.
 pub trait HoldsFile<A: Allocator + Copy>: Sized + Drop {
     /// What is held of a file of which some bytes were read.
-    type Reading: Drop;
+    type Reading: TakesPieces<A> + Drop;
 
-    /// It is held so once these bytes are read of a file on this genome, which may have so many records.
-    ghost holds_front: { Sequences → ℕ → List ℕ → Self.Reading → Type 0 };
     /// It is held so of a whole text on this genome. Without a record it has this width, and it may have so many records.
     ghost is_of: { Sequences → ℕ → ℕ → List ℕ → Self → Type 0 };
     /// The records that are held are on this genome, and not more than so many.
     ghost is_on: { Sequences → ℕ → Self → Type 0 };
-    /// A file has fewer bytes than this.
-    ghost bound: { ℕ };
+    /// Beside this first file it is enough to hold the bases of these sequences of a FASTA file.
+    ghost is_enough: { Wanted → Self → Type 0 };
 
     /// No byte was read.
     fn begin(alloc: A) -> Self::Reading
-        ensures { (genome : Sequences) (limit : ℕ) → holds_front genome limit [] result };
-
-    /// Takes the next bytes.
-    fn take(
-        reading: Self::Reading,
-        genome: &Genome<A>,
-        limit: u32,
-        piece: &[u8],
-    ) -> Result<Self::Reading, FileFault>
-        requires { (front : List ℕ) × holds_front genome.now limit front reading × (length front + length piece.now < bound) }
-        ensures ok { IfOk result (λ next. (front : List ℕ) → holds_front genome.now limit front reading → holds_front genome.now limit (front ++ piece.now) next) }
-        ensures err { IfErr result (λ why. why ≡ fault.Memory) };
+        ensures { (genome : Sequences) (limit : ℕ) → Self.Reading.has_taken None genome limit [] result };
 
     /// What is held of the whole file, once all its bytes have come. Without a record it has the width that is handed in.
     fn finish(reading: Self::Reading, genome: &Genome<A>, empty_width: u8, limit: u32) -> Self
         requires width { IsWidth empty_width }
-        requires held { (front : List ℕ) × holds_front genome.now limit front reading × (length front < bound) }
-        ensures says { (text : List ℕ) → holds_front genome.now limit text reading → is_of genome.now empty_width limit text result }
+        requires held { (front : List ℕ) × Self.Reading.has_taken None genome.now limit front reading × (length front < Self.Reading.bound) }
+        ensures says { (text : List ℕ) → Self.Reading.has_taken None genome.now limit text reading → is_of genome.now empty_width limit text result }
         ensures is_on { is_on genome.now limit result };
 
-    /// Files of up to 4 GiB are held.
-    ghost bound_is: { (2 ^ 32 ≤ bound) × (bound ≤ 2 ^ 63) };
+    /// Which sequences of a FASTA file have to be held beside this first file: those of the ranks at which a list says so, or without a
+    /// list all.
+    fn wanted(&self, alloc: A) -> Result<Option<Vec<bool, A>>, AllocError>
+        ensures { IfOk result (λ wanted. is_enough (option_map (λ ranks. ranks.items) wanted) self.now) };
 }
 
-/// A file on this genome, read from a source to its end, at most `most` bytes. A BED file may have at most `limit` records.
+/// What has taken a file on this genome, read from a source to its end, at most `most` bytes. A BED file may have at most `limit`
+/// records.
 ///
 /// After a fault of the file no more of it is looked at, but it is read to its end.
+pub(crate) fn read_pieces<P: TakesPieces<A>, A: Allocator + Copy, R: Source>(
+    begun: P,
+    genome: &Genome<A>,
+    limit: u32,
+    source: &mut R,
+    most: u64,
+) -> Result<P, FileFault>
+    requires begun { (wanted : Wanted) × P.has_taken wanted genome.now limit [] begun }
+    requires most { most < P.bound }
+    ensures ok { IfOk result (λ all. (text : List ℕ) × ReadsWhole (R.state source.old) (R.state source.new) most text
+        × ((wanted : Wanted) → P.has_taken wanted genome.now limit [] begun → P.has_taken wanted genome.now limit text all)) }
+    ensures err { IfErr result (λ why. StopsReading (R.state source.old) (R.state source.new) most why) }
+{
+    let mut reading = begun;
+    let mut piece = [0u8; 262_144];
+    let mut count: u64 = 0;
+    'pieces: loop {
+        let n = source.pull(&mut piece)?;
+        if n == 0 {
+            return Ok(reading);
+        }
+        if n as u64 > most - count {
+            return Err(FileFault::TooLong);
+        }
+        count += n as u64;
+        reading = reading.take(genome, limit, &piece[..n])?;
+    }
+}
+
+/// A BED file on this genome, read from a source to its end, at most `most` bytes. It may have at most `limit` records.
 pub(crate) fn read_held<H: HoldsFile<A>, A: Allocator + Copy, R: Source>(
     alloc: A,
     genome: &Genome<A>,
@@ -118,25 +158,13 @@ pub(crate) fn read_held<H: HoldsFile<A>, A: Allocator + Copy, R: Source>(
     most: u64,
 ) -> Result<H, FileFault>
     requires width { IsWidth empty_width }
-    requires most { most < H.bound }
+    requires most { most < H.Reading.bound }
     ensures ok { IfOk result (λ held. (text : List ℕ) × ReadsWhole (R.state source.old) (R.state source.new) most text × H.is_of genome.now empty_width limit text held) }
     ensures is_on { IfOk result (H.is_on genome.now limit) }
     ensures err { IfErr result (λ why. StopsReading (R.state source.old) (R.state source.new) most why) }
 {
-    let mut reading = H::begin(alloc);
-    let mut piece = [0u8; 262_144];
-    let mut count: u64 = 0;
-    'pieces: loop {
-        let n = source.pull(&mut piece)?;
-        if n == 0 {
-            return Ok(H::finish(reading, genome, empty_width, limit));
-        }
-        if n as u64 > most - count {
-            return Err(FileFault::TooLong);
-        }
-        count += n as u64;
-        reading = H::take(reading, genome, limit, &piece[..n])?;
-    }
+    let all = read_pieces(H::begin(alloc), genome, limit, source, most)?;
+    Ok(H::finish(all, genome, empty_width, limit))
 }
 
 /// A BED file of which each record is held as a `K`, or its first fault.
@@ -146,7 +174,7 @@ pub type HeldRecords<K, A> = Result<ParsedFile<K, A>, LoadFault>;
 #[derive(Drop)]
 pub struct ParsedFile<K: FromRecord<A>, A: Allocator + Copy = Global> {
     width: u8,
-    kept: Batches<K, A>,
+    kept: K::Kept,
 }
 
 impl<K: FromRecord<A>, A: Allocator + Copy> Model for ParsedFile<K, A> {
@@ -156,7 +184,7 @@ impl<K: FromRecord<A>, A: Allocator + Copy> Model for ParsedFile<K, A> {
 
     ghost Value = { Bed };
 
-    ghost view = { λ f. record { width = f.width; records = map K.as_record f.kept } };
+    ghost view = { λ f. record { width = f.width; records = map K.as_record (K.Kept.items f.kept) } };
 
     ghost invariant = { λ f. IsWidth f.width };
 }
@@ -246,33 +274,36 @@ pub(crate) fn parse_bed<K: FromRecord<A>, A: Allocator + Copy>(
     finish(said, genome, empty_width, limit)
 }
 
-impl<K: FromRecord<A>, A: Allocator + Copy> HoldsFile<A> for HeldRecords<K, A> {
-    type Reading = Result<BedReader<K, A>, LoadFault>;
-
-    ghost holds_front = { λ genome limit front reading. SaysSoFar K.projected genome limit front reading };
-
-    ghost is_of = { IsParsed K.projected };
-
-    ghost is_on = { IsOn K.projected };
+impl<K: FromRecord<A>, A: Allocator + Copy> TakesPieces<A> for Result<BedReader<K, A>, LoadFault> {
+    ghost has_taken = { λ wanted genome limit front reading. SaysSoFar K.projected genome limit front reading };
 
     ghost bound = { 2 ^ 63 };
 
     ghost bound_is = { (omega arith, omega arith) };
 
+    fn take(self, genome: &Genome<A>, limit: u32, piece: &[u8]) -> Result<Self, FileFault> {
+        Ok(take_next(genome, limit, self, piece))
+    }
+}
+
+impl<K: FromRecord<A>, A: Allocator + Copy> HoldsFile<A> for HeldRecords<K, A> {
+    type Reading = Result<BedReader<K, A>, LoadFault>;
+
+    ghost is_of = { IsParsed K.projected };
+
+    ghost is_on = { IsOn K.projected };
+
+    ghost is_enough = { AreAll };
+
     fn begin(alloc: A) -> Self::Reading {
         Ok(BedReader::new(alloc))
     }
 
-    fn take(
-        reading: Self::Reading,
-        genome: &Genome<A>,
-        limit: u32,
-        piece: &[u8],
-    ) -> Result<Self::Reading, FileFault> {
-        Ok(take_next(genome, limit, reading, piece))
-    }
-
     fn finish(reading: Self::Reading, genome: &Genome<A>, empty_width: u8, limit: u32) -> Self {
         finish(reading, genome, empty_width, limit)
+    }
+
+    fn wanted(&self, _alloc: A) -> Result<Option<Vec<bool, A>>, AllocError> {
+        Ok(None)
     }
 }

@@ -9,13 +9,13 @@ ghost use Rattle.iv_run.specs.IntervalsViews.{AskForIntervals, IsViewOf};
 ghost use Rattle.iv_run.specs.Inside.IntervalsViews.{AskForColumns, NeedsColumns};
 ghost use Rattle.iv_run.specs.Inside.Prints.{Prints};
 ghost use Rattle.iv_run.specs.Shots.{Shows, shown};
-ghost use Rattle.iv_run.specs.RunFiles.{AreOf, IsParsed};
+ghost use Rattle.iv_run.specs.RunFiles.{AreAll, AreOf, IsParsed};
 ghost use Rattle.iv_view.specs.Views.{kept_text};
 ghost use Rattle.iv_view.specs.declared.view.KeptView.{KeptView};
 
 use crate::fault::CliFault;
 use crate::input_files::HeldRecords;
-use crate::run_files::{LoadedFiles, RunFiles};
+use crate::run_files::{LoadedFiles, RunFiles, sound_files};
 use iv_args::Plan;
 use iv_blocks::{put_complement, put_merge};
 use iv_bytes::{Buffered, Sink};
@@ -144,9 +144,15 @@ impl<A: Allocator + Copy> RunFiles<HeldRecords<Span, A>, A> {
     /// The fault of the first damaged file, or `Memory`: then nothing was printed. `Output`, and then a prefix was.
     pub fn print<S: Sink>(self, view: IntervalsView, sink: &mut S) -> Result<(), CliFault>
         ensures { (plan : RunPlan) (sizes first : List ℕ) (second fasta_text : Option (List ℕ)) → AskForIntervals plan.view view → self.on.width ≡ plan.width
-            → AreOf (IsParsed bare) sizes first second fasta_text self → Shows (S.state sink.old) (S.state sink.new) result (shown plan sizes first second fasta_text self.on.limit) }
+            → AreOf (IsParsed bare) AreAll sizes first second fasta_text self → Shows (S.state sink.old) (S.state sink.new) result (shown plan sizes first second fasta_text self.on.limit) }
     {
-        let files = self.finish()?;
+        let RunFiles {
+            on,
+            first,
+            second,
+            fasta,
+        } = self;
+        let files = sound_files(on, first, second, fasta)?;
         print_files(view, files, sink)
     }
 }

@@ -12,7 +12,9 @@ mod run_files;
 pub use fault::{CliFault, FileFault};
 pub use held_bed::HeldBed;
 pub use held_fasta::HeldFasta;
-pub use input_files::{HeldRecords, HoldsFile, ParsedFile, read_all, too_long_above_the_limit};
+pub use input_files::{
+    HeldRecords, HoldsFile, ParsedFile, TakesPieces, read_all, too_long_above_the_limit,
+};
 pub use intervals_view::IntervalsView;
 pub use one_shot::{shot, shot_of_held};
-pub use run_files::{Inputs, LoadedFiles, RunFiles, RunGenome};
+pub use run_files::{Inputs, LoadedFiles, RunFiles, RunGenome, sound_files};

@@ -12,18 +12,17 @@ ghost use Rattle.iv_pair.specs.CoverAlone.{DependsOnCoverAlone, HaveBases};
 ghost use Rattle.iv_pair.specs.PairRows.{pair_text};
 ghost use Rattle.iv_view.specs.Inside.Texts.{records_text};
 ghost use Rattle.iv_view.specs.Views.{kept_text};
-ghost use Rattle.iv_run.specs.Loading.{IsAnswer, IsReport, parsed};
-ghost use Rattle.iv_run.specs.RunFiles.{AreOf, IsFasta, IsIfNamed, IsGenomeOf};
-ghost use Rattle.iv_run.specs.Inside.Held.{AreIntervals, IsHeld};
+ghost use Rattle.iv_run.specs.Loading.{parsed};
+ghost use Rattle.iv_run.specs.RunFiles.{AreOf, IsEnoughOf, IsIfNamed, IsGenomeOf};
+ghost use Rattle.iv_run.specs.Inside.Held.{FitsOn, IsEnough, IsHeld, ReportsWanted};
 ghost use Rattle.iv_text.specs.GenomeFile.{genome_of};
 ghost use Rattle.iv_run.specs.Inside.IntervalsViews.{AskForColumns, NeedsColumns};
 ghost use Rattle.iv_run.specs.Inside.Prints.{Prints};
-ghost use Rattle.iv_run.specs.Inside.Shots.{ordered_other, second_of, text_beside, view_beside};
+ghost use Rattle.iv_run.specs.Inside.Shots.{ordered_other, text_beside, view_beside};
 ghost use Rattle.iv_run.specs.Shots.{Shows, shown};
-ghost use Rattle.iv_text.specs.Widths.{IsWidth};
 
 use crate::fault::CliFault;
-use crate::held_bed::{HeldBed, LentBed};
+use crate::held_bed::{HeldBed, lend};
 use crate::held_fasta::HeldFasta;
 use crate::input_files::HeldRecords;
 use crate::intervals_view::IntervalsView;
@@ -62,60 +61,21 @@ impl<'t, A: Allocator + Copy> Model for TextFiles<'t, A> {
     ghost invariant = { λ files. All (IsOnGenome files.genome) files.first.records };
 }
 
-/// The records of the second file, if there is one, or its first fault.
-fn second_records<'t, A: Allocator + Copy>(
-    alloc: A,
-    genome: &Genome<A>,
-    width: u8,
-    limit: u32,
-    held: Option<LentBed<'t, A>>,
-) -> Result<Option<BedText<'t, A>>, LoadFault>
-    requires width { IsWidth width }
-    requires intervals { IfSome held (AreIntervals genome.now) }
-    ensures { (text : Option (List ℕ)) → IsIfNamed (IsHeld genome.now width limit) text held.entry → IsAnswer result (second_of genome.now width limit text) }
-{
-    match held {
-        None => Ok(None),
-        Some(held) => Ok(Some(held.records(alloc, genome, width, limit)?)),
-    }
-}
-
-/// The second file of a text, if there is one.
-fn lent_second<'t, A: Allocator + Copy>(text: Option<&'t [u8]>) -> Option<LentBed<'t, A>>
-    requires { IfSome (option_copied text) (λ bytes. length bytes < 2 ^ 32) }
-    ensures { result ≡ option_map (λ bytes. record { text = bytes; intervals = None }) (option_copied text.entry) }
-{
-    match text {
-        Some(text) => Some(LentBed::of_text(text)),
-        None => None,
-    }
-}
-
 impl<'t, A: Allocator + Copy> TextFiles<'t, A> {
     /// The files on this genome, or the fault of the first damaged one, in the order first file, second file, FASTA file.
     fn on(
-        alloc: A,
         genome: Genome<A>,
-        empty_width: u8,
         limit: u32,
-        first: LentBed<'t, A>,
-        second: Option<LentBed<'t, A>>,
+        first: Result<BedText<'t, A>, LoadFault>,
+        second: Option<Result<BedText<'t, A>, LoadFault>>,
         fasta: Option<HeldFasta<A>>,
     ) -> Result<TextFiles<'t, A>, CliFault>
-        requires width { IsWidth empty_width }
-        requires first { AreIntervals genome first }
-        requires second { IfSome second (AreIntervals genome) }
-        ensures { (sizes text : List ℕ) (other bases : Option (List ℕ)) → genome_of sizes ≡ Ok genome → IsHeld genome empty_width limit text first.entry → IsIfNamed (IsHeld genome empty_width limit) other second.entry
-            → IsIfNamed (IsFasta genome) bases fasta → IsReport result (parsed empty_width sizes text other bases limit) }
+        requires { FitsOn genome first }
+        ensures { (width : ℕ) (sizes text : List ℕ) (other bases : Option (List ℕ)) → genome_of sizes ≡ Ok genome → IsHeld genome width limit text first.entry → IsIfNamed (IsHeld genome width limit) other second.entry
+            → IsIfNamed (IsEnoughOf (λ wanted. IsEnough wanted first.entry) genome) bases fasta → ReportsWanted result (parsed width sizes text other bases limit) }
     {
-        let first = in_slot(
-            Slot::First,
-            first.records(alloc, &genome, empty_width, limit),
-        )?;
-        let second = in_slot(
-            Slot::Other,
-            second_records(alloc, &genome, empty_width, limit, second),
-        )?;
+        let first = in_slot(Slot::First, first)?;
+        let second = in_slot(Slot::Other, second.transpose())?;
         let fasta = in_slot(Slot::Bases, fasta.transpose())?;
         Ok(TextFiles {
             genome,
@@ -139,6 +99,21 @@ impl<'t, A: Allocator + Copy> TextFiles<'t, A> {
             second: self.second.is_some(),
             fasta: self.fasta.is_some(),
         })
+    }
+
+    /// Prints the text of a view that arguments ask for beside these files, and that needs the columns of records, through one buffer.
+    ///
+    /// # Errors
+    ///
+    /// `Memory`, and then nothing was printed. `Output`, and then a prefix of the text was.
+    fn print<S: Sink>(self, alloc: A, view: View, sink: &mut S) -> Result<(), CliFault>
+        requires { (arguments : List (List ℕ)) × AskForColumns arguments × (view_beside self arguments ≡ Ok view) }
+        ensures { Prints (S.state sink.old) (S.state sink.new) result (text_beside self.entry view) }
+    {
+        let mut buffer = Buffered::new(sink);
+        self.put(alloc, view, &mut buffer)?;
+        buffer.finish()?;
+        Ok(())
     }
 
     /// Puts the text of a view that arguments ask for beside these files, and that needs the columns of records.
@@ -360,14 +335,11 @@ fn print_files<A: Allocator + Copy, S: Sink>(
     sink: &mut S,
 ) -> Result<(), CliFault>
     requires columns { AskForColumns plan.now.view }
-    ensures { (sizes text : List ℕ) (other bases : Option (List ℕ)) (limit : ℕ) → parsed plan.now.width sizes text other bases limit ≡ Ok files.entry
+    ensures { (sizes text : List ℕ) (other bases : Option (List ℕ)) (limit : ℕ) → ReportsWanted (Ok files.entry) (parsed plan.now.width sizes text other bases limit)
         → Shows (S.state sink.old) (S.state sink.new) result (shown plan.now sizes text other bases limit) }
 {
     let view = files.view(plan)?;
-    let mut buffer = Buffered::new(sink);
-    files.put(alloc, view, &mut buffer)?;
-    buffer.finish()?;
-    Ok(())
+    files.print(alloc, view, sink)
 }
 
 /// Prints a view that needs the columns of records, of BED files whose texts are lent.
@@ -375,30 +347,32 @@ fn shot_of_lent<'t, A: Allocator + Copy, S: Sink>(
     alloc: A,
     plan: &Plan<'_, A>,
     on: RunGenome<A>,
-    first: LentBed<'t, A>,
-    second: Option<LentBed<'t, A>>,
+    first: Result<BedText<'t, A>, LoadFault>,
+    second: Option<Result<BedText<'t, A>, LoadFault>>,
     fasta: Option<HeldFasta<A>>,
     limit: u32,
     sink: &mut S,
 ) -> Result<(), CliFault>
     requires columns { AskForColumns plan.now.view }
-    requires first { AreIntervals on.genome first }
-    requires second { IfSome second (AreIntervals on.genome) }
+    requires first { FitsOn on.genome first }
     ensures { (sizes text : List ℕ) (other bases : Option (List ℕ)) → IsGenomeOf sizes on → on.width ≡ plan.now.width → on.limit ≡ limit
-        → IsHeld on.genome plan.now.width limit text first.entry → IsIfNamed (IsHeld on.genome plan.now.width limit) other second.entry → IsIfNamed (IsFasta on.genome) bases fasta
+        → IsHeld on.genome plan.now.width limit text first.entry → IsIfNamed (IsHeld on.genome plan.now.width limit) other second.entry → IsIfNamed (IsEnoughOf (λ wanted. IsEnough wanted first.entry) on.genome) bases fasta
         → Shows (S.state sink.old) (S.state sink.new) result (shown plan.now sizes text other bases limit) }
 {
     let genome = on.into_genome()?;
-    let files = TextFiles::on(alloc, genome, plan.width(), limit, first, second, fasta)?;
+    let files = TextFiles::on(genome, limit, first, second, fasta)?;
     print_files(alloc, plan, files, sink)
 }
 
 /// The second file, if there is one, its text lent.
-fn lend_second<A: Allocator + Copy>(held: &mut Option<HeldBed<A>>) -> Option<LentBed<'_, A>>
+fn lend_second<A: Allocator + Copy>(
+    held: &mut Option<HeldBed<A>>,
+    alloc: A,
+) -> Option<Result<BedText<'_, A>, LoadFault>>
     ensures { result ≡ held.old }
 {
     match held {
-        Some(held) => Some(held.lend()),
+        Some(held) => Some(lend(held, alloc)),
         None => None,
     }
 }
@@ -415,7 +389,7 @@ pub fn shot_of_held<A: Allocator + Copy, S: Sink>(
     sink: &mut S,
 ) -> Result<(), CliFault>
     requires columns { AskForColumns plan.now.view }
-    ensures { (sizes first : List ℕ) (second fasta_text : Option (List ℕ)) → files.on.width ≡ plan.now.width → files.on.limit ≡ plan.now.limit → AreOf IsHeld sizes first second fasta_text files
+    ensures { (sizes first : List ℕ) (second fasta_text : Option (List ℕ)) → files.on.width ≡ plan.now.width → files.on.limit ≡ plan.now.limit → AreOf IsHeld IsEnough sizes first second fasta_text files
         → Shows (S.state sink.old) (S.state sink.new) result (shown plan.now sizes first second fasta_text plan.now.limit) }
 {
     let RunFiles {
@@ -424,9 +398,23 @@ pub fn shot_of_held<A: Allocator + Copy, S: Sink>(
         mut second,
         fasta,
     } = files;
-    let second = lend_second(&mut second);
-    let limit = plan.limit();
-    shot_of_lent(alloc, plan, on, first.lend(), second, fasta, limit, sink)
+    let first = lend(&mut first, alloc);
+    let second = lend_second(&mut second, alloc);
+    shot_of_lent(alloc, plan, on, first, second, fasta, plan.limit(), sink)
+}
+
+/// The second file of a text, if there is one.
+fn parse_second<'t, A: Allocator + Copy>(
+    on: &RunGenome<A>,
+    text: Option<&'t [u8]>,
+) -> Option<Result<BedText<'t, A>, LoadFault>>
+    requires { IfSome (option_copied text) (λ bytes. length bytes < 2 ^ 32) }
+    ensures { IsIfNamed (IsHeld on.now.genome on.now.width on.now.limit) (option_copied text.entry) result }
+{
+    match text {
+        Some(text) => Some(on.parse_text(text)),
+        None => None,
+    }
 }
 
 /// Prints what the plan's subcommand shows of the files, given their bytes: all of it, and nothing else.
@@ -459,8 +447,8 @@ pub fn shot<A: Allocator + Copy, S: Sink>(
         return files.print(view, sink);
     }
     let on = RunGenome::begin(alloc, plan, inputs.sizes, limit);
-    let first = LentBed::of_text(inputs.first);
-    let second = lent_second(inputs.other);
+    let first = on.parse_text(inputs.first);
+    let second = parse_second(&on, inputs.other);
     let fasta = on.parse_fasta(bases);
     shot_of_lent(alloc, plan, on, first, second, fasta, limit, sink)
 }

@@ -1,18 +1,21 @@
 //! The files of a run, once they are read: what is held of each, and whether they are sound.
-ghost use Rattle.std.specs.Prelude.{◌≡◌, ◌⊎◌, ◌<◌, List, ℕ, Option, None, Some, Ok, Err, IfOk, IfErr};
+ghost use Rattle.std.specs.Prelude.{◌≡◌, ◌⊎◌, ◌<◌, ◌^◌, List, ℕ, Option, None, Some, Ok, Err, IfOk, IfErr, IfSome, length};
 ghost use Rattle.std.specs.Option.{option_copied, option_map, option_transpose};
 ghost use Rattle.iv_text.specs.declared.fault.LoadFault.{LoadFault};
 ghost use Rattle.iv_text.specs.Widths.{IsWidth};
 ghost use Rattle.iv_run.specs.Files.{ReadsWhole, StopsReading};
 ghost use Rattle.iv_run.specs.Loading.{damage_of, parsed};
-ghost use Rattle.iv_run.specs.RunFiles.{AreOf, IsFasta, IsIfNamed, IsOn, IsParsed, ReportsProjected, IsGenomeOf};
+ghost use Rattle.iv_run.specs.RunFiles.{AreAll, AreOf, IsEnoughOf, IsFasta, IsIfNamed, IsOn, IsParsed, IsGenomeOf};
+ghost use Rattle.iv_run.specs.Inside.RunFiles.{ReportsProjected};
+ghost use Rattle.iv_run.specs.Inside.Held.{FitsOn, IsHeld};
 
 use crate::fault::{CliFault, FileFault};
-use crate::held_fasta::HeldFasta;
+use crate::held_fasta::{HeldFasta, read_fasta};
 use crate::input_files::{HeldRecords, HoldsFile, ParsedFile, parse_bed, read_held};
 use iv_args::{Plan, Slot};
 use iv_bytes::Source;
 use iv_fasta::Fasta;
+use iv_locators::BedText;
 use iv_text::{FromRecord, Genome, LoadFault};
 use std::alloc::{Allocator, Global};
 use std::marker::Model;
@@ -96,9 +99,18 @@ impl<A: Allocator + Copy> RunGenome<A> {
         parse_bed(self.alloc, &self.genome, self.empty_width, self.limit, text)
     }
 
+    /// A BED file for a view that needs the columns of records, given its text.
+    pub(crate) fn parse_text<'t>(&self, text: &'t [u8]) -> Result<BedText<'t, A>, LoadFault>
+        requires { length text.now < 2 ^ 32 }
+        ensures says { IsHeld self.now.genome self.now.width self.now.limit text.now result }
+        ensures is_on { FitsOn self.now.genome result }
+    {
+        BedText::parse(self.alloc, &self.genome, self.empty_width, self.limit, text)
+    }
+
     /// The FASTA file of these bytes, if there are any, or its first fault.
     pub(crate) fn parse_fasta(&self, text: Option<Vec<u8, A>>) -> Option<HeldFasta<A>>
-        ensures { IsIfNamed (IsFasta self.now.genome) (option_map (λ bytes. bytes.items) text) result }
+        ensures { IsIfNamed (IsFasta None self.now.genome) (option_map (λ bytes. bytes.items) text) result }
     {
         match text {
             Some(text) => Some(Fasta::parse(self.alloc, &self.genome, text)),
@@ -106,7 +118,7 @@ impl<A: Allocator + Copy> RunGenome<A> {
         }
     }
 
-    /// A file, read from a source to its end, at most `most` bytes.
+    /// A BED file, read from a source to its end, at most `most` bytes.
     ///
     /// # Errors
     ///
@@ -116,7 +128,7 @@ impl<A: Allocator + Copy> RunGenome<A> {
         source: &mut R,
         most: u64,
     ) -> Result<H, FileFault>
-        requires { most < H.bound }
+        requires { most < H.Reading.bound }
         ensures ok { IfOk result (λ held. (text : List ℕ) × ReadsWhole (R.state source.old) (R.state source.new) most text × H.is_of self.now.genome self.now.width self.now.limit text held) }
         ensures is_on { IfOk result (H.is_on self.now.genome self.now.limit) }
         ensures err { IfErr result (λ fault. StopsReading (R.state source.old) (R.state source.new) most fault) }
@@ -129,6 +141,26 @@ impl<A: Allocator + Copy> RunGenome<A> {
             source,
             most,
         )
+    }
+
+    /// The FASTA file beside this first file, read from a source to its end, at most `most` bytes. Of a sequence that the first file
+    /// doesn't need no bases are held.
+    ///
+    /// # Errors
+    ///
+    /// A fault of the source, or an allocation failed. That the file is damaged is no error here, but a part of what is held.
+    pub fn read_fasta<H: HoldsFile<A>, R: Source>(
+        &self,
+        first: &H,
+        source: &mut R,
+        most: u64,
+    ) -> Result<HeldFasta<A>, FileFault>
+        requires { most < 2 ^ 63 }
+        ensures ok { IfOk result (λ held. (text : List ℕ) × ReadsWhole (R.state source.old) (R.state source.new) most text × IsEnoughOf (λ wanted. H.is_enough wanted first.now) self.now.genome text held) }
+        ensures err { IfErr result (λ fault. StopsReading (R.state source.old) (R.state source.new) most fault) }
+    {
+        let wanted = first.wanted(self.alloc)?;
+        read_fasta(self.alloc, &self.genome, wanted, source, most)
     }
 
     /// The genome, or the fault of its file.
@@ -201,7 +233,7 @@ impl<K: FromRecord<A>, A: Allocator + Copy> RunFiles<HeldRecords<K, A>, A> {
         fasta_text: Option<Vec<u8, A>>,
         limit: u32,
     ) -> Self
-        ensures says { AreOf (IsParsed K.projected) inputs.now.sizes.now inputs.now.first.now (option_copied inputs.now.other) (option_map (λ text. text.items) fasta_text) result }
+        ensures says { AreOf (IsParsed K.projected) AreAll inputs.now.sizes.now inputs.now.first.now (option_copied inputs.now.other) (option_map (λ text. text.items) fasta_text) result }
         ensures width { result.on.width ≡ plan.now.width }
         ensures limit { result.on.limit ≡ limit }
     {
@@ -219,31 +251,32 @@ impl<K: FromRecord<A>, A: Allocator + Copy> RunFiles<HeldRecords<K, A>, A> {
             fasta,
         }
     }
+}
 
-    /// All files, or the fault of the first damaged one.
-    pub fn finish(self) -> Result<LoadedFiles<K, A>, CliFault>
-        ensures says { (sizes first : List ℕ) (second fasta_text : Option (List ℕ)) → AreOf (IsParsed K.projected) sizes first second fasta_text self
-            → ReportsProjected K.projected result (parsed self.on.width sizes first second fasta_text self.on.limit) }
-        ensures limit { IfOk result (λ files. files.limit ≡ self.on.limit) }
-    {
-        let RunFiles {
-            on,
-            first,
-            second,
-            fasta,
-        } = self;
-        let (alloc, limit) = (on.alloc, on.limit);
-        let genome = on.into_genome()?;
-        let first = in_slot(Slot::First, first)?;
-        let second = in_slot(Slot::Other, second.transpose())?;
-        let fasta = in_slot(Slot::Bases, fasta.transpose())?;
-        Ok(LoadedFiles {
-            alloc,
-            genome,
-            first,
-            second,
-            fasta,
-            limit,
-        })
-    }
+/// All files of a run, or the fault of the first damaged one, given what is held of each.
+pub fn sound_files<K: FromRecord<A>, A: Allocator + Copy>(
+    on: RunGenome<A>,
+    first: HeldRecords<K, A>,
+    second: Option<HeldRecords<K, A>>,
+    fasta: Option<HeldFasta<A>>,
+) -> Result<LoadedFiles<K, A>, CliFault>
+    requires first { IsOn K.projected on.genome on.limit first }
+    requires second { IfSome second (IsOn K.projected on.genome on.limit) }
+    ensures says { (sizes text : List ℕ) (other bases : Option (List ℕ)) → AreOf (IsParsed K.projected) AreAll sizes text other bases (record { on = on; first = first; second = second; fasta = fasta })
+        → ReportsProjected K.projected result (parsed on.width sizes text other bases on.limit) }
+    ensures limit { IfOk result (λ files. files.limit ≡ on.limit) }
+{
+    let (alloc, limit) = (on.alloc, on.limit);
+    let genome = on.into_genome()?;
+    let first = in_slot(Slot::First, first)?;
+    let second = in_slot(Slot::Other, second.transpose())?;
+    let fasta = in_slot(Slot::Bases, fasta.transpose())?;
+    Ok(LoadedFiles {
+        alloc,
+        genome,
+        first,
+        second,
+        fasta,
+        limit,
+    })
 }

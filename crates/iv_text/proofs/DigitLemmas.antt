@@ -1,11 +1,13 @@
 -- Bytes looked at together: which of sixteen are digits, what eight digits mean, and four bytes as one number.
-use Rattle.std.proofs.Common.{◌≡◌, ℕ, zero, suc, ◌+◌, ◌-◌, ◌*◌, ◌/◌, ◌%◌, ◌^◌, ◌<◌, ◌≤◌, Bool, true, false, not, ltb, List, [], ◌∷◌, ◌++◌, length, take, drop, length-take, Some, get_or, map, refl, sym, ap, ◌∙◌, arith, replicate, w8, add-one}
+use Rattle.std.proofs.Common.{fold, subst, ◌≡◌, ℕ, zero, suc, ◌+◌, ◌-◌, ◌*◌, ◌/◌, ◌%◌, ◌^◌, ◌<◌, ◌≤◌, Bool, true, false, not, ltb, List, [], ◌∷◌, ◌++◌, length, take, drop, length-take, Some, get_or, map, refl, sym, ap, ◌∙◌, arith, replicate, w8, add-one}
 use lib.Lanes.{chunk, zip2, mask_l, top}
 use lib.Count.{count_trailing_zeros}
 use mathlib.Core.Bool.{cond}
 use Rattle.std.proofs.lemmas.Bool.Decides.{nat_tests}
 use Rattle.std.proofs.lemmas.Grind.{common_steps}
 use Rattle.std.proofs.lemmas.List.{take_more}
+use Rattle.std.proofs.lemmas.List.Folds.{fold-map}
+use Rattle.std.proofs.Math.Nat.{mul-add, mul_assoc, pow-succ'}
 use Rattle.std.proofs.lemmas.List.Prefix.{front_from_reads}
 use native.Mathlib.Nat.{div-div-eq-div-mul}
 use Rattle.std.proofs.lemmas.Simd.{length-chunk, length-zip2, zip2_splat, zip2_splat_left, tops_compared, mask_l-mod, map-map, trailing_mask_l, none_from_empty_mask, run_in_chunk_fails}
@@ -79,22 +81,17 @@ digits-before text long bytes some k lt =
 digit-split : (b : ℕ) → is_ascii_digit b ≡ true → (b ≡ b - 48 + 48) × (b - 48 ≤ 9)
 digit-split b is = let least : 48 ≤ b = grind (arith, nat_tests, is) in let most = digit-bound b is in (omega arith, omega arith)
 
--- what is in a word of eight digits, each with the next one
+-- what is in a word of eight values, each with the next one
 abbrev pairs_of : ℕ → ℕ
-pairs_of word = (word - 3472328296227680304) * 10 + (word - 3472328296227680304) / 256
+pairs_of values = values * 10 + values / 256
 
 -- every second pair, in decimal
 abbrev pub eight_of : ℕ → ℕ
-eight_of word = pairs_of word % 256 * 1000000 + pairs_of word / 65536 % 256 * 10000 + pairs_of word / 4294967296 % 256 * 100 + pairs_of word / 281474976710656 % 256
+eight_of values = pairs_of values % 256 * 1000000 + pairs_of values / 65536 % 256 * 10000 + pairs_of values / 4294967296 % 256 * 100 + pairs_of values / 281474976710656 % 256
 
 -- the lowest byte of a word, and what is above its two lowest bytes
 two-lanes : (n x y rest : ℕ) → x < 256 → y < 256 → n ≡ x + 256 * (y + 256 * rest) → (n % 256 ≡ x) × (n / 65536 ≡ rest)
 two-lanes n x y rest low next is = (omega arith, omega arith)
-
-values-are : (p q r s t u v w word : ℕ)
-    → word ≡ (p + 48) + (q + 48) * 256 + (r + 48) * 65536 + (s + 48) * 16777216 + (t + 48) * 4294967296 + (u + 48) * 1099511627776 + (v + 48) * 281474976710656 + (w + 48) * 72057594037927936
-    → word - 3472328296227680304 ≡ p + 256 * (q + 256 * (r + 256 * (s + 256 * (t + 256 * (u + 256 * (v + 256 * w))))))
-values-are p q r s t u v w word is = omega arith
 
 pairs-are : (p q r s t u v w values : ℕ) → p ≤ 9 → q ≤ 9 → r ≤ 9 → s ≤ 9 → t ≤ 9 → u ≤ 9 → v ≤ 9 → w ≤ 9
     → values ≡ p + 256 * (q + 256 * (r + 256 * (s + 256 * (t + 256 * (u + 256 * (v + 256 * w))))))
@@ -130,38 +127,153 @@ eight-lanes p q r s t u v w n hp hq hr hs ht hu hv hw is =
         → i * 1000000 + j * 10000 + k * 100 + l < 10 ^ 8
     small p q r s t u v w i j k l hp hq hr hs ht hu hv hw e1 e2 e3 e4 = omega arith
 
--- eight digits and their values
-eight-of : (a b c d e f g h p q r s t u v w word : ℕ) → a ≡ p + 48 → b ≡ q + 48 → c ≡ r + 48 → d ≡ s + 48 → e ≡ t + 48 → f ≡ u + 48 → g ≡ v + 48 → h ≡ w + 48
-    → p ≤ 9 → q ≤ 9 → r ≤ 9 → s ≤ 9 → t ≤ 9 → u ≤ 9 → v ≤ 9 → w ≤ 9
-    → word ≡ a + b * 256 + c * 65536 + d * 16777216 + e * 4294967296 + f * 1099511627776 + g * 281474976710656 + h * 72057594037927936
-    → (eight_of word ≡ (((((((0 * 10 + p) * 10 + q) * 10 + r) * 10 + s) * 10 + t) * 10 + u) * 10 + v) * 10 + w) × (eight_of word < 10 ^ 8)
-eight-of a b c d e f g h p q r s t u v w word ea eb ec ed ee ef eg eh hp hq hr hs ht hu hv hw is =
-    let whole : word ≡ (p + 48) + (q + 48) * 256 + (r + 48) * 65536 + (s + 48) * 16777216 + (t + 48) * 4294967296 + (u + 48) * 1099511627776 + (v + 48) * 281474976710656 + (w + 48) * 72057594037927936 = omega arith in
-    eight-lanes p q r s t u v w (pairs_of word) hp hq hr hs ht hu hv hw
-    (pairs-are p q r s t u v w (word - 3472328296227680304) hp hq hr hs ht hu hv hw (values-are p q r s t u v w word whole))
+-- bytes as one number, the first one lowest
+abbrev word_of : List ℕ → ℕ
+word_of [] = 0
+word_of (b ∷ bs) = b + 256 * word_of bs
 
-pub eight-is : (text : List ℕ) (word : ℕ) → 8 ≤ length text → ((k : ℕ) → k < 8 → is_ascii_digit (get_or text k 0) ≡ true)
+-- the value of a digit
+abbrev value : ℕ → ℕ
+value b = b - 48
+
+power-more : (n w : ℕ) → 256 ^ suc n * w ≡ 256 * (256 ^ n * w)
+power-more n w = ap (λ p. p * w) (pow-succ' 256 n) ∙ mul_assoc 256 (256 ^ n) w
+
+-- the first bytes of a word, and those after them
+word-parts : (bs : List ℕ) (n k : ℕ) → n ≤ k → k ≤ length bs → ((j : ℕ) → get_or bs j 0 < 256)
+    → (word_of (take k bs) ≡ word_of (take n bs) + 256 ^ n * word_of (drop n (take k bs))) × (word_of (take n bs) < 256 ^ n)
+word-parts bs zero k below within bytes = (omega arith, omega arith)
+word-parts bs (suc n) zero below within bytes = absurd (omega arith)
+word-parts [] (suc n) (suc k) below within bytes = absurd (omega arith)
+word-parts (b ∷ bs) (suc n) (suc k) below within bytes =
+    let rest = word-parts bs n k (omega arith) (omega arith) (λ j. bytes (suc j)) in
+    let here = bytes 0 in
+    (omega (arith, rest.0, power-more n (word_of (drop n (take k bs)))), omega (arith, rest.1, here, power-more n 1))
+
+-- digits are 48 and their values
+digits-word : (bs : List ℕ) (n : ℕ) → n ≤ length bs → ((k : ℕ) → k < n → is_ascii_digit (get_or bs k 0) ≡ true) → word_of (take n bs) ≡ word_of (map value (take n bs)) + word_of (replicate n 48)
+digits-word bs zero le digits = refl
+digits-word [] (suc n) le digits = absurd (omega arith)
+digits-word (b ∷ bs) (suc n) le digits =
+    let rest = digits-word bs n (omega arith) (λ k lt. digits (suc k) (omega arith)) in
+    let here = digit-split b (digits 0 (omega arith)) in
+    omega (arith, rest, here.0)
+
+-- the values of digits, with zeros before them
+abbrev padded : List ℕ → ℕ → ℕ → List ℕ
+padded bs n m = replicate m 0 ++ map value (take n bs)
+
+padded-word : (bs : List ℕ) (n m : ℕ) → word_of (padded bs n m) ≡ 256 ^ m * word_of (map value (take n bs))
+padded-word bs n zero = omega arith
+padded-word bs n (suc m) = let rest = padded-word bs n m in omega (arith, rest, power-more m (word_of (map value (take n bs))))
+
+padded-decimal : (bs : List ℕ) (n m : ℕ) → fold (λ n v. n * 10 + v) 0 (padded bs n m) ≡ decimal_from 0 (take n bs)
+padded-decimal bs n zero = fold-map (λ n v. n * 10 + v) value 0 (take n bs)
+padded-decimal bs n (suc m) = padded-decimal bs n m
+
+padded-length : (bs : List ℕ) (n m : ℕ) → n ≤ length bs → length (padded bs n m) ≡ m + n
+padded-length bs n m le = grind (arith, common_steps)
+
+padded-small : (bs : List ℕ) (n m : ℕ) → n ≤ length bs → ((k : ℕ) → k < n → is_ascii_digit (get_or bs k 0) ≡ true) → (k : ℕ) → get_or (padded bs n m) k 0 ≤ 9
+padded-small bs n (suc m) le digits zero = omega arith
+padded-small bs n (suc m) le digits (suc k) = padded-small bs n m le digits k
+padded-small bs zero zero le digits k = omega arith
+padded-small [] (suc n) zero le digits k = absurd (omega arith)
+padded-small (b ∷ bs) (suc n) zero le digits zero = (digit-split b (digits 0 (omega arith))).1
+padded-small (b ∷ bs) (suc n) zero le digits (suc k) = padded-small bs n zero (omega arith) (λ j lt. digits (suc j) (omega arith)) k
+
+-- a word without the bytes after its first ones, which are moved up to its end
+abbrev pub moved : ℕ → ℕ → ℕ
+moved n word = word * 2 ^ (64 - 8 * n) % 18446744073709551616
+
+moved-is : (n front rest : ℕ) → 0 < n → n ≤ 8 → front < 256 ^ n → moved n (front + 256 ^ n * rest) ≡ 256 ^ (8 - n) * front
+moved-is zero front rest some few low = absurd (omega arith)
+moved-is (suc zero) front rest some few low = omega arith
+moved-is (suc (suc zero)) front rest some few low = omega arith
+moved-is (suc (suc (suc zero))) front rest some few low = omega arith
+moved-is (suc (suc (suc (suc zero)))) front rest some few low = omega arith
+moved-is (suc (suc (suc (suc (suc zero))))) front rest some few low = omega arith
+moved-is (suc (suc (suc (suc (suc (suc zero)))))) front rest some few low = omega arith
+moved-is (suc (suc (suc (suc (suc (suc (suc zero))))))) front rest some few low = omega arith
+moved-is (suc (suc (suc (suc (suc (suc (suc (suc zero)))))))) front rest some few low = omega arith
+moved-is (suc (suc (suc (suc (suc (suc (suc (suc (suc n))))))))) front rest some few low = absurd (omega arith)
+
+zeros-moved : (n : ℕ) → 0 < n → n ≤ 8 → moved n 3472328296227680304 ≡ 256 ^ (8 - n) * word_of (replicate n 48)
+zeros-moved zero some few = absurd (omega arith)
+zeros-moved (suc zero) some few = refl
+zeros-moved (suc (suc zero)) some few = refl
+zeros-moved (suc (suc (suc zero))) some few = refl
+zeros-moved (suc (suc (suc (suc zero)))) some few = refl
+zeros-moved (suc (suc (suc (suc (suc zero))))) some few = refl
+zeros-moved (suc (suc (suc (suc (suc (suc zero)))))) some few = refl
+zeros-moved (suc (suc (suc (suc (suc (suc (suc zero))))))) some few = refl
+zeros-moved (suc (suc (suc (suc (suc (suc (suc (suc zero)))))))) some few = refl
+zeros-moved (suc (suc (suc (suc (suc (suc (suc (suc (suc n))))))))) some few = absurd (omega arith)
+
+-- eight values add up to what they mean
+eight-is : (vs : List ℕ) → length vs ≡ 8 → ((k : ℕ) → get_or vs k 0 ≤ 9) → (word_of vs ≤ 651061555542690057) × (eight_of (word_of vs) ≡ fold (λ n v. n * 10 + v) 0 vs) × (eight_of (word_of vs) < 10 ^ 8)
+eight-is (p ∷ q ∷ r ∷ s ∷ t ∷ u ∷ v ∷ w ∷ []) is small =
+    let hp = small 0 in
+    let hq = small 1 in
+    let hr = small 2 in
+    let hs = small 3 in
+    let ht = small 4 in
+    let hu = small 5 in
+    let hv = small 6 in
+    let hw = small 7 in
+    let word : ℕ = word_of (p ∷ q ∷ r ∷ s ∷ t ∷ u ∷ v ∷ w ∷ []) in
+    let sums = eight-lanes p q r s t u v w (pairs_of word) hp hq hr hs ht hu hv hw (pairs-are p q r s t u v w word hp hq hr hs ht hu hv hw (omega arith)) in
+    (omega arith, sums.0, sums.1)
+eight-is [] is small = absurd (omega arith)
+eight-is (p ∷ []) is small = absurd (omega arith)
+eight-is (p ∷ q ∷ []) is small = absurd (omega arith)
+eight-is (p ∷ q ∷ r ∷ []) is small = absurd (omega arith)
+eight-is (p ∷ q ∷ r ∷ s ∷ []) is small = absurd (omega arith)
+eight-is (p ∷ q ∷ r ∷ s ∷ t ∷ []) is small = absurd (omega arith)
+eight-is (p ∷ q ∷ r ∷ s ∷ t ∷ u ∷ []) is small = absurd (omega arith)
+eight-is (p ∷ q ∷ r ∷ s ∷ t ∷ u ∷ v ∷ []) is small = absurd (omega arith)
+eight-is (p ∷ q ∷ r ∷ s ∷ t ∷ u ∷ v ∷ w ∷ x ∷ vs) is small = absurd (omega arith)
+
+-- the moved word less moved zeros, for a word that begins with so many digits: it is a number, small enough to be added up, and
+-- means what the digits do
+pub record AddsUp (text : List ℕ) (n word : ℕ) : Type 0 where
+  pub no_less : moved n 3472328296227680304 ≤ moved n word
+  pub low : moved n word - moved n 3472328296227680304 ≤ 651061555542690057
+  pub value : eight_of (moved n word - moved n 3472328296227680304) ≡ decimal_from 0 (take n text)
+  pub small : eight_of (moved n word - moved n 3472328296227680304) < 10 ^ 8
+
+word-is : (text : List ℕ) (word : ℕ) → 8 ≤ length text
     → word ≡ get_or text 0 0 + get_or text 1 0 * 256 + get_or text 2 0 * 65536 + get_or text 3 0 * 16777216 + get_or text 4 0 * 4294967296 + get_or text 5 0 * 1099511627776 + get_or text 6 0 * 281474976710656 + get_or text 7 0 * 72057594037927936
-    → (eight_of word ≡ decimal_from 0 (take 8 text)) × (eight_of word < 10 ^ 8)
-eight-is (a ∷ b ∷ c ∷ d ∷ e ∷ f ∷ g ∷ h ∷ rest) word long digits is =
-    let da = digit-split a (digits 0 (omega arith)) in
-    let db = digit-split b (digits 1 (omega arith)) in
-    let dc = digit-split c (digits 2 (omega arith)) in
-    let dd = digit-split d (digits 3 (omega arith)) in
-    let de = digit-split e (digits 4 (omega arith)) in
-    let df = digit-split f (digits 5 (omega arith)) in
-    let dg = digit-split g (digits 6 (omega arith)) in
-    let dh = digit-split h (digits 7 (omega arith)) in
-    eight-of a b c d e f g h (a - 48) (b - 48) (c - 48) (d - 48) (e - 48) (f - 48) (g - 48) (h - 48) word
-    da.0 db.0 dc.0 dd.0 de.0 df.0 dg.0 dh.0 da.1 db.1 dc.1 dd.1 de.1 df.1 dg.1 dh.1 is
-eight-is [] word long digits is = absurd (omega arith)
-eight-is (a ∷ []) word long digits is = absurd (omega arith)
-eight-is (a ∷ b ∷ []) word long digits is = absurd (omega arith)
-eight-is (a ∷ b ∷ c ∷ []) word long digits is = absurd (omega arith)
-eight-is (a ∷ b ∷ c ∷ d ∷ []) word long digits is = absurd (omega arith)
-eight-is (a ∷ b ∷ c ∷ d ∷ e ∷ []) word long digits is = absurd (omega arith)
-eight-is (a ∷ b ∷ c ∷ d ∷ e ∷ f ∷ []) word long digits is = absurd (omega arith)
-eight-is (a ∷ b ∷ c ∷ d ∷ e ∷ f ∷ g ∷ []) word long digits is = absurd (omega arith)
+    → word ≡ word_of (take 8 text)
+word-is (a ∷ b ∷ c ∷ d ∷ e ∷ f ∷ g ∷ h ∷ rest) word long is = omega (arith, is)
+word-is [] word long is = absurd (omega arith)
+word-is (a ∷ []) word long is = absurd (omega arith)
+word-is (a ∷ b ∷ []) word long is = absurd (omega arith)
+word-is (a ∷ b ∷ c ∷ []) word long is = absurd (omega arith)
+word-is (a ∷ b ∷ c ∷ d ∷ []) word long is = absurd (omega arith)
+word-is (a ∷ b ∷ c ∷ d ∷ e ∷ []) word long is = absurd (omega arith)
+word-is (a ∷ b ∷ c ∷ d ∷ e ∷ f ∷ []) word long is = absurd (omega arith)
+word-is (a ∷ b ∷ c ∷ d ∷ e ∷ f ∷ g ∷ []) word long is = absurd (omega arith)
+
+pub adds_up : (text : List ℕ) (n word : ℕ) → 8 ≤ length text → 0 < n → n ≤ 8 → ((k : ℕ) → get_or text k 0 < 256) → ((k : ℕ) → k < n → is_ascii_digit (get_or text k 0) ≡ true)
+    → word ≡ get_or text 0 0 + get_or text 1 0 * 256 + get_or text 2 0 * 65536 + get_or text 3 0 * 16777216 + get_or text 4 0 * 4294967296 + get_or text 5 0 * 1099511627776 + get_or text 6 0 * 281474976710656 + get_or text 7 0 * 72057594037927936
+    → AddsUp text n word
+adds_up text n word long some few bytes digits is =
+    let parts = word-parts text n 8 few long bytes in
+    let values : List ℕ = padded text n (8 - n) in
+    let up : moved n word ≡ 256 ^ (8 - n) * word_of (take n text) =
+    ap (moved n) (word-is text word long is ∙ parts.0) ∙ moved-is n (word_of (take n text)) (word_of (drop n (take 8 text))) some few parts.1 in
+    let split : 256 ^ (8 - n) * word_of (take n text) ≡ 256 ^ (8 - n) * word_of (map value (take n text)) + 256 ^ (8 - n) * word_of (replicate n 48) =
+    ap (λ w. 256 ^ (8 - n) * w) (digits-word text n (omega arith) digits) ∙ mul-add (256 ^ (8 - n)) (word_of (map value (take n text))) (word_of (replicate n 48)) in
+    let whole : moved n word ≡ moved n 3472328296227680304 + word_of values = omega (arith, up, split, zeros-moved n some few, padded-word text n (8 - n)) in
+    let less : moved n word - moved n 3472328296227680304 ≡ word_of values = omega (arith, whole) in
+    let sums = eight-is values (padded-length text n (8 - n) (omega arith) ∙ omega arith) (padded-small text n (8 - n) (omega arith) digits) in
+    record {
+      no_less = omega (arith, whole);
+      low = omega (arith, less, sums.0);
+      value = ap eight_of less ∙ sums.1 ∙ padded-decimal text n (8 - n);
+      small = subst (λ v. eight_of v < 10 ^ 8) (sym less) sums.2;
+    }
 
 -- ---- four bytes
 

@@ -1,4 +1,4 @@
--- Definitions that only lemmas and private functions cite. No public contract reaches one.
+-- Definitions that no contract of the program or of the six public crates reaches.
 pub mod Fields
 pub mod GenomeFile
 pub mod Number
@@ -10,5 +10,5 @@ pub mod BedFile
 pub mod BedReading
 pub mod Batches
 pub mod OnePass
-pub mod NameAndScore
+pub mod RecordColumns
 pub mod OtherColumns

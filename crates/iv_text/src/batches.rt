@@ -166,6 +166,11 @@ impl<T: Drop, A: Allocator + Copy> Batches<T, A> {
         }
     }
 
+    /// Where its items are allocated.
+    pub(crate) fn allocator(&self) -> A {
+        *self.last.allocator()
+    }
+
     /// Begins a new vector, with room for `most` items, if the last one has as many.
     #[inline(always)]
     fn make_room(&mut self, most: usize) -> Result<(), AllocError>

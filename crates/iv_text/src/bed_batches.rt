@@ -2,8 +2,7 @@
 ghost use Rattle.std.specs.Prelude.{◌≡◌, ◌≤◌};
 ghost use Rattle.iv_text.specs.Widths.{IsWidth};
 
-use crate::batches::Batches;
-use crate::record::Record;
+use crate::record_batches::RecordBatches;
 use std::alloc::{Allocator, Global};
 use std::marker::Model;
 
@@ -13,7 +12,7 @@ use std::marker::Model;
 #[derive(Drop)]
 pub struct BedBatches<A: Allocator = Global> {
     width: u8,
-    records: Batches<Record<A>, A>,
+    records: RecordBatches<A>,
 }
 
 impl<A: Allocator> Model for BedBatches<A> {
@@ -30,7 +29,7 @@ impl<A: Allocator> Model for BedBatches<A> {
 
 impl<A: Allocator> BedBatches<A> {
     /// The BED file of records of so many columns, 3 to 6.
-    pub fn of(width: u8, records: Batches<Record<A>, A>) -> BedBatches<A>
+    pub fn of(width: u8, records: RecordBatches<A>) -> BedBatches<A>
         requires { IsWidth width }
         ensures { result ≡ record { width = width; records = records } }
     {
@@ -46,7 +45,7 @@ impl<A: Allocator> BedBatches<A> {
     }
 
     /// The records, in the order of the file.
-    pub fn into_records(self) -> Batches<Record<A>, A>
+    pub fn into_records(self) -> RecordBatches<A>
         ensures { result ≡ self.records }
     {
         let BedBatches { width: _, records } = self;

@@ -5,11 +5,11 @@ ghost use Rattle.iv_text.specs.Inside.BedReading.{RefusesLine, TakesLine};
 ghost use Rattle.iv_text.specs.RecordValue.{RecordValue};
 ghost use Rattle.iv_text.specs.declared.fault.LoadCause.TheVariants as cause;
 
-use crate::batches::Batches;
 use crate::fault::{LoadCause, LoadFault};
 use crate::genome::Genome;
 use crate::lines::{is_unread, split_line, width_for};
 use crate::record::Record;
+use crate::record_batches::{KeepsRecords, RecordBatches};
 use crate::record_reader::{FastLine, RecordReader};
 use crate::record_ref::RecordRef;
 use std::alloc::{AllocError, Allocator};
@@ -23,6 +23,9 @@ pub trait FromRecord<A: Allocator + Copy>: Sized + Drop {
     ghost as_record: { Self → RecordValue };
     /// What is held of a record whose line begins at this byte.
     ghost held_of: { RecordValue → ℕ → Self };
+
+    /// What holds them, in the order of the records.
+    type Kept: KeepsRecords<Self, A>;
 
     /// What is held of a record whose line begins at this byte of its file. Bytes are counted with 32 bits: again from 0 after
     /// 4 GiB.
@@ -47,6 +50,8 @@ pub trait FromRecord<A: Allocator + Copy>: Sized + Drop {
 }
 
 impl<A: Allocator + Copy> FromRecord<A> for Record<A> {
+    type Kept = RecordBatches<A>;
+
     ghost projected = { λ r. r };
 
     ghost as_record = { λ one. one };
@@ -62,7 +67,7 @@ impl<A: Allocator + Copy> FromRecord<A> for Record<A> {
         read.to_record(alloc)
     }
 
-    // 64 KiB, which is less than what malloc takes from the system by itself.
+    // 48 KiB, or 24 of records of three columns: less than what malloc takes from the system by itself.
     fn most_in_batch() -> usize {
         2_048
     }
@@ -87,7 +92,7 @@ pub struct BedLines<K: FromRecord<A>, A: Allocator + Copy> {
     // The byte at which the next line begins, with 32 bits.
     at: u32,
     width: Option<u8>,
-    kept: Batches<K, A>,
+    kept: K::Kept,
 }
 
 impl<K: FromRecord<A>, A: Allocator + Copy> Model for BedLines<K, A> {
@@ -95,7 +100,7 @@ impl<K: FromRecord<A>, A: Allocator + Copy> Model for BedLines<K, A> {
 
     ghost Value = { Held K };
 
-    ghost view = { λ l. record { number = l.number; at = l.at; width = l.width; kept = l.kept } };
+    ghost view = { λ l. record { number = l.number; at = l.at; width = l.width; kept = K.Kept.items l.kept } };
 }
 
 /// What is held of a record whose line begins at this byte.
@@ -120,7 +125,7 @@ impl<K: FromRecord<A>, A: Allocator + Copy> BedLines<K, A> {
             number: 1,
             at: 0,
             width: None,
-            kept: Batches::new(alloc),
+            kept: K::Kept::empty(alloc),
         }
     }
 
@@ -156,10 +161,10 @@ impl<K: FromRecord<A>, A: Allocator + Copy> BedLines<K, A> {
         ensures number { self.new.number ≡ self.old.number }
         ensures err { IfErr result (λ c. (c ≡ cause.Memory) ⊎ ((c ≡ cause.TooMany) × (limit ≤ length self.old.kept))) }
     {
-        if self.kept.len() >= limit as usize {
+        if !self.kept.has_room(limit as usize) {
             return Err(LoadCause::TooMany);
         }
-        self.kept.push(K::most_in_batch(), one)?;
+        self.kept.keep(K::most_in_batch(), one)?;
         self.width = Some(width);
         Ok(())
     }
@@ -294,9 +299,9 @@ impl<K: FromRecord<A>, A: Allocator + Copy> BedLines<K, A> {
     }
 
     /// How many columns the records have, if there is one, and what is held of each.
-    pub fn finish(self) -> (Option<u8>, Batches<K, A>)
+    pub fn finish(self) -> (Option<u8>, K::Kept)
         ensures width { result.0 ≡ self.width }
-        ensures kept { result.1 ≡ self.kept }
+        ensures kept { K.Kept.items result.1 ≡ self.kept }
     {
         (self.width, self.kept)
     }

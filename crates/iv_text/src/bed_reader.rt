@@ -5,7 +5,6 @@ ghost use Rattle.iv_text.specs.BedReading.{AreSound, IsProjected, begun, read_on
 ghost use Rattle.iv_text.specs.Inside.BedReading.{IsEnded, EndsAtFeed};
 ghost use Rattle.iv_text.specs.Widths.{IsWidth};
 
-use crate::batches::Batches;
 use crate::bed_lines::{BedLines, FromRecord};
 use crate::fault::LoadFault;
 use crate::genome::Genome;
@@ -155,14 +154,14 @@ impl<K: FromRecord<A>, A: Allocator + Copy> BedReader<K, A> {
         genome: &Genome<A>,
         empty_width: u8,
         limit: u32,
-    ) -> Result<(u8, Batches<K, A>), LoadFault>
+    ) -> Result<(u8, K::Kept), LoadFault>
         requires width { IsWidth empty_width }
         requires sound { AreSound K.projected genome.now limit self.read }
         requires few { size_of self < 2 ^ 64 }
-        ensures ok { IfOk result (λ file. finished empty_width (read_on K.projected genome.now limit self []) ≡ Ok (record { width = file.0; records = map K.as_record file.1 })) }
+        ensures ok { IfOk result (λ file. finished empty_width (read_on K.projected genome.now limit self []) ≡ Ok (record { width = file.0; records = map K.as_record (K.Kept.items file.1) })) }
         ensures width { IfOk result (λ file. IsWidth file.0) }
-        ensures kept { IfOk result (λ file. All (IsProjected K.projected genome.now file.0) (map K.as_record file.1)) }
-        ensures few { IfOk result (λ file. length file.1 ≤ limit) }
+        ensures kept { IfOk result (λ file. All (IsProjected K.projected genome.now file.0) (map K.as_record (K.Kept.items file.1))) }
+        ensures few { IfOk result (λ file. length (K.Kept.items file.1) ≤ limit) }
         ensures err { IfErr result (λ f. (f ≡ record { line = 0; cause = cause.Memory }) ⊎ (read_on K.projected genome.now limit self [] ≡ Err f)) }
     {
         let BedReader {

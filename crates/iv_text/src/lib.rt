@@ -2,6 +2,7 @@
 #![tactic(auto)]
 
 mod batches;
+mod bed3_record;
 mod bed_batches;
 mod bed_file;
 mod bed_lines;
@@ -15,6 +16,8 @@ mod name_and_score;
 mod name_map;
 mod number;
 mod record;
+mod record_batches;
+mod record_columns;
 mod record_reader;
 mod record_ref;
 mod record_text;
@@ -26,6 +29,7 @@ pub use bed_file::BedFile;
 pub use bed_lines::{BedLines, FromRecord};
 pub use bed_reader::BedReader;
 pub use bed_record::BedRecord;
+pub use bed3_record::Bed3Record;
 pub use fault::{Fault, LoadCause, LoadFault, RecordFault, fault_text, load_text};
 pub use genome::{Genome, MOST_LENGTH, is_bad_name};
 pub use iv_bytes::{
@@ -40,6 +44,7 @@ pub use lines::{Fields, columns, is_unread, lines_of, split_first_column, split_
 pub use name_map::{ContentSeed, NameHasher, NameMap};
 pub use number::{read_digits, read_number};
 pub use record::Record;
+pub use record_batches::{KeepsRecords, RecordBatches};
 pub use record_reader::{FastLine, RecordReader};
 pub use record_ref::{RecordRef, Strand, read_record, read_strand};
 pub use record_text::{put_line, put_numbered, put_record, put_row, strand_bytes};

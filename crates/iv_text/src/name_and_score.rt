@@ -1,90 +1,17 @@
-//! The bytes of a record's name and score, in one allocation.
-ghost use Rattle.std.specs.Prelude.{◌≡◌, ◌≤◌, ◌<◌, ◌+◌, ◌^◌, length, IfOk, [], IsOk};
+//! A name and a score in one allocation.
+ghost use Rattle.std.specs.Prelude.{◌≡◌, ◌≤◌, ◌<◌, ◌+◌, ◌^◌, length, IfOk};
 
-use std::alloc::{AllocError, Allocator, Global};
+use std::alloc::{AllocError, Allocator};
 use std::marker::Model;
 
-/// A name and a score. It has 16 bytes, so that a record has 32. Without bytes it takes no memory.
-#[derive(Drop)]
-pub(crate) struct NameAndScore<A: Allocator = Global> {
-    storage: Storage<A>,
-}
-
-/// Where the bytes lie, by how many there are.
-///
-/// The usual texts take one allocation, of 24 or 40 bytes with their two lengths. Those are the two smallest blocks
-/// that the C library's `malloc` gives: it keeps 8 bytes before each, and both together are a multiple of 16.
-#[derive(Drop)]
-enum Storage<A: Allocator> {
-    Empty,
-    Short(Box<BoundedTexts<SHORT>, A>),
-    Medium(Box<BoundedTexts<MEDIUM>, A>),
-    Long(Box<LongTexts<A>, A>),
-}
-
 /// The most bytes of texts in a block of 24 bytes.
-const SHORT: usize = 22;
+///
+/// The usual texts take a block of 24 or 40 bytes with their two lengths. Those are the two smallest blocks that the C
+/// library's `malloc` gives: it keeps 8 bytes before each, and both together are a multiple of 16.
+pub(crate) const SHORT: usize = 22;
 
 /// The most bytes of texts in a block of 40 bytes.
-const MEDIUM: usize = 38;
-
-impl<A: Allocator> Model for NameAndScore<A> {
-    ghost use Rattle.std.specs.Prelude.{List, ℕ};
-    ghost use Rattle.iv_text.specs.Inside.NameAndScore.{texts_at};
-
-    ghost Value = { List ℕ × List ℕ };
-
-    ghost view = { λ t. texts_at t.storage };
-}
-
-impl<A: Allocator> NameAndScore<A> {
-    pub(crate) fn empty(_alloc: A) -> Self
-        ensures { result ≡ ([], []) }
-    {
-        NameAndScore {
-            storage: Storage::Empty,
-        }
-    }
-
-    pub(crate) fn name(&self) -> &[u8]
-        ensures { result.now ≡ self.now.0 }
-    {
-        match &self.storage {
-            Storage::Empty => &[],
-            Storage::Short(texts) => texts.name(),
-            Storage::Medium(texts) => texts.name(),
-            Storage::Long(texts) => texts.name(),
-        }
-    }
-
-    pub(crate) fn score(&self) -> &[u8]
-        ensures { result.now ≡ self.now.1 }
-    {
-        match &self.storage {
-            Storage::Empty => &[],
-            Storage::Short(texts) => texts.score(),
-            Storage::Medium(texts) => texts.score(),
-            Storage::Long(texts) => texts.score(),
-        }
-    }
-}
-
-// Long texts take two allocations, so the allocator is used twice.
-impl<A: Allocator + Copy> NameAndScore<A> {
-    /// A copy of both, in one allocation if they have at most 38 bytes together.
-    pub(crate) fn copy_of(alloc: A, name: &[u8], score: &[u8]) -> Result<Self, AllocError>
-        ensures ok { IfOk result (λ t. t ≡ (name.now, score.now)) }
-        ensures free { name.now ≡ [] → score.now ≡ [] → IsOk result }
-    {
-        let storage = match name.len() + score.len() {
-            0 => Storage::Empty,
-            ..=SHORT => Storage::Short(Box::new(alloc, BoundedTexts::copy_of(name, score))?),
-            ..=MEDIUM => Storage::Medium(Box::new(alloc, BoundedTexts::copy_of(name, score))?),
-            _ => Storage::Long(Box::new(alloc, LongTexts::copy_of(alloc, name, score)?)?),
-        };
-        Ok(NameAndScore { storage })
-    }
-}
+pub(crate) const MEDIUM: usize = 38;
 
 /// A name and a score of at most `N` bytes together, one after the other. The bytes beyond are 0.
 #[derive(Drop)]

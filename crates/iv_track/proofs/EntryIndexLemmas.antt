@@ -3,7 +3,7 @@ use Rattle.std.proofs.Common.{◌≡◌, ℕ, ◌+◌, ◌<◌, Bool, true, fals
 use borrow.Author.Tests.{lt-ltb}
 use Rattle.std.proofs.lemmas.List.Elements.{All-head, All-tail}
 use Rattle.std.proofs.lemmas.Map.Lookups.{exact_unsigned}
-use Rattle.std.specs.Prelude.{filter, find, All}
+use Rattle.std.specs.Prelude.{filter, find, All, ◌≤◌}
 use Rattle.std.specs.Map.{keys_of}
 use Rattle.std.specs.declared.cmp.Ordering.{Ordering}
 use Rattle.std.specs.declared.cmp.Ordering.TheVariants.{Less, Equal, Greater}
@@ -41,28 +41,37 @@ none_le : (s : Option Strand) → is_le (option_cmp strand_cmp None s) ≡ true
 none_le None = refl
 none_le (Some s) = refl
 
--- the least record at a position is before exactly the records from there on that have a base
-least-is_from : (seq start : ℕ) (q : RecordValue) → q.start < q.stop → is_le (record_cmp (record { seq = seq; start = start; stop = start + 1; name = []; score = []; strand = None; width = 0 }) q) ≡ is_from seq start q
-least-is_from seq start q some =
-    from_least (nat_cmp seq q.seq) (nat_cmp start q.start) _ (λ tied.
-    (le_then (nat_cmp (start + 1) q.stop) _ (le-cmp (start + 1) q.stop (omega (arith, some, exact_unsigned start q.start tied)))
-    (le_then (slice_cmp nat_cmp [] q.name) _ (empty_le q.name)
+-- columns that are empty come before others, if their width isn't greater
+pub empty-before : (w : ℕ) (q : RecordValue) → w ≤ q.width → is_le (ordering_then (slice_cmp nat_cmp [] q.name) (ordering_then (slice_cmp nat_cmp [] q.score) (ordering_then (option_cmp strand_cmp None q.strand) (nat_cmp w q.width)))) ≡ true
+empty-before w q narrow =
+    le_then (slice_cmp nat_cmp [] q.name) _ (empty_le q.name)
     (le_then (slice_cmp nat_cmp [] q.score) _ (empty_le q.score)
-    (le_then (option_cmp strand_cmp None q.strand) _ (none_le q.strand) (zero_le q.width))))))
+    (le_then (option_cmp strand_cmp None q.strand) _ (none_le q.strand) (le-cmp w q.width narrow)))
+
+-- the least record of a width at a position is before exactly the records from there on that have a base, if none is narrower
+pub least-is_from : (w seq start : ℕ) (q : RecordValue) → q.start < q.stop → w ≤ q.width → is_le (record_cmp (record { seq = seq; start = start; stop = start + 1; name = []; score = []; strand = None; width = w }) q) ≡ is_from seq start q
+least-is_from w seq start q some narrow =
+    from_least (nat_cmp seq q.seq) (nat_cmp start q.start) _ (λ tied.
+    (le_then (nat_cmp (start + 1) q.stop) _ (le-cmp (start + 1) q.stop (omega (arith, some, exact_unsigned start q.start tied))) (empty-before w q narrow)))
 
 -- it is where a search from there begins
-pub begins-least : (seq start : ℕ) → BeginsFrom seq start (Some (record { seq = seq; start = start; stop = start + 1; name = []; score = []; strand = None; width = 0 }))
-begins-least seq start q p = least-is_from seq start q p.some
+begins-least : (seq start : ℕ) (q : RecordValue) → IsPlaced q → is_le (record_cmp (record { seq = seq; start = start; stop = start + 1; name = []; score = []; strand = None; width = 0 }) q) ≡ is_from seq start q
+begins-least seq start q p = least-is_from 0 seq start q p.some (omega arith)
 
--- tests that agree on placed records find the same
-find-placed : (p r : RecordValue → Bool) → ((q : RecordValue) → IsPlaced q → p q ≡ r q) → (es : List (RecordValue × ℕ)) → All IsPlaced (keys_of es) → find (λ e. p e.0) es ≡ find (λ e. r e.0) es
-find-placed p r same [] h = refl
-find-placed p r same (e ∷ es) h =
-    (λ i. cond (same e.0 (All-head IsPlaced e.0 (keys_of es) h) i) (Some e) (find-placed p r same es (All-tail IsPlaced e.0 (keys_of es) h) i))
+-- tests that agree on some records find the same among them
+pub find-alike : (P : RecordValue → Type 0) (p r : RecordValue → Bool) → ((q : RecordValue) → P q → p q ≡ r q) → (es : List (RecordValue × ℕ)) → All P (keys_of es) → find (λ e. p e.0) es ≡ find (λ e. r e.0) es
+find-alike P p r same [] h = refl
+find-alike P p r same (e ∷ es) h =
+    (λ i. cond (same e.0 (All-head P e.0 (keys_of es) h) i) (Some e) (find-alike P p r same es (All-tail P e.0 (keys_of es) h) i))
 
 -- a search from where it begins finds the first record from the position on
-pub find-begun : (seq start : ℕ) (least : RecordValue) (es : List (RecordValue × ℕ)) → BeginsFrom seq start (Some least) → All IsPlaced (keys_of es) → find (λ e. is_le (record_cmp least e.0)) es ≡ find (λ e. is_from seq start e.0) es
-find-begun seq start least es begins = find-placed (λ q. is_le (record_cmp least q)) (is_from seq start) begins es
+pub find-begun : (seq start : ℕ) (p : ℕ × ℕ) (es : List (RecordValue × ℕ)) → BeginsFrom seq start (Some p) → All IsPlaced (keys_of es) → find (λ e. is_from p.0 p.1 e.0) es ≡ find (λ e. is_from seq start e.0) es
+find-begun seq start p es begins = find-alike IsPlaced (is_from p.0 p.1) (is_from seq start) begins.1 es
+
+-- the first entry from the least record at a position on is that of the first record from there on
+pub find-least : (seq start : ℕ) (es : List (RecordValue × ℕ)) → All IsPlaced (keys_of es)
+    → find (λ e. is_le (record_cmp (record { seq = seq; start = start; stop = start + 1; name = []; score = []; strand = None; width = 0 }) e.0)) es ≡ find (λ e. is_from seq start e.0) es
+find-least seq start es = find-alike IsPlaced (λ q. is_le (record_cmp (record { seq = seq; start = start; stop = start + 1; name = []; score = []; strand = None; width = 0 }) q)) (is_from seq start) (begins-least seq start) es
 
 find-nothing : (es : List (RecordValue × ℕ)) → find (λ (e : RecordValue × ℕ). false) es ≡ None
 find-nothing [] = refl
@@ -70,22 +79,22 @@ find-nothing (e ∷ es) = find-nothing es
 
 -- if it begins nowhere there is none
 pub find-nowhere : (seq start : ℕ) (es : List (RecordValue × ℕ)) → BeginsFrom seq start None → All IsPlaced (keys_of es) → find (λ e. is_from seq start e.0) es ≡ None
-find-nowhere seq start es begins h = find-placed (is_from seq start) (λ q. false) begins es h ∙ find-nothing es
+find-nowhere seq start es begins h = find-alike IsPlaced (is_from seq start) (λ q. false) begins es h ∙ find-nothing es
 
--- tests that agree on placed records keep the same
-filter-placed : (p r : RecordValue → Bool) → ((q : RecordValue) → IsPlaced q → p q ≡ r q) → (es : List (RecordValue × ℕ)) → All IsPlaced (keys_of es) → filter (λ e. p e.0) es ≡ filter (λ e. r e.0) es
-filter-placed p r same [] h = refl
-filter-placed p r same (e ∷ es) h =
-    let rest = filter-placed p r same es (All-tail IsPlaced e.0 (keys_of es) h) in
-    (λ i. cond (same e.0 (All-head IsPlaced e.0 (keys_of es) h) i) (e ∷ rest i) (rest i))
+-- tests that agree on some records keep the same of them
+pub filter-alike : (P : RecordValue → Type 0) (p r : RecordValue → Bool) → ((q : RecordValue) → P q → p q ≡ r q) → (es : List (RecordValue × ℕ)) → All P (keys_of es) → filter (λ e. p e.0) es ≡ filter (λ e. r e.0) es
+filter-alike P p r same [] h = refl
+filter-alike P p r same (e ∷ es) h =
+    let rest = filter-alike P p r same es (All-tail P e.0 (keys_of es) h) in
+    (λ i. cond (same e.0 (All-head P e.0 (keys_of es) h) i) (e ∷ rest i) (rest i))
 
 -- the entries from where a search begins on are those of the records from the position on
-pub filter-begun : (seq start : ℕ) (least : RecordValue) (es : List (RecordValue × ℕ)) → BeginsFrom seq start (Some least) → All IsPlaced (keys_of es) → filter (λ e. is_le (record_cmp least e.0)) es ≡ filter (λ e. is_from seq start e.0) es
-filter-begun seq start least es begins = filter-placed (λ q. is_le (record_cmp least q)) (is_from seq start) begins es
+pub filter-begun : (seq start : ℕ) (p : ℕ × ℕ) (es : List (RecordValue × ℕ)) → BeginsFrom seq start (Some p) → All IsPlaced (keys_of es) → filter (λ e. is_from p.0 p.1 e.0) es ≡ filter (λ e. is_from seq start e.0) es
+filter-begun seq start p es begins = filter-alike IsPlaced (is_from p.0 p.1) (is_from seq start) begins.1 es
 
 -- if it begins nowhere there are none
 pub filter-nowhere : (seq start : ℕ) (es : List (RecordValue × ℕ)) → BeginsFrom seq start None → All IsPlaced (keys_of es) → filter (λ e. is_from seq start e.0) es ≡ []
-filter-nowhere seq start es begins h = filter-placed (is_from seq start) (λ q. false) begins es h ∙ filter-all_false es
+filter-nowhere seq start es begins h = filter-alike IsPlaced (is_from seq start) (λ q. false) begins es h ∙ filter-all_false es
   where
     filter-all_false : (es : List (RecordValue × ℕ)) → filter (λ (e : RecordValue × ℕ). false) es ≡ []
     filter-all_false [] = refl
@@ -94,4 +103,4 @@ filter-nowhere seq start es begins h = filter-placed (is_from seq start) (λ q. 
 -- the entries from the least record at a position on are those of the records from there on
 pub filter-least : (seq start : ℕ) (es : List (RecordValue × ℕ)) → All IsPlaced (keys_of es)
     → filter (λ e. is_le (record_cmp (record { seq = seq; start = start; stop = start + 1; name = []; score = []; strand = None; width = 0 }) e.0)) es ≡ filter (λ e. is_from seq start e.0) es
-filter-least seq start es = filter-begun seq start (record { seq = seq; start = start; stop = start + 1; name = []; score = []; strand = None; width = 0 }) es (begins-least seq start)
+filter-least seq start es = filter-alike IsPlaced (λ q. is_le (record_cmp (record { seq = seq; start = start; stop = start + 1; name = []; score = []; strand = None; width = 0 }) q)) (is_from seq start) (begins-least seq start) es

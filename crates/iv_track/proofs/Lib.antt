@@ -16,6 +16,7 @@ pub mod ReplacedLemmas
 pub mod RoomLemmas
 pub mod Splits
 pub mod StepLemmas
+pub mod StoredLemmas
 pub mod TrackLemmas
 pub mod WalkLemmas
 pub mod PlaceLemmas

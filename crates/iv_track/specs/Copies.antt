@@ -1,6 +1,5 @@
 -- Copies of one key in a list, and lists in order as different keys with their copies.
-use denote.Ref.{Bor}
-use Rattle.std.specs.Prelude.{ℕ, ◌+◌, cond, List, [], ◌∷◌, ◌++◌, replicate, Option, Some, None}
+use Rattle.std.specs.Prelude.{ℕ, ◌+◌, cond, List, [], ◌∷◌, ◌++◌, replicate}
 use Rattle.std.specs.declared.cmp.Ordering.{Ordering}
 use Rattle.std.specs.Ordering.{is_eq}
 
@@ -15,11 +14,6 @@ module _ {K : Type 0} (cmp : K → K → Ordering) where
   different_by [] = 0
   different_by (x ∷ []) = 1
   different_by (x ∷ q ∷ xs) = cond (is_eq (cmp x q)) 0 1 + different_by (q ∷ xs)
-
--- the copies that are held
-abbrev pub again : {K : Type 0} → Option (Bor K × ℕ) → List K
-again None = []
-again (Some p) = replicate p.1 p.0.now
 
 -- the list that a map from keys to numbers of copies means
 abbrev pub expanded : {K : Type 0} → List (K × ℕ) → List K

@@ -1,7 +1,9 @@
--- Definitions that only lemmas and private functions cite. No public contract reaches one.
+-- Definitions that no contract of the program or of the six public crates reaches.
 pub mod Chunks
 pub mod Counted
+pub mod Lent
 pub mod LengthClasses
 pub mod Replaced
 pub mod Steps
+pub mod Stored
 pub mod Tracked

@@ -2,17 +2,28 @@
 ghost use Rattle.std.specs.Prelude.{◌≡◌, ◌+◌, ◌-◌, ◌^◌, ◌<◌, ◌≤◌, ℕ, [], length, slice_index_or, slice_set};
 ghost use Rattle.iv_track.specs.Copies.{expanded};
 ghost use Rattle.iv_track.specs.Inside.LengthClasses.{AreClasses, length_class};
+ghost use Rattle.iv_track.specs.Lent.{value_of};
 
-use crate::ledger::Walk;
+use crate::entries::EntriesWalk;
+use crate::track_record::{Lent, TrackRecord};
 use iv_text::Record;
 use std::alloc::Allocator;
 use std::marker::Model;
 
 /// How many binary digits the number of a record's positions has, 1 to 32.
-pub(crate) fn length_class<A: Allocator>(feature: &Record<A>) -> usize
+pub(crate) fn length_class<A: Allocator + Copy>(feature: &Record<A>) -> usize
     ensures is { result ≡ length_class feature.now }
     ensures within { result < 33 }
 {
+    lent_class(Lent::Full(feature))
+}
+
+/// How many binary digits the number of a lent record's positions has, 1 to 32.
+fn lent_class<A: Allocator + Copy>(lent: Lent<'_, A>) -> usize
+    ensures is { result ≡ length_class (value_of lent.entry) }
+    ensures within { result < 33 }
+{
+    let feature = TrackRecord::of(lent);
     feature.lemma_of_interval();
     let positions = (feature.stop() - feature.start()) as u32;
     (32 - positions.leading_zeros()) as usize
@@ -43,14 +54,14 @@ impl LengthClasses {
     }
 
     /// The classes of the records of a map, each with the number of its copies.
-    pub(crate) fn of<A: Allocator + Copy>(entries: Walk<'_, Record<A>, u32, A>) -> Self
+    pub(crate) fn of<A: Allocator + Copy>(entries: EntriesWalk<'_, A>) -> Self
         requires { length (expanded entries) < 2 ^ 32 }
         ensures { AreClasses result (expanded entries.entry) }
     {
         let mut classes = LengthClasses::new();
         let mut entries = entries;
-        while let Some((feature, copies)) = entries.advance() {
-            classes.add(length_class(feature), *copies);
+        while let Some((lent, copies)) = entries.advance() {
+            classes.add(lent_class(lent), copies);
         }
         classes
     }

@@ -2,7 +2,10 @@
 #![tactic(auto)]
 
 mod counted;
+mod counted_bed3;
+mod entries;
 mod entry_index;
+mod kept_track;
 mod ledger;
 mod lemmas;
 mod length_classes;
@@ -12,8 +15,10 @@ mod starts;
 mod track;
 mod track_entries;
 mod track_hits;
+mod track_record;
 mod track_records;
 
+pub use iv_text::Bed3Record;
 pub use ledger::{Ledger, Walk};
 pub use lemmas::{one_record_added, one_record_removed};
 pub use meter::Meter;
@@ -22,4 +27,5 @@ pub use starts::Abbreviated;
 pub use track::{EditFault, Track};
 pub use track_entries::TrackEntries;
 pub use track_hits::TrackHits;
+pub use track_record::TrackRecord;
 pub use track_records::TrackRecords;

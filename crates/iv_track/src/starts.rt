@@ -3,7 +3,7 @@ ghost use Rattle.std.specs.Prelude.{◌≡◌, ◌+◌, ◌<◌, ◌≤◌, [], 
 ghost use Rattle.iv_track.specs.Inside.Replaced.{IsReplaced};
 
 use crate::entry_index::{EntryIndex, MOST_IN_CHUNK};
-use iv_text::Record;
+use iv_text::{Bed3Record, Record};
 use std::alloc::{AllocError, Allocator};
 use std::marker::Model;
 
@@ -43,6 +43,13 @@ impl Abbreviated for (u32, bool, u32) {
 
 /// Its sequence and its start.
 impl<A: Allocator> Abbreviated for Record<A> {
+    fn abbreviation(&self) -> u64 {
+        ((self.seq() as u64) << 32) | self.start()
+    }
+}
+
+/// Its sequence and its start.
+impl Abbreviated for Bed3Record {
     fn abbreviation(&self) -> u64 {
         ((self.seq() as u64) << 32) | self.start()
     }

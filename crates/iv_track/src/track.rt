@@ -13,14 +13,16 @@ ghost use Rattle.iv_track.specs.Tracked.{different_records, most_records};
 ghost use Rattle.iv_track.specs.Inside.Tracked.{BeginsFrom};
 
 use crate::counted::count_copies;
-use crate::ledger::Ledger;
+use crate::counted_bed3::{count_bed3, short_records};
+use crate::entries::Entries;
 use crate::length_classes::{LengthClasses, length_class};
 use crate::meter::Meter;
 use crate::region::Region;
 use crate::track_entries::TrackEntries;
 use crate::track_hits::TrackHits;
+use crate::track_record::TrackRecord;
 use crate::track_records::TrackRecords;
-use iv_text::{Batches, Fault, Record};
+use iv_text::{Batches, Bed3Record, Fault, Record};
 use std::alloc::{AllocError, Allocator, Global};
 use std::marker::Model;
 
@@ -32,8 +34,7 @@ pub type EditFault = Fault;
 /// Its model is the one ordered list of its records, with copies repeated, with the width and the limit.
 #[derive(Drop)]
 pub struct Track<A: Allocator + Copy = Global> {
-    ledger: Ledger<Record<A>, u32, A>,
-    alloc: A,
+    ledger: Entries<A>,
     len: u32,
     limit: u32,
     width: u8,
@@ -64,8 +65,7 @@ impl<A: Allocator + Copy> Track<A> {
         ensures { result ≡ record { records = []; width = width; limit = limit } }
     {
         Track {
-            ledger: Ledger::new(alloc),
-            alloc,
+            ledger: Entries::new(alloc),
             len: 0,
             limit,
             width,
@@ -106,15 +106,59 @@ impl<A: Allocator + Copy> Track<A> {
         requires width { All (λ r. r.width ≡ width) records }
         ensures { IfOk result (λ t. t ≡ record { records = ordered records; width = width; limit = limit }) }
     {
+        if width == 3 {
+            return Track::from_bed3(alloc, limit, short_records(alloc, records)?);
+        }
+        Track::from_full(alloc, width, limit, records)
+    }
+
+    /// The track of these records, held whole.
+    fn from_full(
+        alloc: A,
+        width: u8,
+        limit: u32,
+        records: Batches<Record<A>, A>,
+    ) -> Result<Self, AllocError>
+        requires limit { limit ≤ most_records }
+        requires few { length records ≤ limit }
+        requires width { All (λ r. r.width ≡ width) records }
+        ensures { IfOk result (λ t. t ≡ record { records = ordered records; width = width; limit = limit }) }
+    {
         let len = records.len() as u32;
-        let ledger = count_copies(alloc, records)?;
+        let counted = count_copies(alloc, records)?;
+        let ledger = Entries::of_full(alloc, counted);
         let lengths = LengthClasses::of(ledger.all());
         Ok(Track {
             ledger,
-            alloc,
             len,
             limit,
             width,
+            lengths,
+        })
+    }
+
+    /// The track of these records of three columns, as [`Track::from_batches`] makes it.
+    ///
+    /// The limit is at most 100,000,000 records. There are no more records than the limit, and each has the width.
+    pub fn from_bed3(
+        alloc: A,
+        limit: u32,
+        records: Batches<Bed3Record, A>,
+    ) -> Result<Self, AllocError>
+        requires limit { limit ≤ most_records }
+        requires few { length records ≤ limit }
+        requires width { All (λ r. r.width ≡ 3) records }
+        ensures { IfOk result (λ t. t ≡ record { records = ordered records; width = 3; limit = limit }) }
+    {
+        let len = records.len() as u32;
+        let counted = count_bed3(alloc, records)?;
+        let ledger = Entries::of_bed3(alloc, counted);
+        let lengths = LengthClasses::of(ledger.all());
+        Ok(Track {
+            ledger,
+            len,
+            limit,
+            width: 3,
             lengths,
         })
     }
@@ -151,7 +195,7 @@ impl<A: Allocator + Copy> Track<A> {
         ensures ordered { AreInOrder self.now.records }
         ensures steps { TakesUpTo meter.old meter.new 2 }
     {
-        self.ledger.get(feature, meter).copied().unwrap_or(0)
+        self.ledger.get(feature, meter).unwrap_or(0)
     }
 
     /// Adds a record without a look at the limit. At most 3 steps.
@@ -174,7 +218,7 @@ impl<A: Allocator + Copy> Track<A> {
     {
         feature.lemma_of_interval();
         let class = length_class(&feature);
-        let count = self.ledger.get(&feature, meter).copied().unwrap_or(0);
+        let count = self.ledger.get(&feature, meter).unwrap_or(0);
         self.ledger.put(feature, count + 1, meter)?;
         self.lengths.add(class, 1);
         self.len += 1;
@@ -206,23 +250,30 @@ impl<A: Allocator + Copy> Track<A> {
     /// It is for callers outside this repository.
     ///
     /// At most 2 steps, and no memory.
-    pub fn at_or_after(&self, seq: u32, start: u64, meter: &mut Meter) -> Option<(&Record<A>, u32)>
-        ensures next { option_map (λ p. (p.0.now, p.1)) result ≡ next_from self.now.records seq start }
+    pub fn at_or_after(
+        &self,
+        seq: u32,
+        start: u64,
+        meter: &mut Meter,
+    ) -> Option<(TrackRecord<'_, A>, u32)>
+        ensures next { result ≡ next_from self.now.records seq start }
         ensures steps { TakesUpTo meter.old meter.new 2 }
     {
-        let least = least_from(self.alloc, seq, start)?;
-        let (feature, count) = self.ledger.at_or_after(&least, meter)?;
-        Some((feature, *count))
+        // After this read what the map is is known.
+        let _len = self.len;
+        let (seq, start) = first_place(seq, start)?;
+        let (lent, count) = self.ledger.at_or_after(seq, start, meter)?;
+        Some((TrackRecord::of(lent), count))
     }
 
     /// The first record after this one, and how many copies of it there are. At most 2 steps, and no memory.
     /// It is for callers outside this repository.
-    pub fn after(&self, feature: &Record<A>, meter: &mut Meter) -> Option<(&Record<A>, u32)>
-        ensures next { option_map (λ p. (p.0.now, p.1)) result ≡ next_after self.now.records feature.now }
+    pub fn after(&self, feature: &Record<A>, meter: &mut Meter) -> Option<(TrackRecord<'_, A>, u32)>
+        ensures next { result ≡ next_after self.now.records feature.now }
         ensures steps { TakesUpTo meter.old meter.new 2 }
     {
-        let (next, count) = self.ledger.after(feature, meter)?;
-        Some((next, *count))
+        let (lent, count) = self.ledger.after(feature, meter)?;
+        Some((TrackRecord::of(lent), count))
     }
 
     /// The records on this sequence from this start on, and on later sequences, copies repeated.
@@ -235,9 +286,8 @@ impl<A: Allocator + Copy> Track<A> {
         ensures ordered { AreInOrder self.now.records }
         ensures steps { TakesUpTo meter.old meter.new 1 }
     {
-        let least = Record::least_at(self.alloc, seq, start as u32);
         TrackRecords {
-            entries: self.ledger.walk(&least, meter),
+            entries: self.ledger.walk(seq, start as u32, meter),
             held: None,
         }
     }
@@ -251,9 +301,8 @@ impl<A: Allocator + Copy> Track<A> {
         ensures each { length result ≡ different_records (filter (is_from seq start) self.now.records) }
         ensures step { meter.new ≡ ticked meter.old }
     {
-        let least = Record::least_at(self.alloc, seq, start as u32);
         TrackEntries {
-            entries: self.ledger.walk(&least, meter),
+            entries: self.ledger.walk(seq, start as u32, meter),
         }
     }
 
@@ -303,11 +352,13 @@ impl<A: Allocator + Copy> Track<A> {
         ensures records { result ≡ filter (is_from seq start) self.now.records }
         ensures steps { TakesUpTo meter.old meter.new 1 }
     {
-        let Some(least) = least_from(self.alloc, seq, start) else {
+        // After this read what the map is is known.
+        let _len = self.len;
+        let Some((seq, start)) = first_place(seq, start) else {
             return TrackRecords::none();
         };
         TrackRecords {
-            entries: self.ledger.walk(&least, meter),
+            entries: self.ledger.walk(seq, start, meter),
             held: None,
         }
     }
@@ -333,7 +384,7 @@ impl<A: Allocator + Copy> Track<A> {
         ensures was_ordered { AreInOrder self.old.records }
         ensures steps { TakesUpTo meter.old meter.new 3 }
     {
-        let Some(count) = self.ledger.get(feature, meter).copied() else {
+        let Some(count) = self.ledger.get(feature, meter) else {
             return Err(EditFault::Absent);
         };
         self.lengths.remove(length_class(feature));
@@ -380,14 +431,15 @@ impl<A: Allocator + Copy> Track<A> {
     }
 }
 
-/// The least record that may be on this sequence from this start on, or on a later sequence, `None` if none may be.
-fn least_from<A: Allocator + Copy>(alloc: A, seq: u32, start: u64) -> Option<Record<A>>
+/// From which start of which sequence the records are that are on this sequence from this start on, or on a later one. `None` if
+/// there can be none.
+fn first_place(seq: u32, start: u64) -> Option<(u32, u32)>
     ensures { BeginsFrom seq start result }
 {
     if start < u64::from(u32::MAX) {
-        return Some(Record::least_at(alloc, seq, start as u32));
+        return Some((seq, start as u32));
     }
     // No record starts so late.
     let next = seq.checked_add(1)?;
-    Some(Record::least_at(alloc, next, 0))
+    Some((next, 0))
 }

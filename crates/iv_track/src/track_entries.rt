@@ -3,9 +3,9 @@ ghost use Rattle.std.specs.Prelude.{◌≡◌};
 ghost use Rattle.std.specs.Map.Iter.{TakesFirst};
 ghost use Rattle.iv_track.specs.Steps.{ticked};
 
-use crate::ledger::Walk;
+use crate::entries::EntriesWalk;
 use crate::meter::Meter;
-use iv_text::Record;
+use crate::track_record::TrackRecord;
 use std::alloc::{Allocator, Global};
 use std::marker::Model;
 
@@ -14,7 +14,7 @@ use std::marker::Model;
 /// A record comes once, with the number of its copies. Its model is the list of these pairs that are left.
 #[derive(Drop)]
 pub struct TrackEntries<'a, A: Allocator + Copy = Global> {
-    pub(crate) entries: Walk<'a, Record<A>, u32, A>,
+    pub(crate) entries: EntriesWalk<'a, A>,
 }
 
 impl<'a, A: Allocator + Copy> Model for TrackEntries<'a, A> {
@@ -28,11 +28,11 @@ impl<'a, A: Allocator + Copy> Model for TrackEntries<'a, A> {
 
 impl<'a, A: Allocator + Copy> TrackEntries<'a, A> {
     /// The next record and how many copies of it there are, `None` after the last. Each call is one step, the last one too.
-    pub fn next(&mut self, meter: &mut Meter) -> Option<(&'a Record<A>, u32)>
-        ensures next { TakesFirst (λ p. (p.0.now, p.1)) self.old result self.new }
+    pub fn next(&mut self, meter: &mut Meter) -> Option<(TrackRecord<'a, A>, u32)>
+        ensures next { TakesFirst (λ p. p) self.old result self.new }
         ensures step { meter.new ≡ ticked meter.old }
     {
-        let (record, copies) = self.entries.next(meter)?;
-        Some((record, *copies))
+        let (lent, copies) = self.entries.next(meter)?;
+        Some((TrackRecord::of(lent), copies))
     }
 }

@@ -1,12 +1,12 @@
 //! A walk over the records of a track that share a position with a region.
 ghost use Rattle.std.specs.Prelude.{◌≡◌};
-ghost use Rattle.std.specs.Iterator.{YieldsFirstRef};
+ghost use Rattle.std.specs.Iterator.{YieldsFirst};
 ghost use Rattle.iv_track.specs.Regions.{TakesForPassed, end_step};
 
 use crate::meter::Meter;
 use crate::region::Region;
+use crate::track_record::TrackRecord;
 use crate::track_records::TrackRecords;
-use iv_text::Record;
 use std::alloc::{Allocator, Global};
 use std::marker::Model;
 
@@ -37,15 +37,15 @@ impl<'a, A: Allocator + Copy> Model for TrackHits<'a, A> {
 impl<'a, A: Allocator + Copy> TrackHits<'a, A> {
     /// The next record, `None` after the last. A call is at most one step for each record that it passes, and the last call
     /// at most another.
-    pub fn next(&mut self, meter: &mut Meter) -> Option<&'a Record<A>>
-        ensures feature { YieldsFirstRef (λ h. h.records) self.old result self.new }
+    pub fn next(&mut self, meter: &mut Meter) -> Option<TrackRecord<'a, A>>
+        ensures feature { YieldsFirst (λ h. h.records) self.old result self.new }
         ensures steps { TakesForPassed meter.old meter.new self.old self.new (end_step result) }
     {
         while let Some(feature) = self.records.next(meter) {
-            if self.at.overlaps(feature) {
+            if self.at.overlaps(&feature) {
                 return Some(feature);
             }
-            if self.at.ends_before(feature) {
+            if self.at.ends_before(&feature) {
                 return None;
             }
         }

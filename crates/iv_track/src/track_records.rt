@@ -1,11 +1,11 @@
 //! A walk over the records of a track.
 ghost use Rattle.std.specs.Prelude.{◌≡◌, []};
-ghost use Rattle.std.specs.Iterator.{YieldsFirstRef};
+ghost use Rattle.std.specs.Iterator.{YieldsFirst};
 ghost use Rattle.iv_track.specs.Steps.{TakesUpTo};
 
-use crate::ledger::Walk;
+use crate::entries::EntriesWalk;
 use crate::meter::Meter;
-use iv_text::Record;
+use crate::track_record::{Lent, TrackRecord};
 use std::alloc::{Allocator, Global};
 use std::marker::Model;
 
@@ -14,15 +14,16 @@ use std::marker::Model;
 /// A record comes once for each of its copies. Its model is the list of the records that are left.
 #[derive(Drop)]
 pub struct TrackRecords<'a, A: Allocator + Copy = Global> {
-    pub(crate) entries: Walk<'a, Record<A>, u32, A>,
-    pub(crate) held: Option<(&'a Record<A>, u32)>,
+    pub(crate) entries: EntriesWalk<'a, A>,
+    pub(crate) held: Option<(Lent<'a, A>, u32)>,
 }
 
 impl<'a, A: Allocator + Copy> Model for TrackRecords<'a, A> {
     ghost use Rattle.std.specs.Prelude.{List, ◌++◌, ◌<◌, All};
     ghost use Rattle.std.specs.Map.{values_of};
     ghost use Rattle.iv_text.specs.RecordValue.{RecordValue};
-    ghost use Rattle.iv_track.specs.Copies.{again, expanded};
+    ghost use Rattle.iv_track.specs.Copies.{expanded};
+    ghost use Rattle.iv_track.specs.Lent.{again};
 
     ghost Value = { List RecordValue };
 
@@ -37,25 +38,25 @@ impl<'a, A: Allocator + Copy> TrackRecords<'a, A> {
         ensures { result ≡ [] }
     {
         TrackRecords {
-            entries: Walk::none(),
+            entries: EntriesWalk::none(),
             held: None,
         }
     }
 
     /// The next record, `None` after the last. A call is at most one step.
-    pub fn next(&mut self, meter: &mut Meter) -> Option<&'a Record<A>>
-        ensures feature { YieldsFirstRef (λ records. records) self.old result self.new }
+    pub fn next(&mut self, meter: &mut Meter) -> Option<TrackRecord<'a, A>>
+        ensures feature { YieldsFirst (λ records. records) self.old result self.new }
         ensures steps { TakesUpTo meter.old meter.new 1 }
     {
-        if let Some((feature, left)) = self.held {
+        if let Some((lent, left)) = self.held {
             if left > 0 {
-                self.held = Some((feature, left - 1));
-                return Some(feature);
+                self.held = Some((lent, left - 1));
+                return Some(TrackRecord::of(lent));
             }
         }
-        let (feature, count) = self.entries.next(meter)?;
-        self.held = Some((feature, *count - 1));
-        Some(feature)
+        let (lent, count) = self.entries.next(meter)?;
+        self.held = Some((lent, count - 1));
+        Some(TrackRecord::of(lent))
     }
 
     /// The same walk once more, from where it is now. It is no step, and takes no memory.

@@ -6,8 +6,8 @@ ghost use Rattle.iv_track.specs.Tracked.{different_records};
 ghost use Rattle.iv_view.specs.Inside.Texts.{records_text};
 
 use iv_bytes::{Sink, WriteFault};
-use iv_text::{Genome, Record, put_line};
-use iv_track::{Meter, Track};
+use iv_text::{Genome, put_line};
+use iv_track::{Meter, Track, TrackRecord};
 use std::alloc::Allocator;
 
 /// Puts the rows of the track: every record with all its columns, in its order.
@@ -25,7 +25,7 @@ pub(crate) fn print_records<A: Allocator + Copy, S: Sink>(
 {
     let mut entries = track.entries(0, 0, meter);
     'entries: while let Some((record, copies)) = entries.next(meter) {
-        put_copies(genome, record, copies, sink)?;
+        put_copies(genome, &record, copies, sink)?;
     }
     Ok(())
 }
@@ -33,7 +33,7 @@ pub(crate) fn print_records<A: Allocator + Copy, S: Sink>(
 /// Puts the row of a record, once for each of its copies.
 fn put_copies<A: Allocator + Copy, S: Sink>(
     genome: &Genome<A>,
-    feature: &Record<A>,
+    feature: &TrackRecord<'_, A>,
     copies: u32,
     sink: &mut S,
 ) -> Result<(), WriteFault>

@@ -13,8 +13,8 @@ use crate::records::print_records;
 use iv_bytes::{Sink, WriteFault};
 use iv_fasta::{Fasta, FastaOutput, put_fasta};
 use iv_pair::{PairOutput, Second, print_fasta, print_pairs, put_pair_rows};
-use iv_text::{BedRecord, Genome, Record, put_line};
-use iv_track::{Meter, Region, Track};
+use iv_text::{BedRecord, Genome, put_line};
+use iv_track::{Meter, Region, Track, TrackRecord};
 use std::alloc::Allocator;
 
 /// A view that is written from the records at each print.
@@ -82,7 +82,7 @@ impl WrittenView {
     {
         let mut hits = track.hits(at, meter);
         'records: while let Some(feature) = hits.next(meter) {
-            self.put_rows(feature, second, fasta, genome, sink)?;
+            self.put_rows(&feature, second, fasta, genome, sink)?;
         }
         Ok(())
     }
@@ -90,7 +90,7 @@ impl WrittenView {
     /// Puts the rows of one record.
     fn put_rows<A: Allocator + Copy, S: Sink>(
         self,
-        feature: &Record<A>,
+        feature: &TrackRecord<'_, A>,
         second: Option<&Second<A>>,
         fasta: Option<&Fasta<A>>,
         genome: &Genome<A>,
@@ -117,7 +117,7 @@ impl WrittenView {
 /// Puts the rows of one record beside its hits.
 fn put_pair<A: Allocator + Copy, S: Sink>(
     output: PairOutput,
-    feature: &Record<A>,
+    feature: &TrackRecord<'_, A>,
     second: &Second<A>,
     genome: &Genome<A>,
     sink: &mut S,

@@ -1,26 +1,23 @@
 -- A session with another length of one sequence.
-use denote.Ref.{Bor}
-use Rattle.std.proofs.Common.{◌≡◌, ℕ, ◌+◌, ◌<◌, ◌≤◌, ◌==◌, ◌&&◌, ◌||◌, nat_lt, inl, inr, Bool, true, false, if◌then◌else◌, List, [], ◌∷◌, Option, None, Some, Result, Ok, Err, length, arith, refl, sym, ap, ap₂, subst, ◌∙◌}
-use Rattle.std.specs.Iterator.{YieldsFirstRef}
+use Rattle.std.proofs.Common.{◌≡◌, ℕ, ◌<◌, ◌≤◌, ◌==◌, ◌&&◌, ◌||◌, nat_lt, inl, inr, Bool, true, false, if◌then◌else◌, List, [], ◌∷◌, Option, None, Some, Result, Ok, Err, length, arith, refl, sym, ap, ap₂, subst, ◌∙◌}
+use Rattle.std.specs.Iterator.{YieldsFirst}
 use Rattle.std.specs.List.{list_any}
 use Rattle.std.specs.Option.{is_some, ok_or, option_map, option_map_or, unwrap_or}
 use Rattle.std.specs.Prelude.{All, IfSome, filter, not}
-use Rattle.std.proofs.lemmas.Bool.{and_parts, and_cases, or_parts, or_from, or_left, not-false, cases_Bool, cases_eq, cond-true, cond-false, ne_eqb, ltb-true, ltb-false, lt-ltb, eqb-true, eqb-false, true≢false, false_from_ne_true}
+use Rattle.std.proofs.lemmas.Bool.{and_parts, and_cases, or_parts, or_from, or_left, not-false, cases_Bool, cases_eq, cond-true, cond-false, ne_eqb, ltb-true, ltb-false, lt-ltb, eqb-true, eqb-false, false_from_ne_true}
 use Rattle.std.proofs.lemmas.Map.Views.{exact_unsigned_eq}
 use Rattle.iv_text.specs.Chains.{if_ok}
 use Rattle.iv_text.specs.Genome.{Sequences, length_at, with_length}
 use Rattle.iv_text.specs.Named.{name_index}
-use Rattle.iv_text.specs.Ordered.{AreInOrder}
 use Rattle.iv_text.specs.Read.{IsWithin, Fits}
 use Rattle.iv_text.specs.RecordValue.{RecordValue}
 use Rattle.iv_text.proofs.LengthLemmas.{length-with_length, length_at-with_length, length_at-other, rank-within}
-use Rattle.iv_track.specs.Tracked.{Tracked, is_from}
+use Rattle.iv_track.specs.Tracked.{Tracked}
 use Rattle.iv_text.proofs.ListLemmas.{Mem, all-mem, mem-all, any-found, any-at, any-none, any-from_none, mem-filter, mem-filter_from}
 use Rattle.iv_text.specs.declared.fault.Fault.{Fault}
 use Rattle.iv_text.specs.declared.fault.Fault.TheVariants as fault
 use Rattle.iv_fasta.specs.Fasta.{Bases, bases_of, HasLengthsOf}
 use Rattle.iv_track.specs.Regions.{overlaps}
-use Rattle.iv_track.proofs.PlaceLemmas.{le_pair, pair_le, from_all}
 use Rattle.iv_view.specs.Views.{second_records}
 use Rattle.iv_workspace.specs.OpenViews.{Shown}
 use Rattle.iv_workspace.specs.Resizes.{reaches_past, has_record_past, has_other_bases, resized}
@@ -69,14 +66,14 @@ any-some_left p xs ys y is =
     any-at p xs y there.0 there.1
 
 -- an iterator over what passes a test gives one exactly if some element passes
-first-any : {H : Type 0} (items : H → List RecordValue) (p : RecordValue → Bool) (records : List RecordValue) (left rest : H) (r : Option (Bor RecordValue))
-    → items left ≡ filter p records → YieldsFirstRef items left r rest → is_some r ≡ list_any p records
+first-any : {H : Type 0} (items : H → List RecordValue) (p : RecordValue → Bool) (records : List RecordValue) (left rest : H) (r : Option RecordValue)
+    → items left ≡ filter p records → YieldsFirst items left r rest → is_some r ≡ list_any p records
 first-any items p records left rest None is gives = sym (any-none_left p records (sym is ∙ gives.0))
-first-any items p records left rest (Some q) is gives = sym (any-some_left p records (items rest) q.now (sym is ∙ gives))
+first-any items p records left rest (Some q) is gives = sym (any-some_left p records (items rest) q (sym is ∙ gives))
 
-pub hit-past : {H : Type 0} (items : H → List RecordValue) (seq n end : ℕ) (records : List RecordValue) (left rest : H) (r : Option (Bor RecordValue))
+pub hit-past : {H : Type 0} (items : H → List RecordValue) (seq n end : ℕ) (records : List RecordValue) (left rest : H) (r : Option RecordValue)
     → All (λ q. q.start < q.stop) records → All (λ q. q.seq ≡ seq → q.stop ≤ end) records
-    → items left ≡ filter (overlaps seq n end) records → YieldsFirstRef items left r rest → is_some r ≡ list_any (reaches_past seq n) records
+    → items left ≡ filter (overlaps seq n end) records → YieldsFirst items left r rest → is_some r ≡ list_any (reaches_past seq n) records
 hit-past items seq n end records left rest r some within is gives =
     first-any items (overlaps seq n end) records left rest r is gives
     ∙ any-agree (overlaps seq n end) (reaches_past seq n) records (λ q m.

@@ -57,14 +57,14 @@ fn read_second<A: Allocator + Copy>(
 /// What is held of the FASTA file, if there is one. It comes in pieces of three bytes.
 fn read_fasta<A: Allocator + Copy>(
     on: &RunGenome<A>,
+    first: &HeldRecords<Record<A>, A>,
     text: Option<Vec<u8, A>>,
 ) -> Result<Option<HeldFasta<A>>, FileFault> {
     let Some(text) = text else {
         return Ok(None);
     };
     let mut source = MemSource::new(text.as_slice(), WHOLE.good, WHOLE.piece);
-    let held: HeldFasta<A> = on.read(&mut source, u64::from(WHOLE.most))?;
-    Ok(Some(held))
+    Ok(Some(on.read_fasta(first, &mut source, u64::from(WHOLE.most))?))
 }
 
 /// The session of a plan's files, of which the first one and the second one come in pieces.
@@ -81,7 +81,7 @@ pub(crate) fn load_in_pieces<A: Allocator + Copy>(
     let on = RunGenome::begin(alloc, plan, inputs.sizes, limit);
     let first = read_pieces(&on, inputs.first, pieces[0])?;
     let second = read_second(&on, inputs.other, pieces[1])?;
-    let fasta = read_fasta(&on, bases)?;
+    let fasta = read_fasta(&on, &first, bases)?;
     Ok(begin_session(RunFiles {
         on,
         first,

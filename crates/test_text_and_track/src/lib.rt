@@ -32,6 +32,8 @@ mod places;
 #[cfg(test)]
 mod printed;
 #[cfg(test)]
+mod record_batches;
+#[cfg(test)]
 mod records;
 #[cfg(test)]
 mod refusals;

@@ -527,5 +527,5 @@ fn texts_of_each_size(rt: HostRuntime) -> Result<(), Fail> {
 #[test]
 fn records_are_small(rt: HostRuntime) {
     let size = size_of::<Record>();
-    assert!(rt; size <= 32);
+    assert!(rt; size <= 24);
 }

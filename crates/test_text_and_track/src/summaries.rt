@@ -1,8 +1,9 @@
 //! What operations give for values, and results over records.
 use crate::allocations::{Run, allocations};
-use crate::fixtures::holds;
+use crate::fixtures::{holds, track_of};
 use iv_cover::{Column, ColumnSummary, Op, results, summary};
-use iv_text::{Genome, Record, read_record};
+use iv_text::Genome;
+use iv_track::{Meter, Track, TrackRecord};
 use std::alloc::Global;
 use std::test::Fail;
 use test_faults::RefusesNth;
@@ -143,15 +144,6 @@ fn names_of_operations(rt: HostRuntime) -> Result<(), Fail> {
     Ok(())
 }
 
-/// The record of a line of six columns, `None` if an allocation fails.
-fn record<'a>(
-    alloc: &'a RefusesNth<Global>,
-    genome: &Genome<&'a RefusesNth<Global>>,
-    line: &[u8],
-) -> Option<Record<&'a RefusesNth<Global>>> {
-    read_record(genome, 6, line).ok()?.to_record(alloc).ok()
-}
-
 /// The results of an operation over every column.
 fn asked(op: Op) -> [ColumnSummary; 6] {
     [
@@ -168,7 +160,7 @@ fn asked(op: Op) -> [ColumnSummary; 6] {
 /// Whether the results of an operation over every column of records are these, `None` if an allocation fails.
 fn are_results<'a>(
     alloc: &'a RefusesNth<Global>,
-    records: &[&Record<&'a RefusesNth<Global>>],
+    records: &[TrackRecord<'_, &'a RefusesNth<Global>>],
     op: Op,
     want: &[u8],
 ) -> Option<bool> {
@@ -176,22 +168,28 @@ fn are_results<'a>(
     Some(text.as_slice() == want)
 }
 
-/// The same of two records over a genome.
-fn are_results_over<'a>(
+/// The same of the two records of a track.
+fn are_results_of<'a>(
     alloc: &'a RefusesNth<Global>,
-    genome: &Genome<&'a RefusesNth<Global>>,
+    track: &Track<&'a RefusesNth<Global>>,
     op: Op,
     want: &[u8],
 ) -> Option<bool> {
-    let first = record(alloc, genome, b"chr1\t100\t250\tb\t0.5\t-")?;
-    let second = record(alloc, genome, b"chr1\t9\t1000\ta\t7\t.")?;
-    are_results(alloc, &[&first, &second], op, want)
+    let mut meter = Meter::new();
+    let mut records = track.walk(0, 0, &mut meter);
+    let first = records.next(&mut meter)?;
+    let second = records.next(&mut meter)?;
+    are_results(alloc, &[first, second], op, want)
 }
 
-/// The same if the genome is read too.
+/// Two records of six columns.
+const TWO: &[u8] = b"chr1\t9\t1000\tb\t7\t.\nchr1\t100\t250\ta\t0.5\t-\n";
+
+/// The same if the genome and the records are read too.
 fn are_results_in(alloc: &RefusesNth<Global>, op: Op, want: &[u8]) -> Option<bool> {
     let genome = Genome::parse(alloc, b"chr1\t1000\n").ok()?;
-    are_results_over(alloc, &genome, op, want)
+    let track = track_of(alloc, &genome, TWO).ok()?.ok()?;
+    are_results_of(alloc, &track, op, want)
 }
 
 /// What each operation gives over every column of the two records.
@@ -202,7 +200,7 @@ const WANTED: [(Op, &[u8]); 6] = [
     (Op::Max, b"\t.\t100\t1000\t.\t.\t."),
     (
         Op::Collapse,
-        b"\tchr1,chr1\t100,9\t250,1000\tb,a\t0.5,7\t-,.",
+        b"\tchr1,chr1\t9,100\t1000,250\tb,a\t7,0.5\t.,-",
     ),
     (Op::Distinct, b"\tchr1\t100,9\t1000,250\ta,b\t0.5,7\t-,."),
 ];

@@ -34,15 +34,15 @@ impl Call {
 /// Whether the track holds one record of those lines at each start from the first one on, this number in all.
 fn holds_starts<A: Allocator + Copy>(track: &Track<A>, first: u32, count: u32) -> bool {
     let mut meter = Meter::new();
-    let mut rows = track.walk(0, 0, &mut meter);
+    let mut rows = track.entries(0, 0, &mut meter);
     for i in 0..count {
-        let Some(feature) = rows.next(&mut meter) else {
+        let Some((feature, copies)) = rows.next(&mut meter) else {
             return false;
         };
         let start = u64::from(first) + u64::from(i);
         let is_there = (feature.start(), feature.stop(), feature.name())
             == (start, start + 10, b"name");
-        if !is_there || track.copies(feature, &mut meter) != 1 {
+        if !is_there || copies != 1 {
             return false;
         }
     }

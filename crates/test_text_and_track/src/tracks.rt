@@ -4,6 +4,7 @@ ghost use Rattle.std.specs.Prelude.{◌≡◌, ◌≤◌, IfOk, length};
 use crate::fixtures::{add, genome, holds, replace, stage};
 use iv_text::{Genome, Record, read_record};
 use iv_track::{Meter, Track};
+use std::alloc::Global;
 use std::test::Fail;
 
 /// An edit by the records of lines.
@@ -149,7 +150,7 @@ fn track_without_room(rt: HostRuntime) -> Result<(), Fail> {
 }
 
 /// The first letter of a record's name and its copies, of the record after this one, or of the first one on its sequence.
-fn next_on(track: &Track, record: &Record, after: bool) -> Option<(u8, u32)> {
+fn next_on(alloc: Global, track: &Track, record: &Record, after: bool) -> Option<(u8, u32)> {
     let mut meter = Meter::new();
     let (feature, copies) = if after {
         track.after(record, &mut meter)?
@@ -157,7 +158,8 @@ fn next_on(track: &Track, record: &Record, after: bool) -> Option<(u8, u32)> {
         track.at_or_after(record.seq(), 0, &mut meter)?
     };
     let letter = feature.name().first()?;
-    (track.copies(feature, &mut meter) == copies).then_some((*letter, copies))
+    let same = feature.as_ref().to_record(alloc).ok()?;
+    (track.copies(&same, &mut meter) == copies).then_some((*letter, copies))
 }
 
 /// The same of the record of a line.
@@ -168,7 +170,7 @@ fn next_to(
     line: &[u8],
     after: bool,
 ) -> Result<Option<(u8, u32)>, Fail> {
-    Ok(next_on(track, &record(rt, genome, line)?, after))
+    Ok(next_on(rt.alloc(), track, &record(rt, genome, line)?, after))
 }
 
 /// Adds the records of lines.

@@ -1,14 +1,8 @@
 -- The blocks that remain of a walk over records in order. This is the state of `BlockWalk`, as seen by its proof: a new
 -- `BlockWalk` shows `blocks_of`.
-use denote.Ref.{Bor}
 use Rattle.std.specs.Prelude.{ℕ, ◌+◌, ◌==◌, ◌&&◌, nat_le, Bool, List, [], ◌∷◌, ◌++◌, max, Option, None, Some, if◌then◌else◌}
 use Rattle.iv_text.specs.RecordValue.{RecordValue}
 use Rattle.iv_cover.specs.TrackBlocks.{BlockWithMembers}
-
--- the record that was read ahead, if there is one, and those that are left of the walk
-abbrev pub left : Option (Bor RecordValue) → List RecordValue → List RecordValue
-left None records = records
-left (Some r) records = r.now ∷ records
 
 -- the record joins the block: it is on the same sequence, and starts at most d past the block's stop
 abbrev pub is_joined : ℕ → BlockWithMembers → RecordValue → Bool

@@ -1,5 +1,4 @@
 -- Where a search for hits is. This is the state of `HitFinder`, as seen by its proof.
-use denote.Ref.{Bor}
 use Rattle.std.specs.Prelude.{◌≡◌, ℕ, ◌<◌, ◌≤◌, ◌^◌, ◌++◌, Bool, true, false, List, [], ◌∷◌, Option, Some, None, All, length}
 use Rattle.iv_text.specs.Ordered.{AreInOrder}
 use Rattle.iv_text.specs.RecordValue.{RecordValue}
@@ -8,15 +7,15 @@ use Rattle.iv_track.specs.Regions.{hits}
 use Rattle.iv_pair.specs.Inside.Lengths.{AreUpTo}
 
 -- the records in these slots
-abbrev pub held : {K : Type 0} → List (Option (Bor K)) → List K
+abbrev pub held : {K : Type 0} → List (Option K) → List K
 held [] = []
 held (None ∷ slots) = held slots
-held (Some k ∷ slots) = k.now ∷ held slots
+held (Some k ∷ slots) = k ∷ held slots
 
 -- whether a slot has a record, and it passes
-abbrev pub keeps : {K : Type 0} → (K → Bool) → Option (Bor K) → Bool
+abbrev pub keeps : {K : Type 0} → (K → Bool) → Option K → Bool
 keeps p None = false
-keeps p (Some k) = p k.now
+keeps p (Some k) = p k
 
 -- the records of the second file, where the search is, and the hits of the interval that was sought last
 pub record Finding : Type 0 where

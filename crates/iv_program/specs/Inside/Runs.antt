@@ -2,6 +2,7 @@
 use Rattle.std.specs.Prelude.{◌≡◌, ◌⊎◌, ℕ, Bool, true, false, List, [], Option, Result, Ok, Err, MatchResult}
 use Rattle.iv_bytes.specs.Sinks.{SinkState, Takes, FailsIn, waiting}
 use Rattle.iv_text.specs.Genome.{Sequences}
+use Rattle.iv_fasta.specs.FastaReading.{Wanted}
 use Rattle.iv_session.specs.Streams.{Streams}
 use Rattle.iv_session.specs.declared.script.RunFault.{RunFault}
 use Rattle.iv_session.specs.declared.script.Summary.{Summary}
@@ -20,11 +21,12 @@ use Rattle.iv_program.specs.Inside.Files.{StopsAt, names_of}
 use Rattle.iv_program.specs.Runs.{World, DoesWith, HasRead, HasNotRead}
 use Rattle.iv_program.specs.Texts.{Texts, AreTexts}
 
--- the files of a plan, once they are read, are those of these texts, if what is held of a BED file is so of its text
-pub record HasTexts {H : Type 0} (is_of : Sequences → ℕ → ℕ → List ℕ → H → Type 0) (plan : RunPlan) (texts : Texts) (files : FilesRead H) : Type 0 where
+-- the files of a plan, once they are read, are those of these texts, if what is held of a BED file is so of its text, and if beside such
+-- a first file it is enough to hold these sequences of the FASTA file
+pub record HasTexts {H : Type 0} (is_of : Sequences → ℕ → ℕ → List ℕ → H → Type 0) (is_enough : Wanted → H → Type 0) (plan : RunPlan) (texts : Texts) (files : FilesRead H) : Type 0 where
   pub width_is : files.on.width ≡ plan.width
   pub limit_is : files.on.limit ≡ plan.limit
-  pub are : AreOf is_of texts.sizes texts.first texts.other texts.bases files
+  pub are : AreOf is_of is_enough texts.sizes texts.first texts.other texts.bases files
 
 -- the view of a plan was printed for its texts, or its first fault is reported
 abbrev pub PrintsView : RunPlan → Texts → SinkState → SinkState → ExitReason → Type 0

@@ -1,33 +1,37 @@
--- A BED file that is read for a view of all columns: its text, or its records if these have three columns.
-use Rattle.std.specs.Prelude.{◌≡◌, ℕ, ◌++◌, All, List, Option, None, Some, Result, Ok, IfOk, IfSome}
+-- A BED file that is read for a view of all columns: its records, with its text if they have more columns than three.
+use Rattle.std.specs.Prelude.{◌≡◌, ◌⊎◌, ℕ, ◌++◌, true, All, List, Result, Ok, Err, IfOk}
+use Rattle.std.specs.Option.{option_map}
 use Rattle.iv_text.specs.BedFile.{Bed, bed_of}
 use Rattle.iv_text.specs.BedReading.{Reading}
 use Rattle.iv_text.specs.Genome.{Sequences}
 use Rattle.iv_text.specs.Read.{Fits}
+use Rattle.iv_text.specs.RecordValue.{RecordValue}
 use Rattle.iv_text.specs.declared.fault.LoadFault.{LoadFault}
+use Rattle.iv_fasta.specs.FastaReading.{Wanted, is_wanted, only}
 use Rattle.iv_locators.specs.Locators.{bare}
 use Rattle.iv_run.specs.Pieces.{SaysSoFar}
-use Rattle.iv_run.specs.Loading.{IsAnswer}
+use Rattle.iv_run.specs.Loading.{IsAnswer, Parsed}
+use Rattle.iv_run.specs.declared.fault.CliFault.{CliFault}
+use Rattle.iv_run.specs.declared.fault.CliFault.TheVariants.{Memory}
 use Rattle.iv_run.specs.declared.held_bed.Columns.{Columns}
 use Rattle.iv_run.specs.declared.held_bed.Columns.TheVariants.{Unknown, Three, Other}
 
--- the text of a BED file; or, instead of it, the file with its records, or its first fault
-pub record Held : Type 0 where
-  pub text : List ℕ
-  pub intervals : Option (Result Bed LoadFault)
+-- what is held is the BED file of this text on this genome, or its first fault, or out of memory; without a record it has this width
+abbrev pub IsHeld : Sequences → ℕ → ℕ → List ℕ → Result Bed LoadFault → Type 0
+IsHeld g width limit text held = IsAnswer held (bed_of g width limit text)
 
--- if there is a file instead of its text, its records have three columns, and are on the genome
-abbrev pub AreIntervals : Sequences → Held → Type 0
-AreIntervals g held = IfSome held.intervals (λ said. IfOk said (λ file. (file.width ≡ 3) × All (Fits g 3) file.records))
+-- the records are on the genome, unless the file is damaged
+abbrev pub FitsOn : Sequences → Result Bed LoadFault → Type 0
+FitsOn g held = IfOk held (λ file. All (Fits g file.width) file.records)
 
--- this text, or what a call answers with the BED file of it
-abbrev pub IsHeldBy : Sequences → ℕ → ℕ → List ℕ → List ℕ → Option (Result Bed LoadFault) → Type 0
-IsHeldBy g width limit text held None = held ≡ text
-IsHeldBy g width limit text held (Some said) = IsAnswer said (bed_of g width limit text)
+-- each of these records is on a wanted sequence
+abbrev pub AreWanted : Wanted → List RecordValue → Type 0
+AreWanted wanted records = All (λ r. is_wanted wanted r.seq ≡ true) records
 
--- what is held is that of the BED file of this text, on this genome; without a record it has this width
-abbrev pub IsHeld : Sequences → ℕ → ℕ → List ℕ → Held → Type 0
-IsHeld g width limit text held = IsHeldBy g width limit text held.text held.intervals
+-- the rows of a view of the first file need no base but those of wanted sequences: each record is on one; or the file is damaged, and
+-- there are no rows
+abbrev pub IsEnough : Wanted → Result Bed LoadFault → Type 0
+IsEnough wanted held = IfOk held (λ file. AreWanted wanted file.records)
 
 -- whatever bytes follow these, the records of the file have three columns
 abbrev pub IsThreeWide : Sequences → ℕ → List ℕ → Type 0
@@ -39,3 +43,13 @@ abbrev pub HoldsFront : Sequences → ℕ → List ℕ → Columns → List ℕ 
 HoldsFront g limit front Unknown text so_far = (text ≡ front) × SaysSoFar bare g limit front so_far
 HoldsFront g limit front Three text so_far = SaysSoFar bare g limit front so_far × IsThreeWide g limit front
 HoldsFront g limit front Other text so_far = text ≡ front
+
+-- files with the bases of the wanted sequences alone
+abbrev pub wanted_files : Wanted → Parsed → Parsed
+wanted_files wanted files = record files { bases = option_map (only wanted) files.bases }
+
+-- a call answers with files, with the bases of wanted sequences, and each record of the first file is on one; or it reports the fault of
+-- the first damaged file, or out of memory
+abbrev pub ReportsWanted : Result Parsed CliFault → Result Parsed CliFault → Type 0
+ReportsWanted (Ok files) said = (whole : Parsed) × (wanted : Wanted) × (said ≡ Ok whole) × AreWanted wanted whole.first.records × (files ≡ wanted_files wanted whole)
+ReportsWanted (Err k) said = (k ≡ Memory) ⊎ (said ≡ Err k)

@@ -1,6 +1,5 @@
 -- The map of a track, and where a search in it begins.
-use Rattle.std.specs.Prelude.{◌≡◌, ℕ, ◌+◌, ◌<◌, ◌≤◌, false, not, List, Option, Some, None, All, sum, filter}
-use Rattle.std.specs.Ordering.{is_le}
+use Rattle.std.specs.Prelude.{◌≡◌, ℕ, ◌+◌, ◌<◌, ◌≤◌, ◌^◌, ◌-◌, false, not, List, Option, Some, None, All, sum, filter}
 use Rattle.std.specs.Map.{keys_of, values_of}
 use Rattle.iv_track.specs.Copies.{expanded}
 use Rattle.iv_track.specs.Entries.{IsLedger}
@@ -9,9 +8,9 @@ use Rattle.iv_text.specs.RecordValue.{RecordValue, IsPlaced, record_cmp}
 use Rattle.iv_track.specs.Tracked.{is_from, most_records}
 use Rattle.iv_track.specs.declared.region.Region.{Region}
 
--- where a search for these records begins: the placed records at or after the key are these, and with no key there are none
-abbrev pub BeginsFrom : ℕ → ℕ → Option RecordValue → Type 0
-BeginsFrom seq start (Some least) = (q : RecordValue) → IsPlaced q → is_le (record_cmp least q) ≡ is_from seq start q
+-- where a search for these records begins: the placed records from this start of a sequence on are these, and without one there are none
+abbrev pub BeginsFrom : ℕ → ℕ → Option (ℕ × ℕ) → Type 0
+BeginsFrom seq start (Some p) = (p.1 < 2 ^ 32 - 1) × ((q : RecordValue) → IsPlaced q → is_from p.0 p.1 q ≡ is_from seq start q)
 BeginsFrom seq start None = (q : RecordValue) → IsPlaced q → is_from seq start q ≡ false
 
 -- the map of a track: it is in order, each record in it is placed and has a copy and the width, and `len` counts the copies

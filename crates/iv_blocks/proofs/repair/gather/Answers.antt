@@ -1,16 +1,10 @@
-use Rattle.std.proofs.Common.{◌≡◌, ◌++◌, ◌∷◌, [], List, length, map, refl, sym, ap, ◌∙◌, arith, append_assoc, append-nil}
-use Rattle.std.proofs.lemmas.List.{map-append}
+use Rattle.std.proofs.Common.{◌≡◌, ◌++◌, ◌∷◌, [], List, length, refl, sym, ap, ◌∙◌, arith, append_assoc, append-nil}
 use Rattle.iv_text.specs.RecordValue.{RecordValue}
 use Rattle.iv_blocks.proofs.repair.gather.Goals as goal
 
 -- one more is read
-read-more : {B : Type 0} (now : B → RecordValue) (read : List B) (b : B) (left rest all : List RecordValue) → map now read ++ left ≡ all → left ≡ now b ∷ rest
-    → map now (read ++ b ∷ []) ++ rest ≡ all
-read-more now read b left rest all h is =
-    ap (λ (l : List RecordValue). l ++ rest) (map-append now read (b ∷ []))
-    ∙ append_assoc (map now read) (now b ∷ []) rest
-    ∙ ap (λ (l : List RecordValue). map now read ++ l) (sym is)
-    ∙ h
+read-more : (read : List RecordValue) (r : RecordValue) (left rest all : List RecordValue) → read ++ left ≡ all → left ≡ r ∷ rest → (read ++ r ∷ []) ++ rest ≡ all
+read-more read r left rest all h is = append_assoc read (r ∷ []) rest ∙ ap (λ (l : List RecordValue). read ++ l) (sym is) ∙ h
 
 -- nothing is left
 read-all : (read left all : List RecordValue) → read ++ left ≡ all → left ≡ [] → read ≡ all
@@ -27,7 +21,7 @@ loop-feature-preserved g c =
     let i = c.loop-feature.invariant in
     let steps = c.in-Some.ensures.steps in
     record {
-      all = rw c.in_ok-push.ensures.items (read-more _ c.loop-feature.records.items c.in-Some.feature c.loop-feature.members.members c.next.new.self.members c.args.members.members i.all c.in-Some.ensures.member);
+      all = rw c.in_ok-push.ensures.items (read-more c.loop-feature.records.items c.in-Some.feature c.loop-feature.members.members c.next.new.self.members c.args.members.members i.all c.in-Some.ensures.member);
       no_less = omega (arith, i.no_less, steps.no_less);
       paid = omega (arith, i.paid, steps.at_most);
     }

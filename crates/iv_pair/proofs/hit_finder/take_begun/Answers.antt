@@ -10,7 +10,7 @@ use Rattle.iv_pair.proofs.hit_finder.take_begun.Goals as goal
 
 pub loop-preserved : goal.loop-preserved
 loop-preserved g c =
-    let b = c.in-Some.feature.now in
+    let b = c.in-Some.feature in
     let bs = c.next.new.self in
     let i = c.loop.invariant in
     let seq = c.args.seq in

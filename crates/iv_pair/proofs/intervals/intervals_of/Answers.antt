@@ -24,11 +24,11 @@ pub loop-feature-preserved : goal.loop-feature-preserved
 loop-feature-preserved g c =
     let i = c.loop-feature.invariant in
     let pushed : c.push.new.self.items ≡ c.loop-feature.locators.items ++ c.locator_of.result ∷ [] = c.in_ok-push.ensures.items in
-    let is : c.push.new.self.items ≡ c.loop-feature.locators.items ++ locator_of c.in-Some.feature.now ∷ [] = pushed ∙ ap (λ (l : Locator). c.loop-feature.locators.items ++ l ∷ []) c.locator_of.ensures.is in
+    let is : c.push.new.self.items ≡ c.loop-feature.locators.items ++ locator_of c.in-Some.feature ∷ [] = pushed ∙ ap (λ (l : Locator). c.loop-feature.locators.items ++ l ∷ []) c.locator_of.ensures.is in
     record {
       bases = subst (All HasBase) (sym pushed) (All-append HasBase c.loop-feature.locators.items (c.locator_of.result ∷ []) i.bases (All-cons HasBase c.locator_of.result [] c.locator_of.ensures.base (All-nil HasBase)));
       records = ap (λ (l : List Locator). records_at 3 [] l ++ map bare c.next.new.self) is
-          ∙ copied-next c.loop-feature.locators.items c.in-Some.feature.now c.loop-feature.records c.next.new.self (map bare c.args.second.now.records) c.in-Some.ensures.feature i.records;
+          ∙ copied-next c.loop-feature.locators.items c.in-Some.feature c.loop-feature.records c.next.new.self (map bare c.args.second.now.records) c.in-Some.ensures.feature i.records;
     }
 
 pub of_intervals-requires : goal.of_intervals-requires

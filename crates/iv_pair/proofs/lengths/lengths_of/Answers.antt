@@ -18,7 +18,7 @@ raise-requires-clause-room g c = omega (arith, IsCounted-room _ _ _ c.length_of.
 pub loop-record-preserved : goal.loop-record-preserved
 loop-record-preserved g c =
     let l = c.loop-record in
-    IsCounted-next l.lengths c.raise.new.lengths l.records c.next.new.self c.args.track.now.records c.in-Some.record.now l.invariant c.in-Some.ensures.feature c.in_ok-raise.ensures.ok.0
+    IsCounted-next l.lengths c.raise.new.lengths l.records c.next.new.self c.args.track.now.records c.in-Some.record l.invariant c.in-Some.ensures.feature c.in_ok-raise.ensures.ok.0
     (c.in_ok-raise.ensures.ok.1 ∙ ap (added_by pair_cmp (expanded l.lengths)) c.length_of.ensures.is)
 
 pub returns : goal.returns

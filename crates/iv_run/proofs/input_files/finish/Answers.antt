@@ -1,4 +1,4 @@
-use Rattle.std.proofs.Common.{arith}
+use Rattle.std.proofs.Common.{◌≤◌, ℕ, sym, subst}
 use Rattle.std.proofs.lemmas.List.{length-map}
 use Rattle.std.proofs.lemmas.Result.{err_from_is_err_and}
 use Rattle.iv_run.proofs.PieceLemmas.{keeps-end_fault, keeps-fault, keeps-file}
@@ -21,5 +21,5 @@ returns-clause-says g c = λ text says.
 pub returns-clause-is_on : goal.returns-clause-is_on
 returns-clause-is_on g c = record {
   kept_all = c.in_ok-width.ensures.kept;
-  few = omega (arith, c.in_ok-width.ensures.few, length-map c.in_ok-width.kept g.K.FromRecord.as_record);
+  few = subst (λ (n : ℕ). n ≤ c.args.limit) (sym (length-map _ g.K.FromRecord.as_record)) c.in_ok-width.ensures.few;
 }

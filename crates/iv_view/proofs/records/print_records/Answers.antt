@@ -1,4 +1,4 @@
-use Rattle.std.proofs.Common.{◌≡◌, ◌∙◌, ◌+◌, ℕ, List, ◌∷◌, ◌++◌, length, ap, arith}
+use Rattle.std.proofs.Common.{◌≡◌, ◌∙◌, ℕ, List, ◌∷◌, ◌++◌, length, ap, arith}
 use Rattle.std.specs.Prelude.{replicate}
 use Rattle.std.proofs.lemmas.Grind.{flat_map-append}
 use Rattle.iv_bytes.proofs.PutLemmas.{Underway-begin, Underway-more, Underway-fails, Puts-err}
@@ -33,7 +33,7 @@ pub entries-preserved : goal.entries-preserved
 entries-preserved g c =
     let i = c.entries.invariant in
     let first = c.in-Some.ensures.next in
-    let next = first-rows c.args.genome.now c.entries.entries c.next.new.self c.in-Some.record.now c.in-Some.copies first in
+    let next = first-rows c.args.genome.now c.entries.entries c.next.new.self c.in-Some.record c.in-Some.copies first in
     let one = takes_one_more c.entries.meter c.entries.meter c.next.new.meter 0 (takes_none c.entries.meter) c.in-Some.ensures.step in
     record {
       put = Underway-more _ _ _ _ _ _ (rw next at i.put) c.in_ok-put_copies.ensures;
@@ -43,6 +43,6 @@ entries-preserved g c =
 
 pub returns-in_err-put_copies-clause-text : goal.returns-in_err-put_copies-clause-text
 returns-in_err-put_copies-clause-text g c =
-    let next = first-rows c.args.genome.now c.entries.entries c.next.new.self c.in-Some.record.now c.in-Some.copies c.in-Some.ensures.next in
+    let next = first-rows c.args.genome.now c.entries.entries c.next.new.self c.in-Some.record c.in-Some.copies c.in-Some.ensures.next in
     Puts-err _ _ c.from_residual.result _ c.from_residual.ensures.0
     (Underway-fails _ _ _ _ _ _ (rw next at c.entries.invariant.put) c.in_err-put_copies.ensures)

@@ -1,4 +1,4 @@
-use Rattle.std.proofs.Common.{◌≡◌, ◌-◌, ◌+◌, ◌<◌, ℕ, ◌∷◌, suc, zero, sym, ap, subst, arith}
+use Rattle.std.proofs.Common.{◌≡◌, ◌-◌, ◌+◌, ◌<◌, ℕ, ◌∷◌, suc, sym, ap, subst, arith}
 use Rattle.std.specs.Prelude.{replicate}
 use Rattle.iv_bytes.proofs.PutLemmas.{Underway, Underway-begin, Underway-more, Underway-fails, Underway-ends, Puts-err}
 use Rattle.iv_view.specs.Inside.Texts.{records_text}

@@ -21,11 +21,11 @@ feature-init g c =
     let a = c.args in
     let known = swept-from a.self.now a.genome.now a.track.now.records a.group a.from a.to a.track.now.width c.of-members.ensures.ordered c.requires.fit c.requires.stops in
     let steps = c.in-Some.ensures.steps in
-    let all : members_between a.group a.from a.to a.track.now.records ≡ c.in-Some.first.now ∷ c.next.new.self.members =
+    let all : members_between a.group a.from a.to a.track.now.records ≡ c.in-Some.first ∷ c.next.new.self.members =
     sym (ap (λ (m : MembersLeft). m.members) c.of-members.ensures.members) ∙ c.in-Some.ensures.member in
     let passed_records : c.of-members.result.passed_records ≡ length (between_on a.group.rank a.from a.to a.track.now.records) = ap (λ (m : MembersLeft). m.passed_records) c.of-members.ensures.members in
     record {
-      sweep = rw (c.bounds_of-start.ensures, c.as_ref.ensures) (sweep-first a.self.now a.genome.now a.track.now.records a.group a.from a.to known c.in-Some.first.now c.next.new.self.members all);
+      sweep = rw (c.bounds_of-start.ensures, c.as_ref.ensures) (sweep-first a.self.now a.genome.now a.track.now.records a.group a.from a.to known c.in-Some.first c.next.new.self.members all);
       no_less = omega (arith, c.of-members.ensures.steps.no_less, steps.no_less);
       paid = omega (arith, c.of-members.ensures.steps.at_most, steps.at_most, passed_records);
     }
@@ -43,7 +43,7 @@ feature-preserved-then-from-distance g c =
     let a = c.args in
     let i = c.feature.invariant in
     let known = swept-from a.self.now a.genome.now a.track.now.records a.group a.from a.to a.track.now.width c.of-members.ensures.ordered c.requires.fit c.requires.stops in
-    let r = c.in-Some-next.feature.now in
+    let r = c.in-Some-next.feature in
     let rest = c.next-in-feature.new.self.members in
     let steps = c.in-Some-next.ensures.steps in
     let s : IsSweeping a.self.now a.genome.now a.track.now.records a.group a.from a.to c.feature.self c.feature.start c.feature.stop (r ∷ rest) =
@@ -86,7 +86,7 @@ feature-preserved g c =
     let a = c.args in
     let i = c.feature.invariant in
     let known = swept-from a.self.now a.genome.now a.track.now.records a.group a.from a.to a.track.now.width c.of-members.ensures.ordered c.requires.fit c.requires.stops in
-    let r = c.in-Some-next.feature.now in
+    let r = c.in-Some-next.feature in
     let rest = c.next-in-feature.new.self.members in
     let next = c.in-Some-next.ensures.steps in
     let s : IsSweeping a.self.now a.genome.now a.track.now.records a.group a.from a.to c.feature.self c.feature.start c.feature.stop (r ∷ rest) =

@@ -29,13 +29,13 @@ loop-feature-init g c =
 pub count_until-number-requires : goal.count_until-number-requires
 count_until-number-requires g c =
     let entries : c.self.inside.ledger.entries ≡ c.args.self.now.entries = ap (λ (b : KeptBlocks). b.entries) c.self.view_is in
-    let few = IsPassed-few c.loop-feature.number _ _ c.loop-feature.ahead c.loop-feature.records c.in-Some.feature.now c.loop-feature.invariant.passed refl in
+    let few = IsPassed-few c.loop-feature.number _ _ c.loop-feature.ahead c.loop-feature.records c.in-Some.feature c.loop-feature.invariant.passed refl in
     record { few = omega (arith, few.1, length-map c.args.self.now.entries interval_of, ap (λ (l : Entries). length l) entries, c.len-few.ensures.len, c.len-few.ensures.small) }
 
 pub overflow_add-number : goal.overflow_add-number
 overflow_add-number g c =
     let entries : c.self.inside.ledger.entries ≡ c.args.self.now.entries = ap (λ (b : KeptBlocks). b.entries) c.self.view_is in
-    let r = c.in-Some.feature.now in
+    let r = c.in-Some.feature in
     let counted : c.count_until-number.result ≡ length (take_while (starts_until r.seq r.start) c.loop-feature.ahead) = rw (← c.seq.ensures, ← c.start.ensures) c.count_until-number.ensures.count in
     let few = IsPassed-few c.loop-feature.number c.count_until-number.result _ c.loop-feature.ahead c.loop-feature.records r c.loop-feature.invariant.passed counted in
     omega (arith, few.0, length-map c.args.self.now.entries interval_of, ap (λ (l : Entries). length l) entries, c.len-few.ensures.len, c.len-few.ensures.small)
@@ -43,7 +43,7 @@ overflow_add-number g c =
 pub loop-feature-preserved : goal.loop-feature-preserved
 loop-feature-preserved g c =
     let i = c.loop-feature.invariant in
-    let r = c.in-Some.feature.now in
+    let r = c.in-Some.feature in
     let first : c.loop-feature.records ≡ r ∷ c.next.new.self = c.in-Some.ensures.feature in
     let counted : c.count_until-number.result ≡ length (take_while (starts_until r.seq r.start) c.loop-feature.ahead) = rw (← c.seq.ensures, ← c.start.ensures) c.count_until-number.ensures.count in
     let past : c.count_until-number.new.ahead ≡ drop_while (starts_until r.seq r.start) c.loop-feature.ahead = rw (← c.seq.ensures, ← c.start.ensures) c.count_until-number.ensures.past in
@@ -63,7 +63,7 @@ loop-feature-preserved g c =
 pub returns-in_err-put_numbered-clause-text : goal.returns-in_err-put_numbered-clause-text
 returns-in_err-put_numbered-clause-text g c =
     let i = c.loop-feature.invariant in
-    let r = c.in-Some.feature.now in
+    let r = c.in-Some.feature in
     let first : c.loop-feature.records ≡ r ∷ c.next.new.self = c.in-Some.ensures.feature in
     let counted : c.count_until-number.result ≡ length (take_while (starts_until r.seq r.start) c.loop-feature.ahead) = rw (← c.seq.ensures, ← c.start.ensures) c.count_until-number.ensures.count in
     let past : c.count_until-number.new.ahead ≡ drop_while (starts_until r.seq r.start) c.loop-feature.ahead = rw (← c.seq.ensures, ← c.start.ensures) c.count_until-number.ensures.past in

@@ -34,13 +34,13 @@ loop-feature-init g c =
 pub count_until-number-requires : goal.count_until-number-requires
 count_until-number-requires g c =
     let entries : c.self.inside.ledger.entries ≡ c.args.self.now.entries = ap (λ (b : KeptBlocks). b.entries) c.self.view_is in
-    let few = IsPassed-few c.loop-feature.number _ _ c.loop-feature.ahead c.loop-feature.hits.records c.in-Some.feature.now c.loop-feature.invariant.passed refl in
+    let few = IsPassed-few c.loop-feature.number _ _ c.loop-feature.ahead c.loop-feature.hits.records c.in-Some.feature c.loop-feature.invariant.passed refl in
     record { few = omega (arith, few.1, length-map c.args.self.now.entries interval_of, ap (λ (l : Entries). length l) entries, c.len-few.ensures.len, c.len-few.ensures.small) }
 
 pub overflow_add-number : goal.overflow_add-number
 overflow_add-number g c =
     let entries : c.self.inside.ledger.entries ≡ c.args.self.now.entries = ap (λ (b : KeptBlocks). b.entries) c.self.view_is in
-    let r = c.in-Some.feature.now in
+    let r = c.in-Some.feature in
     let counted : c.count_until-number.result ≡ length (take_while (starts_until r.seq r.start) c.loop-feature.ahead) = rw (← c.seq.ensures, ← c.start.ensures) c.count_until-number.ensures.count in
     let few = IsPassed-few c.loop-feature.number c.count_until-number.result _ c.loop-feature.ahead c.loop-feature.hits.records r c.loop-feature.invariant.passed counted in
     omega (arith, few.0, length-map c.args.self.now.entries interval_of, ap (λ (l : Entries). length l) entries, c.len-few.ensures.len, c.len-few.ensures.small)
@@ -49,7 +49,7 @@ pub loop-feature-preserved : goal.loop-feature-preserved
 loop-feature-preserved g c =
     let a = c.args in
     let i = c.loop-feature.invariant in
-    let r = c.in-Some.feature.now in
+    let r = c.in-Some.feature in
     let first : c.loop-feature.hits.records ≡ r ∷ c.next.new.self.records = c.in-Some.ensures.feature in
     let counted : c.count_until-number.result ≡ length (take_while (starts_until r.seq r.start) c.loop-feature.ahead) = rw (← c.seq.ensures, ← c.start.ensures) c.count_until-number.ensures.count in
     let past : c.count_until-number.new.ahead ≡ drop_while (starts_until r.seq r.start) c.loop-feature.ahead = rw (← c.seq.ensures, ← c.start.ensures) c.count_until-number.ensures.past in
@@ -76,7 +76,7 @@ pub returns-in_err-put_numbered : goal.returns-in_err-put_numbered
 returns-in_err-put_numbered g c =
     let a = c.args in
     let i = c.loop-feature.invariant in
-    let r = c.in-Some.feature.now in
+    let r = c.in-Some.feature in
     let first : c.loop-feature.hits.records ≡ r ∷ c.next.new.self.records = c.in-Some.ensures.feature in
     let counted : c.count_until-number.result ≡ length (take_while (starts_until r.seq r.start) c.loop-feature.ahead) = rw (← c.seq.ensures, ← c.start.ensures) c.count_until-number.ensures.count in
     let past : c.count_until-number.new.ahead ≡ drop_while (starts_until r.seq r.start) c.loop-feature.ahead = rw (← c.seq.ensures, ← c.start.ensures) c.count_until-number.ensures.past in

@@ -17,11 +17,11 @@ returns-clause-covered g c far =
     c.as_slice.ensures ∙ ap (λ (k : KeptBlocks). listed k.options.summaries) c.self.view_is in
     let none : length c.as_slice.result.now ≡ 0 = eqb-true (length c.as_slice.result.now) 0 (sym c.if-not-is_empty.ensures) in
     let placed = c.bounds_of-first_start.ensures ∙ ap (λ (q : RecordValue). (q.start, q.stop)) c.as_ref.ensures in
-    let starts : c.bounds_of-first_start.result.0 ≡ c.in-Some.first.now.start = ap (λ (p : ℕ × ℕ). p.0) placed in
-    let stops : c.bounds_of-first_start.result.1 ≡ c.in-Some.first.now.stop = ap (λ (p : ℕ × ℕ). p.1) placed in
+    let starts : c.bounds_of-first_start.result.0 ≡ c.in-Some.first.start = ap (λ (p : ℕ × ℕ). p.0) placed in
+    let stops : c.bounds_of-first_start.result.1 ≡ c.in-Some.first.stop = ap (λ (p : ℕ × ℕ). p.1) placed in
     record {
       plain = sym summaries ∙ no_more c.as_slice.result.now none;
-      first = c.in-Some.first.now;
+      first = c.in-Some.first;
       rest = c.next.new.self.members;
       members = sym (ap (λ (m : MembersLeft). m.members) c.of-members.ensures.members) ∙ c.in-Some.ensures.member;
       starts = omega (arith, c.if-first_start-start.false, starts);

@@ -13,4 +13,4 @@ returns-clause-text g c =
     let sought : c.seek.new.self.found ≡ hits_of second feature = rw (c.seq.ensures, c.start.ensures, c.stop.ensures.value, c.self.invariant) at c.seek.ensures.found in
     let found : c.hits-hits.result ≡ hits_of second feature = c.hits-hits.ensures ∙ sought in
     subst (λ (b : PrinterState). Puts (g.S.Sink.state c.args.sink.now) (g.S.Sink.state c.put_pair_rows.new.sink) c.put_pair_rows.result (pair_rows b.output c.args.genome.now feature b.records)) c.self.view_is
-    (c.put_pair_rows.ensures second c.len-count.ensures.ordered (YieldsList-from_first (λ x. x.now) (λ h. h) _ found).runs)
+    (c.put_pair_rows.ensures second c.len-count.ensures.ordered (YieldsList-from_first (λ x. x) (λ h. h) _ found).runs)

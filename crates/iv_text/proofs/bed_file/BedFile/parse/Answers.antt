@@ -55,9 +55,9 @@ returns-clause-ok g c =
     ∙ ap (λ (t : List ℕ). finished empty (read_on same genome limit begun t)) (sym (append-nil text))
     ∙ ap (λ (r : Reading). finished empty (read_on same genome limit r (text ++ []))) (sym c.new-draft.ensures)
     ∙ ap (finished empty) (c.in_ok-take_piece.ensures.ok []) in
-    whole ∙ c.in_ok-width.ensures.ok ∙ ap (λ (records : List RecordValue). Ok (record { width = c.in_ok-width.width; records = records })) (rows-all c.in_ok-width.records ∙ sym c.in_ok-records.ensures)
+    whole ∙ c.in_ok-width.ensures.ok ∙ ap (λ (records : List RecordValue). Ok (record { width = c.in_ok-width.width; records = records })) (rows-all c.in_ok-width.records ∙ sym c.in_ok-into_records.ensures ∙ sym c.in_ok-records.ensures)
 
 pub returns-clause-fit : goal.returns-clause-fit
 returns-clause-fit g c =
     let kept = c.in_ok-width.ensures.kept in
-    rw c.in_ok-records.ensures (fit-all c.args.genome.now c.in_ok-width.width c.in_ok-width.records (rw (rows-all c.in_ok-width.records) at kept))
+    rw (c.in_ok-records.ensures, c.in_ok-into_records.ensures) (fit-all c.args.genome.now c.in_ok-width.width c.in_ok-width.records (rw (rows-all c.in_ok-width.records) at kept))

@@ -1,6 +1,5 @@
 use Rattle.std.proofs.Common.{◌≡◌, ◌∙◌, length, sym, ap, subst}
 use Rattle.std.specs.Prelude.{filter}
-use Rattle.std.specs.Ordering.{is_le}
 use Rattle.std.proofs.lemmas.List.Kept.{IsStrictlySortedBy-filter}
 use Rattle.iv_text.specs.RecordValue.{record_cmp, records_total}
 use Rattle.std.specs.List.Sorted.{IsStrictlySortedBy}
@@ -8,21 +7,16 @@ use Rattle.std.specs.Map.{keys_of}
 use Rattle.iv_track.specs.Copies.{expanded}
 use Rattle.iv_track.specs.Tracked.{Tracked, different_records, is_from}
 use Rattle.iv_track.proofs.DifferentLemmas.{different-expanded, keys-filter}
-use Rattle.iv_track.proofs.EntryIndexLemmas.{filter-least}
 use Rattle.iv_track.proofs.WalkLemmas.{expanded-filter, present-filter}
 use Rattle.iv_track.proofs.track.Track.entries.Given as given
 use Rattle.iv_track.proofs.track.Track.entries.Goals as goal
 
 -- the entries of the walk are those of the map from there on
-passed : (g : given.Over) (c : goal.Joined-least g) → c.walk.result ≡ filter (λ e. is_from c.args.seq c.args.start e.0) c.self.inside.ledger
-passed g c =
-    let i = c.self.inside in
-    c.walk.ensures.entries
-    ∙ ap (λ k. filter (λ e. is_le (record_cmp k e.0)) i.ledger) c.least_at-least.ensures
-    ∙ filter-least c.args.seq c.args.start i.ledger c.self.invariant.track.placed
+passed : (g : given.Over) (c : goal.After-walk g) → c.walk.result ≡ filter (λ e. is_from c.args.seq c.args.start e.0) c.self.inside.ledger
+passed g c = c.walk.ensures.entries
 
 -- and their records those of the track
-meant : (g : given.Over) (c : goal.Joined-least g)
+meant : (g : given.Over) (c : goal.After-walk g)
     → expanded (filter (λ e. is_from c.args.seq c.args.start e.0) c.self.inside.ledger) ≡ filter (is_from c.args.seq c.args.start) c.args.self.now.records
 meant g c =
     expanded-filter (is_from c.args.seq c.args.start) c.self.inside.ledger

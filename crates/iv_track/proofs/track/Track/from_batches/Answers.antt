@@ -1,41 +1,19 @@
-use Rattle.std.proofs.Common.{◌≡◌, ℕ, [], List, length, subst, ap, arith}
-use Rattle.std.proofs.lemmas.List.Elements.{All-from_recursion, recursion_from_All}
+use Rattle.std.proofs.Common.{◌≡◌, ◌∙◌, ℕ, List, ap, sym, subst}
+use Rattle.std.specs.Prelude.{All, IfOk}
 use Rattle.iv_text.specs.Ordered.{ordered}
-use Rattle.iv_text.specs.RecordValue.{RecordValue, record_cmp}
-use Rattle.iv_text.proofs.OrderedLemmas.{all-all_added, length-all_added}
-use Rattle.iv_track.specs.Copies.{expanded}
-use Rattle.iv_track.specs.Inside.LengthClasses.{AreClasses}
+use Rattle.iv_text.specs.RecordValue.{RecordValue}
+use Rattle.iv_track.specs.Inside.Stored.{has_three}
 use Rattle.iv_track.specs.Tracked.{Tracked}
-use Rattle.iv_track.proofs.BuiltLemmas.{counted_track}
 use Rattle.iv_track.proofs.track.Track.from_batches.Goals as goal
 
-pub count_copies-requires : goal.count_copies-requires
-count_copies-requires g c = omega (arith, c.requires.few, c.requires.limit)
+pub from_bed3-requires-clause-width : goal.from_bed3-requires-clause-width
+from_bed3-requires-clause-width g c =
+    subst (All has_three) (sym c.in_ok-short_records.ensures)
+    (subst (λ w. All (λ (r : RecordValue). r.width ≡ w) c.args.records) c.if-width-eq3.true c.requires.width)
 
-pub of-lengths-requires : goal.of-lengths-requires
-of-lengths-requires g c =
-    omega (
-      arith,
-      ap (λ (es : List (RecordValue × ℕ)). length (expanded es)) c.all.ensures,
-      ap length c.in_ok-ledger.ensures.rows_are,
-      length-all_added record_cmp c.args.records [],
-      c.requires.few,
-      c.requires.limit,
-    )
-
-pub invariant_of-result : goal.invariant_of-result
-invariant_of-result g c =
-    let W : RecordValue → Type 0 = λ q. q.width ≡ c.args.width in
-    record {
-      track = counted_track c.in_ok-ledger.ledger (ordered c.args.records) c.len-len.result c.args.width c.args.limit c.in_ok-ledger.ensures
-          (omega (arith, c.len-len.ensures, length-all_added record_cmp c.args.records []))
-          (All-from_recursion W (ordered c.args.records) (all-all_added record_cmp W c.args.records [] (recursion_from_All W c.args.records c.requires.width) tt))
-          (omega (arith, c.len-len.ensures, c.requires.few))
-          c.requires.limit;
-      lengths = subst (λ (es : List (RecordValue × ℕ)). AreClasses c.of-lengths.result (expanded es)) c.all.ensures c.of-lengths.ensures;
-    }
-
-pub returns : goal.returns
-returns g c =
-    let with_rows : List RecordValue → Tracked = λ records. record { records = records; width = c.args.width; limit = c.args.limit } in
-    ap with_rows c.in_ok-ledger.ensures.rows_are
+pub returns-then-width-eq3 : goal.returns-then-width-eq3
+returns-then-width-eq3 g c =
+    let with : List RecordValue → ℕ → Tracked = λ records width. record { records = records; width = width; limit = c.args.limit } in
+    subst (λ (x : Tracked). IfOk c.from_bed3.result (λ t. t ≡ x))
+    (ap (λ (records : List RecordValue). with (ordered records) 3) c.in_ok-short_records.ensures ∙ ap (with (ordered c.args.records)) (sym c.if-width-eq3.true))
+    c.from_bed3.ensures

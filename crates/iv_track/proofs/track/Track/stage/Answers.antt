@@ -1,6 +1,7 @@
 use Rattle.std.proofs.Common.{ℕ, ◌≡◌, ◌+◌, ◌<◌, ◌∙◌, sym, ap, arith, List, length, subst}
 use Rattle.std.proofs.Common.{Result, Ok, Err}
-use Rattle.std.specs.Prelude.{unwrap_or, OnErr, slice_index_or, slice_set}
+use Rattle.std.specs.Prelude.{All, unwrap_or, OnErr, slice_index_or, slice_set}
+use Rattle.std.specs.Map.{keys_of}
 use Rattle.iv_text.specs.RecordValue.{RecordValue, record_cmp}
 use Rattle.iv_track.specs.Entries.{value_at}
 use Rattle.iv_text.specs.Ordered.{added, copies}
@@ -14,13 +15,13 @@ use Rattle.iv_track.proofs.track.Track.stage.Goals as goal
 pub overflow_add-count : goal.overflow_add-count
 overflow_add-count g c =
     let i = c.self.inside in
-    let e : c.unwrap_or-count.result ≡ unwrap_or (value_at record_cmp i.ledger c.args.feature) 0 = c.unwrap_or-count.ensures ∙ ap (λ o. unwrap_or o 0) (c.copied.ensures ∙ c.get.ensures.value) in
+    let e : c.unwrap_or-count.result ≡ unwrap_or (value_at record_cmp i.ledger c.args.feature) 0 = c.unwrap_or-count.ensures ∙ ap (λ o. unwrap_or o 0) c.get.ensures.value in
     record { fits = omega (arith, e, count-le-len i.ledger i.len i.width i.limit c.args.feature c.self.invariant.track, c.self.invariant.track.room, c.self.invariant.track.bounded) }
 
 pub invariant_of-self-2 : goal.invariant_of-self-2
 invariant_of-self-2 g c =
     let i = c.self.inside in
-    let e = c.unwrap_or-count.ensures ∙ ap (λ o. unwrap_or o 0) (c.copied.ensures ∙ c.get.ensures.value) in
+    let e = c.unwrap_or-count.ensures ∙ ap (λ o. unwrap_or o 0) c.get.ensures.value in
     record {
       track = staged_track i.ledger c.put.new.self i.len i.width i.limit c.args.feature c.self.invariant.track c.unwrap_or-count.result e c.in_ok-put.ensures.ok c.in_ok-put.ensures.ordered
           (c.requires.width ∙ sym (ap (λ (t : Tracked). t.width) c.self.view_is))
@@ -37,7 +38,7 @@ invariant_of-self-2 g c =
 pub returns-clause-ok : goal.returns-clause-ok
 returns-clause-ok g c =
     let i = c.self.inside in
-    let e = c.unwrap_or-count.ensures ∙ ap (λ o. unwrap_or o 0) (c.copied.ensures ∙ c.get.ensures.value) in
+    let e = c.unwrap_or-count.ensures ∙ ap (λ o. unwrap_or o 0) c.get.ensures.value in
     let with_rows : List RecordValue → Tracked = λ records. record { records = records; width = i.width; limit = i.limit } in
     ap with_rows (staged_rows i.ledger c.put.new.self i.len i.width i.limit c.args.feature c.self.invariant.track c.unwrap_or-count.result e c.in_ok-put.ensures.ok)
     ∙ ap (λ (t : Tracked). record t { records = added t.records c.args.feature }) c.self.view_is
@@ -60,3 +61,9 @@ pub add-requires-clause-room : goal.add-requires-clause-room
 add-requires-clause-room g c =
     let i = c.self.inside in
     omega (arith, classes-room i.lengths (expanded i.ledger) c.length_class-class.result c.self.invariant.lengths, len-rows i.ledger i.len i.width i.limit c.self.invariant.track, c.self.invariant.track.room, c.self.invariant.track.bounded)
+
+pub put-requires : goal.put-requires
+put-requires g c =
+    record {
+      widths = subst (λ w. All (λ (q : RecordValue). q.width ≡ w) (keys_of c.self.inside.ledger)) (ap (λ (t : Tracked). t.width) c.self.view_is ∙ sym c.requires.width) c.self.invariant.track.widths;
+    }

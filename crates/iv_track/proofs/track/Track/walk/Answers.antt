@@ -1,22 +1,20 @@
 use Rattle.std.proofs.Common.{◌∙◌, ap, subst}
 use Rattle.std.specs.Prelude.{filter}
-use Rattle.std.specs.Ordering.{is_le}
 use Rattle.iv_text.specs.RecordValue.{record_cmp, records_total}
 use Rattle.iv_track.specs.Copies.{expanded}
 use Rattle.iv_text.specs.Ordered.{AreInOrder}
 use Rattle.iv_track.specs.Tracked.{Tracked, is_from}
 use Rattle.iv_track.proofs.Counts.{in_order-expanded}
-use Rattle.iv_track.proofs.EntryIndexLemmas.{filter-least}
 use Rattle.iv_track.proofs.WalkLemmas.{expanded-filter, present-filter}
 use Rattle.iv_track.proofs.track.Track.walk.Goals as goal
 
 pub invariant_of-result : goal.invariant_of-result
-invariant_of-result g c = rw c.walk.ensures.entries (present-filter (λ e. is_le (record_cmp c.least_at-least.result e.0)) c.self.inside.ledger c.self.invariant.track.present)
+invariant_of-result g c = rw c.walk.ensures.entries (present-filter (λ e. is_from c.args.seq c.args.start e.0) c.self.inside.ledger c.self.invariant.track.present)
 
 pub returns-clause-records : goal.returns-clause-records
 returns-clause-records g c =
     let i = c.self.inside in
-    ap expanded (c.walk.ensures.entries ∙ ap (λ k. filter (λ e. is_le (record_cmp k e.0)) i.ledger) c.least_at-least.ensures ∙ filter-least c.args.seq c.args.start i.ledger c.self.invariant.track.placed)
+    ap expanded c.walk.ensures.entries
     ∙ expanded-filter (is_from c.args.seq c.args.start) i.ledger
     ∙ ap (λ (t : Tracked). filter (is_from c.args.seq c.args.start) t.records) c.self.view_is
 

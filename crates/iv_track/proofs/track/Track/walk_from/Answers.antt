@@ -1,7 +1,5 @@
 use Rattle.std.proofs.Common.{◌∙◌, sym, ap}
 use Rattle.std.specs.Prelude.{filter}
-use Rattle.std.specs.Ordering.{is_le}
-use Rattle.iv_text.specs.RecordValue.{record_cmp}
 use Rattle.iv_track.specs.Copies.{expanded}
 use Rattle.iv_track.specs.Tracked.{Tracked, is_from}
 use Rattle.iv_track.proofs.EntryIndexLemmas.{filter-begun, filter-nowhere}
@@ -18,12 +16,12 @@ returns-in_default-clause-records g c =
     ∙ ap (λ (t : Tracked). filter (is_from c.args.seq c.args.start) t.records) c.self.view_is
 
 pub invariant_of-result : goal.invariant_of-result
-invariant_of-result g c = rw c.walk.ensures.entries (present-filter (λ e. is_le (record_cmp c.in-Some.least e.0)) c.self.inside.ledger c.self.invariant.track.present)
+invariant_of-result g c = rw c.walk.ensures.entries (present-filter (λ e. is_from c.in-Some.seq c.in-Some.start e.0) c.self.inside.ledger c.self.invariant.track.present)
 
 pub returns-clause-records : goal.returns-clause-records
 returns-clause-records g c =
     let i = c.self.inside in
-    ap expanded (c.walk.ensures.entries ∙ filter-begun c.args.seq c.args.start c.in-Some.least i.ledger c.in-Some.ensures c.self.invariant.track.placed)
+    ap expanded (c.walk.ensures.entries ∙ filter-begun c.args.seq c.args.start (c.in-Some.seq, c.in-Some.start) i.ledger c.in-Some.ensures c.self.invariant.track.placed)
     ∙ expanded-filter (is_from c.args.seq c.args.start) i.ledger
     ∙ ap (λ (t : Tracked). filter (is_from c.args.seq c.args.start) t.records) c.self.view_is
 

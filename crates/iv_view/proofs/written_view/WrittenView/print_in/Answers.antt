@@ -19,8 +19,8 @@ records-preserved g c =
     let i = c.records.invariant in
     let second = second_records (option_copied a.second) in
     let bases = unwrap_or (option_copied a.fasta) [] in
-    let first : c.records.hits.records ≡ c.in-Some.feature.now ∷ c.next.new.self.records = c.in-Some.ensures.feature in
-    let next = ap (flat_map (written_rows a.self a.genome.now second bases)) first ∙ first-rows a.self a.genome.now c.in-Some.feature.now c.next.new.self.records second bases in
+    let first : c.records.hits.records ≡ c.in-Some.feature ∷ c.next.new.self.records = c.in-Some.ensures.feature in
+    let next = ap (flat_map (written_rows a.self a.genome.now second bases)) first ∙ first-rows a.self a.genome.now c.in-Some.feature c.next.new.self.records second bases in
     record {
       put = Underway-more _ _ _ _ _ _ (rw next at i.put) c.in_ok-put_rows.ensures;
       no_less = omega (arith, i.no_less, c.in-Some.ensures.steps);
@@ -33,8 +33,8 @@ returns-in_err-put_rows g c =
     let i = c.records.invariant in
     let second = second_records (option_copied a.second) in
     let bases = unwrap_or (option_copied a.fasta) [] in
-    let first : c.records.hits.records ≡ c.in-Some.feature.now ∷ c.next.new.self.records = c.in-Some.ensures.feature in
-    let next = ap (flat_map (written_rows a.self a.genome.now second bases)) first ∙ first-rows a.self a.genome.now c.in-Some.feature.now c.next.new.self.records second bases in
+    let first : c.records.hits.records ≡ c.in-Some.feature ∷ c.next.new.self.records = c.in-Some.ensures.feature in
+    let next = ap (flat_map (written_rows a.self a.genome.now second bases)) first ∙ first-rows a.self a.genome.now c.in-Some.feature c.next.new.self.records second bases in
     record {
       text = Puts-err _ _ c.from_residual.result _ c.from_residual.ensures.0
           (Underway-fails _ _ _ _ _ _ (rw next at i.put) c.in_err-put_rows.ensures);

@@ -1,0 +1,11 @@
+use Rattle.std.proofs.Common.{◌≡◌, None, sym}
+use Rattle.iv_text.specs.RecordValue.{record_cmp}
+use Rattle.iv_track.specs.Entries.{value_at}
+use Rattle.iv_track.proofs.StoredLemmas.{of-bed3, three-stored, absent}
+use Rattle.iv_track.proofs.entries.Entries.get.Goals as goal
+
+pub returns-in-None-clause-value : goal.returns-in-None-clause-value
+returns-in-None-clause-value g c =
+    let feature = c.args.feature.now in
+    of-bed3 (λ es. ◌≡◌ None (value_at record_cmp es feature)) _ _ c.in-Bed3.ledger c.self.view_is c.in-Bed3.is
+    (sym (absent c.in-Bed3.ledger feature c.in-None.ensures (three-stored _ c.in-Bed3.ledger c.in-Bed3.is c.self.invariant)))
