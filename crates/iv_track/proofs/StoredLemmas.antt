@@ -15,58 +15,58 @@ use Rattle.iv_text.specs.RecordValue.{RecordValue, IsPlaced, record_cmp}
 use Rattle.iv_text.proofs.RecordLemmas.{rows_exact}
 use Rattle.iv_track.specs.Entries.{value_at}
 use Rattle.iv_track.specs.Tracked.{is_from}
-use Rattle.iv_track.specs.Inside.Stored.{has_three, stored, IsStored}
+use Rattle.iv_track.specs.Inside.Stored.{HasThreeColumns, stored, IsStored}
 use Rattle.iv_track.specs.declared.entries.Storage.{Storage}
 use Rattle.iv_track.specs.declared.entries.Storage.TheVariants as all
 use Rattle.iv_track.proofs.EntryIndexLemmas.{empty-before, least-is_from, find-alike, find-least, filter-alike}
 
 -- ---- a record of another width is not among them
 
-differs : (k q : RecordValue) → k.width ≢ 3 → has_three q → is_at (record_cmp k) q ≡ false
+differs : (k q : RecordValue) → k.width ≢ 3 → HasThreeColumns q → is_at (record_cmp k) q ≡ false
 differs k q other three = go (is_at (record_cmp k) q) refl
   where
     go : (b : Bool) → is_at (record_cmp k) q ≡ b → b ≡ false
     go true is = absurd (other (ap (λ (r : RecordValue). r.width) (rows_exact k q ((Equal-is (record_cmp k q)).0 is)) ∙ three))
     go false is = refl
 
-pub absent : (es : List (RecordValue × ℕ)) (k : RecordValue) → k.width ≢ 3 → All has_three (keys_of es) → value_at record_cmp es k ≡ None
+pub absent : (es : List (RecordValue × ℕ)) (k : RecordValue) → k.width ≢ 3 → All HasThreeColumns (keys_of es) → value_at record_cmp es k ≡ None
 absent [] k other three = refl
 absent (e ∷ es) k other three =
-    cond-false (is_at (record_cmp k) e.0) (Some e.1) (value_at record_cmp es k) (differs k e.0 other (All-head has_three e.0 (keys_of es) three))
-    ∙ absent es k other (All-tail has_three e.0 (keys_of es) three)
+    cond-false (is_at (record_cmp k) e.0) (Some e.1) (value_at record_cmp es k) (differs k e.0 other (All-head HasThreeColumns e.0 (keys_of es) three))
+    ∙ absent es k other (All-tail HasThreeColumns e.0 (keys_of es) three)
 
-pub absent-removed : (es : List (RecordValue × ℕ)) (k : RecordValue) → k.width ≢ 3 → All has_three (keys_of es) → remove_entry (is_at (record_cmp k)) es ≡ es
+pub absent-removed : (es : List (RecordValue × ℕ)) (k : RecordValue) → k.width ≢ 3 → All HasThreeColumns (keys_of es) → remove_entry (is_at (record_cmp k)) es ≡ es
 absent-removed [] k other three = refl
 absent-removed (e ∷ es) k other three =
-    cond-false (is_at (record_cmp k) e.0) es (e ∷ remove_entry (is_at (record_cmp k)) es) (differs k e.0 other (All-head has_three e.0 (keys_of es) three))
-    ∙ ap (λ (l : List (RecordValue × ℕ)). e ∷ l) (absent-removed es k other (All-tail has_three e.0 (keys_of es) three))
+    cond-false (is_at (record_cmp k) e.0) es (e ∷ remove_entry (is_at (record_cmp k)) es) (differs k e.0 other (All-head HasThreeColumns e.0 (keys_of es) three))
+    ∙ ap (λ (l : List (RecordValue × ℕ)). e ∷ l) (absent-removed es k other (All-tail HasThreeColumns e.0 (keys_of es) three))
 
 -- if all have its width, there is none
-pub none-there : (es : List (RecordValue × ℕ)) (k : RecordValue) → k.width ≢ 3 → All has_three (keys_of es) → All (λ (q : RecordValue). q.width ≡ k.width) (keys_of es) → es ≡ []
+pub none-there : (es : List (RecordValue × ℕ)) (k : RecordValue) → k.width ≢ 3 → All HasThreeColumns (keys_of es) → All (λ (q : RecordValue). q.width ≡ k.width) (keys_of es) → es ≡ []
 none-there [] k other three alike = refl
-none-there (e ∷ es) k other three alike = absurd (other (sym (All-head (λ (q : RecordValue). q.width ≡ k.width) e.0 (keys_of es) alike) ∙ All-head has_three e.0 (keys_of es) three))
+none-there (e ∷ es) k other three alike = absurd (other (sym (All-head (λ (q : RecordValue). q.width ≡ k.width) e.0 (keys_of es) alike) ∙ All-head HasThreeColumns e.0 (keys_of es) three))
 
 -- ---- where a search begins
 
-both : (es : List (RecordValue × ℕ)) → All IsPlaced (keys_of es) → All has_three (keys_of es) → All (λ (q : RecordValue). IsPlaced q × has_three q) (keys_of es)
+both : (es : List (RecordValue × ℕ)) → All IsPlaced (keys_of es) → All HasThreeColumns (keys_of es) → All (λ (q : RecordValue). IsPlaced q × HasThreeColumns q) (keys_of es)
 both [] placed three = All-nil _
 both (e ∷ es) placed three =
-    All-cons (λ (q : RecordValue). IsPlaced q × has_three q) e.0 (keys_of es)
-    (All-head IsPlaced e.0 (keys_of es) placed, All-head has_three e.0 (keys_of es) three)
-    (both es (All-tail IsPlaced e.0 (keys_of es) placed) (All-tail has_three e.0 (keys_of es) three))
+    All-cons (λ (q : RecordValue). IsPlaced q × HasThreeColumns q) e.0 (keys_of es)
+    (All-head IsPlaced e.0 (keys_of es) placed, All-head HasThreeColumns e.0 (keys_of es) three)
+    (both es (All-tail IsPlaced e.0 (keys_of es) placed) (All-tail HasThreeColumns e.0 (keys_of es) three))
 
-begins : (seq start : ℕ) (q : RecordValue) → IsPlaced q × has_three q → is_le (record_cmp (record { seq = seq; start = start; stop = start + 1; name = []; score = []; strand = None; width = 3 }) q) ≡ is_from seq start q
+begins : (seq start : ℕ) (q : RecordValue) → IsPlaced q × HasThreeColumns q → is_le (record_cmp (record { seq = seq; start = start; stop = start + 1; name = []; score = []; strand = None; width = 3 }) q) ≡ is_from seq start q
 begins seq start q h = least-is_from 3 seq start q h.0.some (omega (arith, h.1))
 
-pub find-three : (seq start : ℕ) (es : List (RecordValue × ℕ)) → All IsPlaced (keys_of es) → All has_three (keys_of es)
+pub find-three : (seq start : ℕ) (es : List (RecordValue × ℕ)) → All IsPlaced (keys_of es) → All HasThreeColumns (keys_of es)
     → find (λ e. is_le (record_cmp (record { seq = seq; start = start; stop = start + 1; name = []; score = []; strand = None; width = 3 }) e.0)) es ≡ find (λ e. is_from seq start e.0) es
 find-three seq start es placed three =
-    find-alike (λ (q : RecordValue). IsPlaced q × has_three q) (λ q. is_le (record_cmp (record { seq = seq; start = start; stop = start + 1; name = []; score = []; strand = None; width = 3 }) q)) (is_from seq start) (begins seq start) es (both es placed three)
+    find-alike (λ (q : RecordValue). IsPlaced q × HasThreeColumns q) (λ q. is_le (record_cmp (record { seq = seq; start = start; stop = start + 1; name = []; score = []; strand = None; width = 3 }) q)) (is_from seq start) (begins seq start) es (both es placed three)
 
-pub filter-three : (seq start : ℕ) (es : List (RecordValue × ℕ)) → All IsPlaced (keys_of es) → All has_three (keys_of es)
+pub filter-three : (seq start : ℕ) (es : List (RecordValue × ℕ)) → All IsPlaced (keys_of es) → All HasThreeColumns (keys_of es)
     → filter (λ e. is_le (record_cmp (record { seq = seq; start = start; stop = start + 1; name = []; score = []; strand = None; width = 3 }) e.0)) es ≡ filter (λ e. is_from seq start e.0) es
 filter-three seq start es placed three =
-    filter-alike (λ (q : RecordValue). IsPlaced q × has_three q) (λ q. is_le (record_cmp (record { seq = seq; start = start; stop = start + 1; name = []; score = []; strand = None; width = 3 }) q)) (is_from seq start) (begins seq start) es (both es placed three)
+    filter-alike (λ (q : RecordValue). IsPlaced q × HasThreeColumns q) (λ q. is_le (record_cmp (record { seq = seq; start = start; stop = start + 1; name = []; score = []; strand = None; width = 3 }) q)) (is_from seq start) (begins seq start) es (both es placed three)
 
 -- ---- what is stored
 
@@ -84,7 +84,7 @@ module _ {A : Type 0} where
   pub each-full : (P : RecordValue → Type 0) (storage : Storage A) (es ledger : List (RecordValue × ℕ)) → stored storage ≡ es → storage ≡ all.Full ledger → All P (keys_of es) → All P (keys_of ledger)
   each-full P storage es ledger same is h = subst (λ s. All P (keys_of (stored s))) is (subst (λ (l : List (RecordValue × ℕ)). All P (keys_of l)) (sym same) h)
 
-  pub three-stored : (storage : Storage A) (ledger : List (RecordValue × ℕ)) → storage ≡ all.Bed3 ledger → IsStored storage → All has_three (keys_of ledger)
+  pub three-stored : (storage : Storage A) (ledger : List (RecordValue × ℕ)) → storage ≡ all.Bed3 ledger → IsStored storage → All HasThreeColumns (keys_of ledger)
   three-stored storage ledger is h = subst IsStored is h
 
   -- the first entry of a search from a position on
@@ -113,33 +113,33 @@ not_after Equal Equal Equal Less s le h = cc
 not_after Equal Equal Equal Equal s le h = cc
 not_after Equal Equal Equal Greater s le h = cc
 
-passed : (k q : RecordValue) → has_three q → is_le (record_cmp (record { seq = k.seq; start = k.start; stop = k.stop; name = []; score = []; strand = None; width = 3 }) q) ≡ false → is_lt (record_cmp k q) ≡ false
+passed : (k q : RecordValue) → HasThreeColumns q → is_le (record_cmp (record { seq = k.seq; start = k.start; stop = k.stop; name = []; score = []; strand = None; width = 3 }) q) ≡ false → is_lt (record_cmp k q) ≡ false
 passed k q three = not_after (nat_cmp k.seq q.seq) (nat_cmp k.start q.start) (nat_cmp k.stop q.stop) _ _ (empty-before 3 q (omega (arith, three)))
 
 -- those before the record of its interval are not after it
-pub find-after : (k : RecordValue) (es : List (RecordValue × ℕ)) → All has_three (keys_of es)
+pub find-after : (k : RecordValue) (es : List (RecordValue × ℕ)) → All HasThreeColumns (keys_of es)
     → find (λ e. is_lt (record_cmp k e.0)) (filter (λ e. is_le (record_cmp (record { seq = k.seq; start = k.start; stop = k.stop; name = []; score = []; strand = None; width = 3 }) e.0)) es) ≡ find (λ e. is_lt (record_cmp k e.0)) es
 find-after k [] three = refl
-find-after k (e ∷ es) three = go (is_le (record_cmp (record { seq = k.seq; start = k.start; stop = k.stop; name = []; score = []; strand = None; width = 3 }) e.0)) refl (find-after k es (All-tail has_three e.0 (keys_of es) three))
+find-after k (e ∷ es) three = go (is_le (record_cmp (record { seq = k.seq; start = k.start; stop = k.stop; name = []; score = []; strand = None; width = 3 }) e.0)) refl (find-after k es (All-tail HasThreeColumns e.0 (keys_of es) three))
   where
     go : (b : Bool) → is_le (record_cmp (record { seq = k.seq; start = k.start; stop = k.stop; name = []; score = []; strand = None; width = 3 }) e.0) ≡ b
         → find (λ (f : RecordValue × ℕ). is_lt (record_cmp k f.0)) (filter (λ (f : RecordValue × ℕ). is_le (record_cmp (record { seq = k.seq; start = k.start; stop = k.stop; name = []; score = []; strand = None; width = 3 }) f.0)) es) ≡ find (λ (f : RecordValue × ℕ). is_lt (record_cmp k f.0)) es
         → find (λ (f : RecordValue × ℕ). is_lt (record_cmp k f.0)) (cond b (e ∷ filter (λ (f : RecordValue × ℕ). is_le (record_cmp (record { seq = k.seq; start = k.start; stop = k.stop; name = []; score = []; strand = None; width = 3 }) f.0)) es) (filter (λ (f : RecordValue × ℕ). is_le (record_cmp (record { seq = k.seq; start = k.start; stop = k.stop; name = []; score = []; strand = None; width = 3 }) f.0)) es))
         ≡ find (λ (f : RecordValue × ℕ). is_lt (record_cmp k f.0)) (e ∷ es)
     go true is rest = ap (λ (o : Option (RecordValue × ℕ)). cond (is_lt (record_cmp k e.0)) (Some e) o) rest
-    go false is rest = rest ∙ sym (cond-false (is_lt (record_cmp k e.0)) (Some e) (find (λ (f : RecordValue × ℕ). is_lt (record_cmp k f.0)) es) (passed k e.0 (All-head has_three e.0 (keys_of es) three) is))
+    go false is rest = rest ∙ sym (cond-false (is_lt (record_cmp k e.0)) (Some e) (find (λ (f : RecordValue × ℕ). is_lt (record_cmp k f.0)) es) (passed k e.0 (All-head HasThreeColumns e.0 (keys_of es) three) is))
 
 -- ---- edits
 
 -- those that are left are of three columns
-pub three-taken : (test : RecordValue → Bool) (es new : List (RecordValue × ℕ)) → new ≡ remove_entry test es → All has_three (keys_of es) → All has_three (keys_of new)
-three-taken test es new is three = subst (λ (l : List (RecordValue × ℕ)). All has_three (keys_of l)) (sym is) (All-map-remove_entry test (λ e. e.0) has_three es three)
+pub three-taken : (test : RecordValue → Bool) (es new : List (RecordValue × ℕ)) → new ≡ remove_entry test es → All HasThreeColumns (keys_of es) → All HasThreeColumns (keys_of new)
+three-taken test es new is three = subst (λ (l : List (RecordValue × ℕ)). All HasThreeColumns (keys_of l)) (sym is) (All-map-remove_entry test (λ e. e.0) HasThreeColumns es three)
 
-pub three-put : (es new : List (RecordValue × ℕ)) (k : RecordValue) (n : ℕ) → new ≡ insert_entry record_cmp es k n → has_three k → All has_three (keys_of es) → All has_three (keys_of new)
-three-put es new k n is here three = subst (λ (l : List (RecordValue × ℕ)). All has_three (keys_of l)) (sym is) (All-keys-insert_entry record_cmp k n has_three es three here)
+pub three-put : (es new : List (RecordValue × ℕ)) (k : RecordValue) (n : ℕ) → new ≡ insert_entry record_cmp es k n → HasThreeColumns k → All HasThreeColumns (keys_of es) → All HasThreeColumns (keys_of new)
+three-put es new k n is here three = subst (λ (l : List (RecordValue × ℕ)). All HasThreeColumns (keys_of l)) (sym is) (All-keys-insert_entry record_cmp k n HasThreeColumns es three here)
 
 -- and those of which a number may have been written
-pub three-set : (test : RecordValue → Bool) (es new : List (RecordValue × ℕ)) (n : ℕ) (r : Result ℕ ℕ) → OnOk r (new ≡ set_value test es n) → OnErr r (new ≡ es) → All has_three (keys_of es) → All has_three (keys_of new)
+pub three-set : (test : RecordValue → Bool) (es new : List (RecordValue × ℕ)) (n : ℕ) (r : Result ℕ ℕ) → OnOk r (new ≡ set_value test es n) → OnErr r (new ≡ es) → All HasThreeColumns (keys_of es) → All HasThreeColumns (keys_of new)
 three-set test es new n (Ok m) is same three =
-    subst (λ (l : List (RecordValue × ℕ)). All has_three (keys_of l)) (sym is) (subst (All has_three) (sym (keys-set_value test es n)) three)
-three-set test es new n (Err m) is same three = subst (λ (l : List (RecordValue × ℕ)). All has_three (keys_of l)) (sym same) three
+    subst (λ (l : List (RecordValue × ℕ)). All HasThreeColumns (keys_of l)) (sym is) (subst (All HasThreeColumns) (sym (keys-set_value test es n)) three)
+three-set test es new n (Err m) is same three = subst (λ (l : List (RecordValue × ℕ)). All HasThreeColumns (keys_of l)) (sym same) three

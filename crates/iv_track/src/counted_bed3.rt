@@ -4,7 +4,7 @@ ghost use Rattle.std.specs.Iterator.{item_count};
 ghost use Rattle.iv_text.specs.Ordered.{ordered};
 ghost use Rattle.iv_text.specs.RecordValue.{record_cmp};
 ghost use Rattle.iv_track.specs.Inside.Counted.{grouped, AreCounted, GivesEntry};
-ghost use Rattle.iv_track.specs.Inside.Stored.{has_three};
+ghost use Rattle.iv_track.specs.Inside.Stored.{HasThreeColumns};
 
 use crate::entries::into_bed3;
 use crate::ledger::Ledger;
@@ -31,7 +31,7 @@ pub(crate) fn short_records<A: Allocator + Copy>(
     alloc: A,
     records: Batches<Record<A>, A>,
 ) -> Result<Batches<Bed3Record, A>, AllocError>
-    requires { All has_three records }
+    requires { All HasThreeColumns records }
     ensures { IfOk result (λ short. short ≡ records) }
 {
     let mut short = Batches::new(alloc);

@@ -9,7 +9,7 @@ ghost use Rattle.std.specs.Ordering.{is_le, is_lt};
 ghost use Rattle.iv_text.specs.RecordValue.{IsPlaced, record_cmp};
 ghost use Rattle.iv_track.specs.Entries.{IsLedger, first_after, first_from, value_at};
 ghost use Rattle.iv_track.specs.Inside.Lent.{lent_entry};
-ghost use Rattle.iv_track.specs.Inside.Stored.{has_three};
+ghost use Rattle.iv_track.specs.Inside.Stored.{HasThreeColumns};
 ghost use Rattle.iv_track.specs.Steps.{ticked};
 ghost use Rattle.iv_track.specs.Tracked.{is_from};
 
@@ -63,7 +63,7 @@ impl<A: Allocator + Copy> Entries<A> {
 
     /// The entries of records of three columns.
     pub(crate) fn of_bed3(alloc: A, ledger: Ledger<Bed3Record, u32, A>) -> Self
-        requires { All has_three (keys_of ledger) }
+        requires { All HasThreeColumns (keys_of ledger) }
         ensures { result ≡ ledger }
     {
         Entries {
@@ -352,7 +352,7 @@ fn bed3_after<'a, A: Allocator + Copy>(
     feature: &Record<A>,
     meter: &mut Meter,
 ) -> Option<(&'a Bed3Record, u32)>
-    requires { All has_three (keys_of ledger.now) }
+    requires { All HasThreeColumns (keys_of ledger.now) }
     ensures entry { option_map (λ p. (p.0.now, p.1)) result ≡ first_after record_cmp ledger.now feature.now }
     ensures step { meter.new ≡ ticked meter.old }
 {

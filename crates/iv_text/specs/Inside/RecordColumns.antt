@@ -18,6 +18,7 @@ record_of beside place texts = record {
   width = beside.width;
 }
 
+-- the record of stored columns, wherever its name and its score are
 abbrev pub record_at : {A : Type 0} → RecordColumns A → RecordValue
 record_at (Empty beside place) = record_of beside place ([], [])
 record_at (Short beside place texts) = record_of beside place texts.value

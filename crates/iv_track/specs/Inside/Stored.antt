@@ -8,8 +8,8 @@ use Rattle.iv_track.specs.declared.entries.Storage.{Storage}
 use Rattle.iv_track.specs.declared.entries.Storage.TheVariants as all
 
 -- the record has three columns
-abbrev pub has_three : RecordValue → Type 0
-has_three r = r.width ≡ 3
+abbrev pub HasThreeColumns : RecordValue → Type 0
+HasThreeColumns r = r.width ≡ 3
 
 -- the entries that are stored
 abbrev pub stored : {A : Type 0} → Storage A → List (RecordValue × ℕ)
@@ -18,7 +18,7 @@ stored (all.Full ledger) = ledger
 
 -- those that are stored without a width have three columns
 abbrev pub IsStored : {A : Type 0} → Storage A → Type 0
-IsStored (all.Bed3 ledger) = All has_three (keys_of ledger)
+IsStored (all.Bed3 ledger) = All HasThreeColumns (keys_of ledger)
 IsStored (all.Full ledger) = ⊤
 
 -- the entries that a walk has left

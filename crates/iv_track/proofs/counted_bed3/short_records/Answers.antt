@@ -3,7 +3,7 @@ use Rattle.std.specs.Prelude.{All}
 use Rattle.std.proofs.lemmas.List.Elements.{All-head, All-tail}
 use Rattle.std.proofs.lemmas.List.{append_assoc}
 use Rattle.iv_text.specs.RecordValue.{RecordValue}
-use Rattle.iv_track.specs.Inside.Stored.{has_three}
+use Rattle.iv_track.specs.Inside.Stored.{HasThreeColumns}
 use Rattle.iv_track.proofs.counted_bed3.short_records.Goals as goal
 
 pub loop-feature-preserved : goal.loop-feature-preserved
@@ -17,9 +17,9 @@ loop-feature-preserved g c =
           ∙ append_assoc l.short (c.in-Some.feature ∷ []) rest
           ∙ ap (λ (s : List RecordValue). l.short ++ s) (sym c.in-Some.ensures.steps)
           ∙ l.invariant.all;
-      three = All-tail has_three c.in-Some.feature rest (subst (All has_three) c.in-Some.ensures.steps l.invariant.three);
+      three = All-tail HasThreeColumns c.in-Some.feature rest (subst (All HasThreeColumns) c.in-Some.ensures.steps l.invariant.three);
     }
 
 pub unreachable-requires : goal.unreachable-requires
 unreachable-requires g c =
-    c.in-Err.ensures.back.1 (All-head has_three c.in-Some.feature c.next.new.self (subst (All has_three) c.in-Some.ensures.steps c.loop-feature.invariant.three))
+    c.in-Err.ensures.back.1 (All-head HasThreeColumns c.in-Some.feature c.next.new.self (subst (All HasThreeColumns) c.in-Some.ensures.steps c.loop-feature.invariant.three))

@@ -2,13 +2,13 @@ use Rattle.std.proofs.Common.{◌≡◌, ◌∙◌, ℕ, List, ap, sym, subst}
 use Rattle.std.specs.Prelude.{All, IfOk}
 use Rattle.iv_text.specs.Ordered.{ordered}
 use Rattle.iv_text.specs.RecordValue.{RecordValue}
-use Rattle.iv_track.specs.Inside.Stored.{has_three}
+use Rattle.iv_track.specs.Inside.Stored.{HasThreeColumns}
 use Rattle.iv_track.specs.Tracked.{Tracked}
 use Rattle.iv_track.proofs.track.Track.from_batches.Goals as goal
 
 pub from_bed3-requires-clause-width : goal.from_bed3-requires-clause-width
 from_bed3-requires-clause-width g c =
-    subst (All has_three) (sym c.in_ok-short_records.ensures)
+    subst (All HasThreeColumns) (sym c.in_ok-short_records.ensures)
     (subst (λ w. All (λ (r : RecordValue). r.width ≡ w) c.args.records) c.if-width-eq3.true c.requires.width)
 
 pub returns-then-width-eq3 : goal.returns-then-width-eq3

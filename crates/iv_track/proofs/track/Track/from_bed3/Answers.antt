@@ -6,7 +6,7 @@ use Rattle.iv_text.proofs.OrderedLemmas.{all-all_added, length-all_added}
 use Rattle.iv_track.specs.Copies.{expanded}
 use Rattle.iv_track.specs.Inside.LengthClasses.{AreClasses}
 use Rattle.iv_track.specs.Inside.Tracked.{IsTrack}
-use Rattle.iv_track.specs.Inside.Stored.{has_three}
+use Rattle.iv_track.specs.Inside.Stored.{HasThreeColumns}
 use Rattle.iv_track.specs.Tracked.{Tracked}
 use Rattle.iv_track.proofs.BuiltLemmas.{counted_track}
 use Rattle.iv_track.proofs.track.Track.from_bed3.Goals as goal
@@ -48,6 +48,6 @@ pub of_bed3-ledger-requires : goal.of_bed3-ledger-requires
 of_bed3-ledger-requires g c =
     (counted_track c.in_ok-counted.counted (ordered c.args.records) c.len-len.result 3 c.args.limit c.in_ok-counted.ensures
     (omega (arith, c.len-len.ensures, length-all_added record_cmp c.args.records []))
-    (All-from_recursion has_three (ordered c.args.records) (all-all_added record_cmp has_three c.args.records [] (recursion_from_All has_three c.args.records c.requires.width) tt))
+    (All-from_recursion HasThreeColumns (ordered c.args.records) (all-all_added record_cmp HasThreeColumns c.args.records [] (recursion_from_All HasThreeColumns c.args.records c.requires.width) tt))
     (omega (arith, c.len-len.ensures, c.requires.few))
     c.requires.limit).widths
