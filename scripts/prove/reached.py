@@ -11,7 +11,7 @@ The numbers of the pages leave out names of bytes and the definitions of notices
     scripts/prove/reached.py --list     lists those that none reaches, with their files and lines
     scripts/prove/reached.py --order    lists those that run_program reaches, by file, with sizes in lines
     scripts/prove/reached.py --page     writes docs/STATEMENT.md, which has all that run_program reaches, from the top down (statement.py)
-    scripts/prove/reached.py --write    writes that page, and puts the numbers into docs/PROMISES.md
+    scripts/prove/reached.py --write    writes that page, and puts the program's contract and the numbers into docs/PROMISES.md
     scripts/prove/reached.py --check    status 1 if --write would change either, if the page has a name that it doesn't explain, or if a
                                         definition that none reaches isn't in the folder specs/Inside, or one that is reached is there
 """
@@ -26,6 +26,7 @@ TOP = Path(__file__).resolve().parent.parent.parent
 PUBLIC = ["iv_text", "iv_track", "iv_cover", "iv_pair", "iv_session", "iv_cli"]
 PROGRAM = "iv_program"
 INSIDE = "Inside"
+CONTRACT = re.compile(r"^    ensures \{ Runs .*(?:\n {8}.*)*", re.M)  # of the program, in its source and on the page of promises
 HEAD = re.compile(r"^( *)(?:(?:abbrev|unfoldable) pub|pub (?:record|data)) +(\S+)")
 LEMMA = re.compile(r"^( *)pub [\w-]+ :")
 NAME = re.compile(r"(?<![\w.'-])[A-Za-z_][\w'-]*")
@@ -242,7 +243,9 @@ class Walk:
 
 
 def page_with(page, keys, size):
-    """The page of promises with the numbers of these definitions: of all, and of the crates that each row of its table links."""
+    """The page of promises with the program's contract, and the numbers of these definitions: of all, and of the crates that each row of its table links."""
+    contract = CONTRACT.search((TOP / f"crates/{PROGRAM}/src/program.rt").read_text()).group()
+    page = CONTRACT.sub(lambda _: contract, page, count=1)
     page = re.sub(r"\d+ names of bytes and the \d+ definitions of notices", what_is_uncounted(keys), page)
     keys = [*filter(is_counted, keys)]
     page = re.sub(r"[\d,]+ definitions, [\d,]+ lines", f"{len(keys):,} definitions, {size(keys):,} lines", page)

@@ -33,7 +33,7 @@ MAKES_A_METER = {
     "iv_pair/src/hits.rt": {"of"},
     "iv_pair/src/second.rt": {"from_batches", "hits"},
     "iv_session/src/line.rt": {"run_request"},
-    "iv_workspace/src/session/edits.rt": {"add", "remove", "replace", "add_second", "remove_second", "replace_second"},
+    "iv_workspace/src/session/edits.rt": {"edit"},
     "iv_workspace/src/session/lengths.rt": {"has_record_past"},
     "iv_workspace/src/session/open_views.rt": {"open_view", "print_view", "show_view", "print_all", "show_all"},
 }

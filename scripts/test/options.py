@@ -80,14 +80,14 @@ def text_of(path):
 
 def read_options(text, named):
     """The options in a list of the table: each is written there, or is a constant."""
-    written = r'OptionUsage \{\s*name:\s*b"([^"]*)",\s*value: OptionValue::(\w+),\s*meaning:\s*b"([^"]*)",\s*\}|([A-Z_]+)'
+    written = r'option!\(b"([^"]*)" => (\w+), b"([^"]*)"\)|([A-Z_]+)'
     return [named[found[4]]._replace(shared=found[4].lower()) if found[4] else Option(*found.groups()[:3]) for found in re.finditer(written, text)]
 
 
 def read_table():
     """All kinds of run of the table."""
     table = text_of(TABLE)
-    named = {name: read_options(text, {})[0] for name, text in re.findall(r"^const (\w+): OptionUsage = (.*?\n\});", table, re.M | re.S)}
+    named = {name: read_options(text, {})[0] for name, text in re.findall(r"^const (\w+): OptionUsage =\s(.*?);$", table, re.M | re.S)}
     runs = []
     for text in re.findall(r"^const \w+: RunUsage = (.*?\n\});", table, re.M | re.S):
         lists = [read_options(re.search(rf"^    {name}: &\[(.*?)\],$", text, re.M | re.S)[1], named) for name in ("needed", "others", "view")]

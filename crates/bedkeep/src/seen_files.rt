@@ -1,6 +1,5 @@
 //! The files of the system, as hints look at them.
 use crate::kept_front::KeptFront;
-use iv_bytes::StdSource;
 use iv_hints::{HintFiles, NoFile};
 use std::fs::{File, metadata};
 use std::io::ErrorKind;
@@ -23,19 +22,16 @@ fn no_file(kind: ErrorKind) -> NoFile {
 }
 
 impl HintFiles for SeenFiles<'_, '_> {
-    type File = StdSource<File>;
+    type File = File;
 
-    fn open(&mut self, name: &[u8]) -> Result<StdSource<File>, NoFile> {
+    fn open(&mut self, name: &[u8]) -> Result<File, NoFile> {
         let Ok(path) = from_utf8(name) else {
             return Err(NoFile::Other);
         };
         match metadata(self.rt, path) {
             Ok(known) if known.is_dir() => Err(NoFile::Directory),
             Ok(known) if !known.is_file() => Err(NoFile::Other),
-            Ok(_) => match File::open(self.rt, path) {
-                Ok(file) => Ok(StdSource::new(file)),
-                Err(error) => Err(no_file(error.kind())),
-            },
+            Ok(_) => File::open(self.rt, path).map_err(|error| no_file(error.kind())),
             Err(error) => Err(no_file(error.kind())),
         }
     }

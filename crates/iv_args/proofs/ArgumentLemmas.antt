@@ -1,9 +1,10 @@
 -- The arguments of a run: those that are a plan, and those that are none.
-use Rattle.std.proofs.Common.{◌≡◌, ℕ, ◌≤◌, true, false, List, [], ◌∷◌, ◌++◌, Option, Some, None, length, refl, sym, ap, ◌∙◌, subst, arith, ◌⊎◌, inl, inr, Result, Ok, Err}
-use Rattle.std.specs.Prelude.{◌≢◌, codes, if◌then◌else◌, IfOk, IfErr}
+use Rattle.std.proofs.Common.{◌≡◌, ℕ, ◌≤◌, true, List, [], ◌∷◌, ◌++◌, Option, Some, None, length, refl, sym, ap, ◌∙◌, subst, arith, ◌⊎◌, inl, inr, Result, Ok, Err}
+use Rattle.std.specs.Prelude.{◌≢◌, codes, if◌then◌else◌}
 use Rattle.std.specs.Option.{is_some, option_to_list}
 use Rattle.std.proofs.lemmas.List.Elements.{All-nil, All-cons, recursion_from_All}
 use Rattle.std.proofs.lemmas.Bool.{false≢true}
+use Rattle.std.proofs.lemmas.Option.{none-some, same_Some}
 use Rattle.iv_text.specs.declared.fault.Fault.{Fault}
 use Rattle.iv_text.specs.declared.fault.Fault.TheVariants as fault
 use Rattle.iv_view.specs.Views.{read_arguments}
@@ -14,16 +15,12 @@ use Rattle.iv_args.specs.declared.subcommand.RunOption.{RunOption}
 use Rattle.iv_args.specs.declared.subcommand.RunOption.TheVariants as option
 use Rattle.iv_args.specs.Arguments.{RunPlan, IsPlan, IsOfKind, SplitArguments, file_options, split_arguments, run_of, is_session, values_of}
 use Rattle.iv_args.specs.Inside.Drafts.{PartialPlan, AreViewArguments, begun_by, drafted, has_needed_files, lead, limit_said, are_understood, are_view_arguments, width_said, Makes}
-use Rattle.iv_args.proofs.DraftLemmas.{none≢some, some-same, listed, Gives, drafted-gives, drafted-never}
+use Rattle.iv_args.proofs.DraftLemmas.{listed, Gives, drafted-gives, drafted-never}
 
 -- nothing is given by the first argument
 begun-says : (run : Subcommand) (argument : List ℕ) (k : RunOption) → listed (begun_by run argument) k ≡ []
 begun-says run argument option.Sizes = refl
-begun-says run argument option.First = refl
-begun-says run argument option.Other = refl
-begun-says run argument option.Bases = refl
-begun-says run argument option.Width = refl
-begun-says run argument option.Limit = refl
+begun-says run argument k = refl
 
 -- the arguments of a view begin with that of the run, except in a session
 lead-is : (run : Subcommand) (argument : List ℕ) (arguments : List (List ℕ)) → lead run argument ++ arguments ≡ (if is_session run then arguments else argument ∷ arguments)
@@ -52,18 +49,33 @@ accepted-by run arguments h = understood-by (read_arguments 6 true true argument
 pub width-once : (values : List (List ℕ)) (width : ℕ) → width_said values ≡ Some width → length values ≤ 1
 width-once [] width h = omega arith
 width-once (value ∷ []) width h = omega arith
-width-once (value ∷ next ∷ values) width h = absurd (none≢some width h)
+width-once (value ∷ next ∷ values) width h = absurd (none-some width h)
 
 -- a limit too
 pub limit-once : (values : List (List ℕ)) (limit : ℕ) → limit_said values ≡ Some limit → length values ≤ 1
 limit-once [] limit h = omega arith
 limit-once (value ∷ []) limit h = omega arith
-limit-once (value ∷ next ∷ values) limit h = absurd (none≢some limit h)
+limit-once (value ∷ next ∷ values) limit h = absurd (none-some limit h)
 
 -- a value that may be left out is one at most
 pub few-listed : (o : Option (List ℕ)) → length (option_to_list o) ≤ 1
 few-listed None = omega arith
 few-listed (Some value) = omega arith
+
+-- each option is given once at most in a plan
+pub at-most-one : (arguments : List (List ℕ)) (plan : RunPlan) (is : IsPlan arguments plan) (k : RunOption) → length (values_of k is.parts.settings) ≤ 1
+at-most-one arguments plan is option.Sizes = omega (arith, ap (λ (l : List (List ℕ)). length l) is.sizes)
+at-most-one arguments plan is option.First = omega (arith, ap (λ (l : List (List ℕ)). length l) is.first)
+at-most-one arguments plan is option.Other = omega (arith, ap (λ (l : List (List ℕ)). length l) is.other, few-listed plan.other)
+at-most-one arguments plan is option.Bases = omega (arith, ap (λ (l : List (List ℕ)). length l) is.bases, few-listed plan.bases)
+at-most-one arguments plan is option.Width = width-once (values_of option.Width is.parts.settings) plan.width is.width
+at-most-one arguments plan is option.Limit = limit-once (values_of option.Limit is.parts.settings) plan.limit is.limit
+
+-- two values that may be left out are the same if their lists are
+said-same : (o p : Option (List ℕ)) → option_to_list o ≡ option_to_list p → o ≡ p
+said-same None None e = refl
+said-same (Some x) (Some y) e = cc e
+said-same o p e = absurd (cc e)
 
 -- ---- what a kind of run asks for
 
@@ -72,10 +84,7 @@ abbrev IsGiven : SplitArguments → List ℕ × RunOption → Type 0
 IsGiven parts file = values_of file.1 parts.settings ≢ []
 
 one-given : (values : List (List ℕ)) (value : List ℕ) → values ≡ value ∷ [] → values ≢ []
-one-given values value is none = none≢one (sym none ∙ is)
-  where
-    none≢one : [] ≡ value ∷ [] → ⊥
-    none≢one e = cc
+one-given values value is none = cc (is, none)
 
 some-given : (o : Option (List ℕ)) (values : List (List ℕ)) → values ≡ option_to_list o → is_some o ≡ true → values ≢ []
 some-given None values is some none = absurd (false≢true some)
@@ -188,52 +197,19 @@ module _ (argument : List ℕ) (rest : List (List ℕ)) (run : Subcommand) (is_r
 
   is-of : (plan : RunPlan) (is : IsPlan (argument ∷ rest) plan) → IsOf plan is
   is-of plan is =
-      let same_argument : is.argument ≡ argument = head is.are in
-      let same_rest : is.rest ≡ rest = tail is.are in
-      let same_run : plan.run ≡ run = some-same plan.run run (sym is.run ∙ ap run_of same_argument ∙ sym is_run) in
+      let same_argument : is.argument ≡ argument = cc is.are in
+      let same_rest : is.rest ≡ rest = cc is.are in
+      let same_run : plan.run ≡ run = same_Some plan.run run (sym is.run ∙ ap run_of same_argument ∙ sym is_run) in
       record {
         run_is = same_run;
         argument_is = same_argument;
         splitting = ap (λ (r : Subcommand). split_arguments r rest) (sym same_run) ∙ ap (split_arguments plan.run) (sym same_rest) ∙ is.splitting;
       }
-    where
-      head : {a b : List ℕ} {xs ys : List (List ℕ)} → a ∷ xs ≡ b ∷ ys → b ≡ a
-      head e = cc
-
-      tail : {a b : List ℕ} {xs ys : List (List ℕ)} → a ∷ xs ≡ b ∷ ys → ys ≡ xs
-      tail e = cc
-
-  -- each option is given once at most in a plan
-  once : (plan : RunPlan) (is : IsPlan (argument ∷ rest) plan) (k : RunOption) → length (values_of k is.parts.settings) ≤ 1
-  once plan is option.Sizes = omega (arith, ap (λ (l : List (List ℕ)). length l) is.sizes)
-  once plan is option.First = omega (arith, ap (λ (l : List (List ℕ)). length l) is.first)
-  once plan is option.Other = omega (arith, ap (λ (l : List (List ℕ)). length l) is.other, few-listed plan.other)
-  once plan is option.Bases = omega (arith, ap (λ (l : List (List ℕ)). length l) is.bases, few-listed plan.bases)
-  once plan is option.Width = width-once (values_of option.Width is.parts.settings) plan.width is.width
-  once plan is option.Limit = limit-once (values_of option.Limit is.parts.settings) plan.limit is.limit
 
   pub refuse-taken : drafted run rest (begun_by run argument) ≡ None → (plan : RunPlan) → ¬ IsPlan (argument ∷ rest) plan
   refuse-taken h plan is =
       drafted-never run rest (begun_by run argument) h is.parts (is-of plan is).splitting
-      (λ k. subst (λ (l : List (List ℕ)). length (l ++ values_of k is.parts.settings) ≤ 1) (sym (begun-says run argument k)) (once plan is k))
-
-  said-value : (o : Option (List ℕ)) (value : List ℕ) → option_to_list o ≡ value ∷ [] → o ≡ Some value
-  said-value None value e = absurd (no e)
-    where
-      no : [] ≡ value ∷ [] → ⊥
-      no e = cc
-  said-value (Some x) value e = ap Some (first e)
-    where
-      first : x ∷ [] ≡ value ∷ [] → x ≡ value
-      first e = cc
-
-  said-same : (o p : Option (List ℕ)) → option_to_list o ≡ option_to_list p → o ≡ p
-  said-same o None e = nothing o e
-    where
-      nothing : (o : Option (List ℕ)) → option_to_list o ≡ [] → o ≡ None
-      nothing None e = refl
-      nothing (Some x) e = cc
-  said-same o (Some value) e = said-value o value e
+      (λ k. subst (λ (l : List (List ℕ)). length (l ++ values_of k is.parts.settings) ≤ 1) (sym (begun-says run argument k)) (at-most-one (argument ∷ rest) plan is k))
 
   -- a plan of the arguments is made of what was read
   makes : (said : PartialPlan) (plan : RunPlan) → drafted run rest (begun_by run argument) ≡ Some said → IsPlan (argument ∷ rest) plan → Makes run said plan
@@ -241,7 +217,7 @@ module _ (argument : List ℕ) (rest : List (List ℕ)) (run : Subcommand) (is_r
       let g = drafted-gives run rest (begun_by run argument) said h in
       let of = is-of plan is in
       let asked = for-kind plan.run is.argument is.parts plan.view plan.other plan.bases is.other is.bases is.kind in
-      let parts : g.parts ≡ is.parts = some-same g.parts is.parts (sym g.are ∙ of.splitting) in
+      let parts : g.parts ≡ is.parts = same_Some g.parts is.parts (sym g.are ∙ of.splitting) in
       let at : (k : RunOption) → listed said k ≡ values_of k is.parts.settings =
       λ k. sym (values-said said g k) ∙ ap (λ (p : SplitArguments). values_of k p.settings) parts in
       let other : said.other ≡ plan.other = said-same said.other plan.other (at option.Other ∙ is.other) in
@@ -251,8 +227,8 @@ module _ (argument : List ℕ) (rest : List (List ℕ)) (run : Subcommand) (is_r
       ∙ ap (λ (w : List ℕ). lead plan.run w ++ is.parts.view) (sym of.argument_is) ∙ lead-is plan.run is.argument is.parts.view ∙ sym asked.view_is in
       record {
         run_is = of.run_is;
-        sizes = said-value said.sizes plan.sizes (at option.Sizes ∙ is.sizes);
-        first = said-value said.first plan.first (at option.First ∙ is.first);
+        sizes = said-same said.sizes (Some plan.sizes) (at option.Sizes ∙ is.sizes);
+        first = said-same said.first (Some plan.first) (at option.First ∙ is.first);
         other = other;
         bases = bases;
         width = ap width_said (at option.Width) ∙ is.width;
@@ -282,27 +258,3 @@ module _ (argument : List ℕ) (rest : List (List ℕ)) (run : Subcommand) (is_r
   pub none-made : (first said : PartialPlan) (why : Fault) → first ≡ begun_by run argument → drafted run rest first ≡ Some said
       → (why ≡ fault.Words) × ((plan : RunPlan) → ¬ Makes run said plan) → IsNone why
   none-made first said why begun h refused = inr (refused.0, refuse-plan said (ap (drafted run rest) (sym begun) ∙ h) refused.1)
-
--- ---- arguments without a kind
-
-pub refuse-nothing : (plan : RunPlan) → ¬ IsPlan [] plan
-refuse-nothing plan is = no is.are
-  where
-    no : {a : List ℕ} {xs : List (List ℕ)} → [] ≡ a ∷ xs → ⊥
-    no e = cc
-
-pub refuse-word : (argument : List ℕ) (rest : List (List ℕ)) → None ≡ run_of argument → (plan : RunPlan) → ¬ IsPlan (argument ∷ rest) plan
-refuse-word argument rest none plan is = none≢some plan.run (none ∙ ap run_of (head is.are) ∙ is.run)
-  where
-    head : {a b : List ℕ} {xs ys : List (List ℕ)} → a ∷ xs ≡ b ∷ ys → a ≡ b
-    head e = cc
-
--- ---- what follows from an outcome
-
-pub ok-map : {T E : Type 0} {P Q : T → Type 0} (r : Result T E) → ((t : T) → P t → Q t) → IfOk r P → IfOk r Q
-ok-map (Ok t) f h = f t h
-ok-map (Err e) f h = h
-
-pub err-map : {T E : Type 0} {P Q : E → Type 0} (r : Result T E) → ((e : E) → P e → Q e) → IfErr r P → IfErr r Q
-err-map (Ok t) f h = h
-err-map (Err e) f h = f e h

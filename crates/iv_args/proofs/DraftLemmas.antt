@@ -6,17 +6,12 @@ use Rattle.std.specs.List.{slice_get}
 use Rattle.std.specs.Option.{is_some, option_map, option_and_then, option_to_list}
 use Rattle.std.proofs.lemmas.List.{take_all, map-append}
 use Rattle.std.proofs.lemmas.List.Elements.{filter-append}
+use Rattle.std.proofs.lemmas.Option.{none-some, same_Some}
 use Rattle.iv_args.specs.declared.subcommand.Subcommand.{Subcommand}
 use Rattle.iv_args.specs.declared.subcommand.RunOption.{RunOption}
 use Rattle.iv_args.specs.declared.subcommand.RunOption.TheVariants as option
 use Rattle.iv_args.specs.Arguments.{SplitArguments, split_arguments, split_next, option_of, takes_value, values_of, is_option}
 use Rattle.iv_args.specs.Inside.Drafts.{PartialPlan, unless_given, with_value, viewed, last_drafted, next_drafted, drafted}
-
-pub none≢some : {A : Type 0} (a : A) → None ≡ Some a → ⊥
-none≢some a e = cc
-
-pub some-same : {A : Type 0} (a b : A) → Some a ≡ Some b → a ≡ b
-some-same a b e = cc
 
 -- an option and its value
 abbrev pub Setting : Type 0
@@ -64,33 +59,28 @@ module _ (run : Subcommand) (argument : List ℕ) (old : PartialPlan) where
   -- an option and its value
   pub option-next : (asked : RunOption) (others : List (Bor (List ℕ))) (value : Bor (List ℕ)) → Some value ≡ slice_get others 0 → Some asked ≡ option_of run argument
       → drafted run (argument ∷ texts others) old ≡ option_and_then (drafted run (texts (drop 1 others))) (with_value asked value.now old)
-  option-next asked [] value first is = absurd (none≢some value (sym first))
+  option-next asked [] value first is = absurd (none-some value (sym first))
   option-next asked (next ∷ rest) value first is =
       next-is (Some asked) (takes_value run argument) next.now (texts rest) (sym is) refl
-      ∙ ap (λ (v : Bor (List ℕ)). option_and_then (drafted run (texts rest)) (with_value asked v.now old)) (sym (some-same value next first))
+      ∙ ap (λ (v : Bor (List ℕ)). option_and_then (drafted run (texts rest)) (with_value asked v.now old)) (sym (same_Some value next first))
 
   pub option-taken : (asked : RunOption) (others : List (Bor (List ℕ))) (value : Bor (List ℕ)) (new : PartialPlan) → Some value ≡ slice_get others 0
       → Some asked ≡ option_of run argument → with_value asked value.now old ≡ Some new → drafted run (argument ∷ texts others) old ≡ drafted run (texts (drop 1 others)) new
   option-taken asked others value new first is taken =
       option-next asked others value first is ∙ ap (option_and_then (drafted run (texts (drop 1 others)))) taken
 
-  pub option-refused : (asked : RunOption) (others : List (Bor (List ℕ))) (value : Bor (List ℕ)) → Some value ≡ slice_get others 0
-      → Some asked ≡ option_of run argument → with_value asked value.now old ≡ None → drafted run (argument ∷ texts others) old ≡ None
-  option-refused asked others value first is refused =
-      option-next asked others value first is ∙ ap (option_and_then (drafted run (texts (drop 1 others)))) refused
-
   -- an argument of the view and its value
   pub value-taken : (others : List (Bor (List ℕ))) (value : Bor (List ℕ)) → Some value ≡ slice_get others 0 → None ≡ option_of run argument
       → takes_value run argument ≡ true → drafted run (argument ∷ texts others) old ≡ drafted run (texts (drop 1 others)) (viewed (argument ∷ value.now ∷ []) old)
-  value-taken [] value first is takes = absurd (none≢some value (sym first))
+  value-taken [] value first is takes = absurd (none-some value (sym first))
   value-taken (next ∷ rest) value first is takes =
       next-is None true next.now (texts rest) (sym is) takes
-      ∙ ap (λ (v : Bor (List ℕ)). drafted run (texts rest) (viewed (argument ∷ v.now ∷ []) old)) (sym (some-same value next first))
+      ∙ ap (λ (v : Bor (List ℕ)). drafted run (texts rest) (viewed (argument ∷ v.now ∷ []) old)) (sym (same_Some value next first))
 
   -- an argument of the view without one
   pub word-taken : (others : List (Bor (List ℕ))) (value : Bor (List ℕ)) → Some value ≡ slice_get others 0 → None ≡ option_of run argument
       → takes_value run argument ≡ false → drafted run (argument ∷ texts others) old ≡ drafted run (texts others) (viewed (argument ∷ []) old)
-  word-taken [] value first is takes = absurd (none≢some value (sym first))
+  word-taken [] value first is takes = absurd (none-some value (sym first))
   word-taken (next ∷ rest) value first is takes = next-is None false next.now (texts rest) (sym is) takes
 
 -- ---- what all arguments mean
@@ -130,16 +120,12 @@ set_to option.Limit value said = record said { limit = Some value }
 
 unless-some : (o : Option (List ℕ)) (said new : PartialPlan) → unless_given o said ≡ Some new → (o ≡ None) × (new ≡ said)
 unless-some None said new h = (refl, cc)
-unless-some (Some value) said new h = absurd (none≢some new h)
+unless-some (Some value) said new h = absurd (none-some new h)
 
 -- if a value can be given there was none before
 set-new : (asked : RunOption) (old new : PartialPlan) (value : List ℕ) → with_value asked value old ≡ Some new → (said_of old asked ≡ None) × (new ≡ set_to asked value old)
-set-new option.Sizes old new value h = unless-some old.sizes (record old { sizes = Some value }) new h
-set-new option.First old new value h = unless-some old.first (record old { first = Some value }) new h
-set-new option.Other old new value h = unless-some old.other (record old { other = Some value }) new h
-set-new option.Bases old new value h = unless-some old.bases (record old { bases = Some value }) new h
-set-new option.Width old new value h = unless-some old.width (record old { width = Some value }) new h
-set-new option.Limit old new value h = unless-some old.limit (record old { limit = Some value }) new h
+set-new option.Sizes old new value h = unless-some old.sizes (set_to option.Sizes value old) new h
+set-new asked old new value h = unless-some (said_of old asked) (set_to asked value old) new h
 
 -- the value that was not given is given
 given : (old : Option (List ℕ)) (value : List ℕ) → old ≡ None → value ∷ [] ≡ option_to_list old ++ (value ∷ [])
@@ -152,49 +138,16 @@ kept old = sym (append-nil (option_to_list old))
 set-says : (asked other : RunOption) (old : PartialPlan) (value : List ℕ) → said_of old asked ≡ None
     → listed (set_to asked value old) other ≡ listed old other ++ one_of other asked value
 set-says option.Sizes option.Sizes old value none = given old.sizes value none
-set-says option.Sizes option.First old value none = kept old.first
-set-says option.Sizes option.Other old value none = kept old.other
-set-says option.Sizes option.Bases old value none = kept old.bases
-set-says option.Sizes option.Width old value none = kept old.width
-set-says option.Sizes option.Limit old value none = kept old.limit
-set-says option.First option.Sizes old value none = kept old.sizes
 set-says option.First option.First old value none = given old.first value none
-set-says option.First option.Other old value none = kept old.other
-set-says option.First option.Bases old value none = kept old.bases
-set-says option.First option.Width old value none = kept old.width
-set-says option.First option.Limit old value none = kept old.limit
-set-says option.Other option.Sizes old value none = kept old.sizes
-set-says option.Other option.First old value none = kept old.first
 set-says option.Other option.Other old value none = given old.other value none
-set-says option.Other option.Bases old value none = kept old.bases
-set-says option.Other option.Width old value none = kept old.width
-set-says option.Other option.Limit old value none = kept old.limit
-set-says option.Bases option.Sizes old value none = kept old.sizes
-set-says option.Bases option.First old value none = kept old.first
-set-says option.Bases option.Other old value none = kept old.other
 set-says option.Bases option.Bases old value none = given old.bases value none
-set-says option.Bases option.Width old value none = kept old.width
-set-says option.Bases option.Limit old value none = kept old.limit
-set-says option.Width option.Sizes old value none = kept old.sizes
-set-says option.Width option.First old value none = kept old.first
-set-says option.Width option.Other old value none = kept old.other
-set-says option.Width option.Bases old value none = kept old.bases
 set-says option.Width option.Width old value none = given old.width value none
-set-says option.Width option.Limit old value none = kept old.limit
-set-says option.Limit option.Sizes old value none = kept old.sizes
-set-says option.Limit option.First old value none = kept old.first
-set-says option.Limit option.Other old value none = kept old.other
-set-says option.Limit option.Bases old value none = kept old.bases
-set-says option.Limit option.Width old value none = kept old.width
 set-says option.Limit option.Limit old value none = given old.limit value none
+set-says asked other old value none = kept (said_of old other)
 
 set-view : (asked : RunOption) (old : PartialPlan) (value : List ℕ) → (set_to asked value old).view ≡ old.view
 set-view option.Sizes old value = refl
-set-view option.First old value = refl
-set-view option.Other old value = refl
-set-view option.Bases old value = refl
-set-view option.Width old value = refl
-set-view option.Limit old value = refl
+set-view asked old value = refl
 
 -- a setting that is taken gives its value and no other
 record IsSet (asked : RunOption) (value : List ℕ) (old new : PartialPlan) : Type 0 where
@@ -219,11 +172,7 @@ is-set-before asked k value old new settings set =
 
 viewed-says : (k : RunOption) (arguments : List (List ℕ)) (old : PartialPlan) → listed (viewed arguments old) k ≡ listed old k
 viewed-says option.Sizes arguments old = refl
-viewed-says option.First arguments old = refl
-viewed-says option.Other arguments old = refl
-viewed-says option.Bases arguments old = refl
-viewed-says option.Width arguments old = refl
-viewed-says option.Limit arguments old = refl
+viewed-says k arguments old = refl
 
 -- ---- arguments that can be taken
 
@@ -238,8 +187,8 @@ gives-nothing : (old new : PartialPlan) → Some old ≡ Some new → Gives (Som
 gives-nothing old new h = record {
   parts = record { settings = []; view = [] };
   are = refl;
-  values = λ k. ap (λ (s : PartialPlan). listed s k) (sym (some-same old new h)) ∙ sym (append-nil (listed old k));
-  view = ap (λ (s : PartialPlan). s.view) (sym (some-same old new h)) ∙ sym (append-nil old.view);
+  values = λ k. ap (λ (s : PartialPlan). listed s k) (sym (same_Some old new h)) ∙ sym (append-nil (listed old k));
+  view = ap (λ (s : PartialPlan). s.view) (sym (same_Some old new h)) ∙ sym (append-nil old.view);
 }
 
 gives-option : (asked : RunOption) (value : List ℕ) (old mid new : PartialPlan) (p : Option SplitArguments) → IsSet asked value old mid → Gives p mid new
@@ -261,7 +210,7 @@ gives-words arguments old new p g = record {
 
 last-gives : (o : Option RunOption) (argument : List ℕ) (old new : PartialPlan) → last_drafted o argument old ≡ Some new → Gives (split_last o argument) old new
 last-gives None argument old new h = gives-words (argument ∷ []) old new (Some (record { settings = []; view = [] })) (gives-nothing (viewed (argument ∷ []) old) new h)
-last-gives (Some asked) argument old new h = absurd (none≢some new h)
+last-gives (Some asked) argument old new h = absurd (none-some new h)
 
 next-gives : (o : Option RunOption) (takes : Bool) (argument next : List ℕ) (old new : PartialPlan) (both one : PartialPlan → Option PartialPlan) (p q : Option SplitArguments)
     → ((s : PartialPlan) → both s ≡ Some new → Gives p s new) → ((s : PartialPlan) → one s ≡ Some new → Gives q s new)
@@ -269,7 +218,7 @@ next-gives : (o : Option RunOption) (takes : Bool) (argument next : List ℕ) (o
 next-gives (Some asked) takes argument next old new both one p q at_both at_one h = by (with_value asked next old) refl h
   where
     by : (o : Option PartialPlan) → with_value asked next old ≡ o → option_and_then both o ≡ Some new → Gives (option_map (with_setting (asked, next)) p) old new
-    by None is h = absurd (none≢some new h)
+    by None is h = absurd (none-some new h)
     by (Some mid) is h = gives-option asked next old mid new p (is-set asked next old mid is) (at_both mid h)
 next-gives None true argument next old new both one p q at_both at_one h =
     gives-words (argument ∷ next ∷ []) old new p (at_both (viewed (argument ∷ next ∷ []) old) h)
@@ -294,26 +243,18 @@ abbrev pub Never : Option SplitArguments → PartialPlan → Type 0
 Never said_parts said = (parts : SplitArguments) → said_parts ≡ Some parts → HasNoTwice said parts → ⊥
 
 given_before : (o : Option (List ℕ)) (said : PartialPlan) → unless_given o said ≡ None → 1 ≤ length (option_to_list o)
-given_before None said h = absurd (none≢some said (sym h))
+given_before None said h = absurd (none-some said (sym h))
 given_before (Some value) said h = omega arith
 
 -- an option whose value cannot be given has one
 refused : (asked : RunOption) (said : PartialPlan) (value : List ℕ) → with_value asked value said ≡ None → 1 ≤ length (listed said asked)
 refused option.Sizes said value h = given_before said.sizes _ h
-refused option.First said value h = given_before said.first _ h
-refused option.Other said value h = given_before said.other _ h
-refused option.Bases said value h = given_before said.bases _ h
-refused option.Width said value h = given_before said.width _ h
-refused option.Limit said value h = given_before said.limit _ h
+refused asked said value h = given_before (said_of said asked) _ h
 
 -- a setting is of its own option
 own : (asked : RunOption) (value : List ℕ) (settings : List Setting) → values_of asked ((asked, value) ∷ settings) ≡ value ∷ values_of asked settings
 own option.Sizes value settings = refl
-own option.First value settings = refl
-own option.Other value settings = refl
-own option.Bases value settings = refl
-own option.Width value settings = refl
-own option.Limit value settings = refl
+own asked value settings = refl
 
 twice : (asked : RunOption) (value : List ℕ) (old : PartialPlan) (settings : List Setting) → with_value asked value old ≡ None
     → length (listed old asked ++ values_of asked ((asked, value) ∷ settings)) ≤ 1 → ⊥
@@ -325,11 +266,11 @@ twice asked value old settings h once =
 
 never-option : (asked : RunOption) (value : List ℕ) (old : PartialPlan) (p : Option SplitArguments)
     → ((mid : PartialPlan) → with_value asked value old ≡ Some mid → Never p mid) → Never (option_map (with_setting (asked, value)) p) old
-never-option asked value old None at parts are once = none≢some parts are
+never-option asked value old None at parts are once = none-some parts are
 never-option asked value old (Some q) at parts are once = by (with_value asked value old) refl
   where
     same : with_setting (asked, value) q ≡ parts
-    same = some-same (with_setting (asked, value) q) parts are
+    same = same_Some (with_setting (asked, value) q) parts are
 
     once-of : HasNoTwice old (with_setting (asked, value) q)
     once-of = subst (λ (x : SplitArguments). HasNoTwice old x) (sym same) once
@@ -340,15 +281,15 @@ never-option asked value old (Some q) at parts are once = by (with_value asked v
         at mid is q refl (λ k. subst (λ (l : List (List ℕ)). length l ≤ 1) (sym (is-set-before asked k value old mid q.settings (is-set asked value old mid is))) (once-of k))
 
 never-words : (arguments : List (List ℕ)) (old : PartialPlan) (p : Option SplitArguments) → Never p (viewed arguments old) → Never (option_map (with_arguments arguments) p) old
-never-words arguments old None never parts are once = none≢some parts are
+never-words arguments old None never parts are once = none-some parts are
 never-words arguments old (Some q) never parts are once =
-    let same = some-same (with_arguments arguments q) parts are in
+    let same = same_Some (with_arguments arguments q) parts are in
     never q refl (λ k. subst (λ (l : List (List ℕ)). length (l ++ values_of k q.settings) ≤ 1) (sym (viewed-says k arguments old))
     (subst (λ (x : SplitArguments). length (listed old k ++ values_of k x.settings) ≤ 1) (sym same) (once k)))
 
 last-never : (o : Option RunOption) (argument : List ℕ) (old : PartialPlan) → last_drafted o argument old ≡ None → Never (split_last o argument) old
-last-never None argument old h parts are once = none≢some (viewed (argument ∷ []) old) (sym h)
-last-never (Some asked) argument old h parts are once = none≢some parts are
+last-never None argument old h parts are once = none-some (viewed (argument ∷ []) old) (sym h)
+last-never (Some asked) argument old h parts are once = none-some parts are
 
 next-never : (o : Option RunOption) (takes : Bool) (argument next : List ℕ) (old : PartialPlan) (both one : PartialPlan → Option PartialPlan) (p q : Option SplitArguments)
     → ((s : PartialPlan) → both s ≡ None → Never p s) → ((s : PartialPlan) → one s ≡ None → Never q s)
@@ -359,7 +300,7 @@ next-never None true argument next old both one p q at_both at_one h = never-wor
 next-never None false argument next old both one p q at_both at_one h = never-words (argument ∷ []) old q (at_one (viewed (argument ∷ []) old) h)
 
 pub drafted-never : (run : Subcommand) (arguments : List (List ℕ)) (old : PartialPlan) → drafted run arguments old ≡ None → Never (split_arguments run arguments) old
-drafted-never run [] old h = absurd (none≢some old (sym h))
+drafted-never run [] old h = absurd (none-some old (sym h))
 drafted-never run (argument ∷ []) old h = last-never (option_of run argument) argument old h
 drafted-never run (argument ∷ next ∷ arguments) old h =
     next-never (option_of run argument) (takes_value run argument) argument next old (drafted run arguments) (drafted run (next ∷ arguments)) (split_arguments run arguments)

@@ -5,14 +5,15 @@ use Rattle.std.specs.List.{AllByRecursion}
 use Rattle.std.specs.Option.{option_map, option_to_list, is_some}
 use Rattle.std.proofs.lemmas.Bool.{false≢true}
 use Rattle.std.proofs.lemmas.List.Elements.{recursion_from_All}
+use Rattle.std.proofs.lemmas.Option.{none-some, same_Some}
 use Rattle.iv_args.specs.declared.subcommand.Subcommand.{Subcommand}
 use Rattle.iv_args.specs.declared.subcommand.RunOption.{RunOption}
 use Rattle.iv_args.specs.declared.subcommand.RunOption.TheVariants as option
 use Rattle.iv_args.specs.Arguments.{RunPlan, IsPlan, SplitArguments, split_arguments, split_next, run_of, is_session, option_of, takes_value, values_of, is_option}
 use Rattle.iv_args.specs.Inside.Drafts.{limit_said, width_said}
 use Rattle.iv_args.specs.Inside.Pieces.{Piece, piece_arguments, IsPiece}
-use Rattle.iv_args.proofs.DraftLemmas.{none≢some, some-same, Setting, with_setting, with_arguments, split_last}
-use Rattle.iv_args.proofs.ArgumentLemmas.{width-once, limit-once, few-listed, for-kind, of-kind}
+use Rattle.iv_args.proofs.DraftLemmas.{Setting, with_setting, with_arguments, split_last}
+use Rattle.iv_args.proofs.ArgumentLemmas.{at-most-one, for-kind, of-kind}
 
 -- ---- what a piece adds to the parts of the arguments after it
 
@@ -41,8 +42,7 @@ split_arguments-by : (run : Subcommand) (argument : List ℕ) (value : Option (L
     → split_arguments run ((argument ∷ option_to_list value) ++ arguments) ≡ option_map (put o (record { argument = argument; value = value })) (split_arguments run arguments)
 split_arguments-by run argument None None false is takes whole [] = ap (λ (p : Option RunOption). split_last p argument) is
 split_arguments-by run argument None None false is takes whole (next ∷ arguments) = next-by run argument next arguments None false is takes
-split_arguments-by run argument None None true is takes whole arguments = absurd (false≢true whole)
-split_arguments-by run argument None (Some asked) t is takes whole arguments = absurd (false≢true whole)
+split_arguments-by run argument None o t is takes whole arguments = absurd (false≢true whole)
 split_arguments-by run argument (Some value) None false is takes whole arguments = absurd (true≢false whole)
 split_arguments-by run argument (Some value) None true is takes whole arguments = next-by run argument value arguments None true is takes
 split_arguments-by run argument (Some value) (Some asked) t is takes whole arguments = next-by run argument value arguments (Some asked) t is takes
@@ -103,9 +103,8 @@ values-swapped k j l x y xs other = by (is_option k j) (is_option k l) (λ e f. 
         → texts (cond b ((j, x) ∷ cond c ((l, y) ∷ settings_of k xs) (settings_of k xs)) (cond c ((l, y) ∷ settings_of k xs) (settings_of k xs)))
         ≡ texts (cond c ((l, y) ∷ cond b ((j, x) ∷ settings_of k xs) (settings_of k xs)) (cond b ((j, x) ∷ settings_of k xs) (settings_of k xs)))
     by true true apart = absurd (apart refl refl)
-    by true false apart = refl
-    by false true apart = refl
     by false false apart = refl
+    by b c apart = refl
 
 put-same : (o : Option RunOption) (piece : Piece) (p q : SplitArguments) → SameParts p q → SameParts (put o piece p) (put o piece q)
 put-same None piece p q same = record { values = same.values; view = ap (λ (l : List (List ℕ)). words_of piece ++ l) same.view }
@@ -116,12 +115,11 @@ put-same (Some asked) piece p q same = record {
 
 put-swapped : (o r : Option RunOption) (a b : Piece) (p : SplitArguments) → o ≢ r → SameParts (put o a (put r b p)) (put r b (put o a p))
 put-swapped None None a b p other = absurd (other refl)
-put-swapped None (Some l) a b p other = record { values = λ k. refl; view = refl }
-put-swapped (Some j) None a b p other = record { values = λ k. refl; view = refl }
 put-swapped (Some j) (Some l) a b p other = record {
   values = λ k. values-swapped k j l (unwrap_or a.value []) (unwrap_or b.value []) p.settings (λ same. other (ap Some same));
   view = refl;
 }
+put-swapped o r a b p other = record { values = λ k. refl; view = refl }
 
 put_all-swapped : (run : Subcommand) (front : List Piece) (a b : Piece) (p : SplitArguments) → option_of run a.argument ≢ option_of run b.argument
     → SameParts (put_all run (front ++ a ∷ b ∷ []) p) (put_all run (front ++ b ∷ a ∷ []) p)
@@ -138,8 +136,8 @@ abbrev HasParts : Option SplitArguments → SplitArguments → Type 0
 HasParts o p = (q : SplitArguments) × (o ≡ Some q) × SameParts p q
 
 same-parts : (f g : SplitArguments → SplitArguments) → ((r : SplitArguments) → SameParts (f r) (g r)) → (o : Option SplitArguments) (p : SplitArguments) → option_map f o ≡ Some p → HasParts (option_map g o) p
-same-parts f g same None p is = absurd (none≢some p is)
-same-parts f g same (Some r) p is = (g r, refl, subst (λ (x : SplitArguments). SameParts x (g r)) (some-same (f r) p is) (same r))
+same-parts f g same None p is = absurd (none-some p is)
+same-parts f g same (Some r) p is = (g r, refl, subst (λ (x : SplitArguments). SameParts x (g r)) (same_Some (f r) p is) (same r))
 
 parts-swapped : (run : Subcommand) (front : List Piece) (a b : Piece) (back : List (List ℕ)) (p : SplitArguments) → AllByRecursion (IsPiece run) (front ++ a ∷ b ∷ [])
     → option_of run a.argument ≢ option_of run b.argument → split_arguments run (piece_arguments (front ++ a ∷ b ∷ []) ++ back) ≡ Some p
@@ -149,20 +147,17 @@ parts-swapped run front a b back p whole other is =
     (same-parts (put_all run (front ++ a ∷ b ∷ [])) (put_all run (front ++ b ∷ a ∷ [])) (λ r. put_all-swapped run front a b r other) (split_arguments run back) p
     (sym (split_arguments-pieces run (front ++ a ∷ b ∷ []) back whole) ∙ is))
 
-head-is : {a b : List ℕ} {xs ys : List (List ℕ)} → a ∷ xs ≡ b ∷ ys → b ≡ a
-head-is e = cc
-
-tail-is : {a b : List ℕ} {xs ys : List (List ℕ)} → a ∷ xs ≡ b ∷ ys → ys ≡ xs
-tail-is e = cc
-
 -- the parts of the arguments of a plan
 plan-parts : (argument : List ℕ) (rest : List (List ℕ)) (plan : RunPlan) (is : IsPlan (argument ∷ rest) plan) → split_arguments plan.run rest ≡ Some is.parts
-plan-parts argument rest plan is = ap (split_arguments plan.run) (sym (tail-is is.are)) ∙ is.splitting
+plan-parts argument rest plan is =
+    let same : rest ≡ is.rest = cc is.are in
+    ap (split_arguments plan.run) same ∙ is.splitting
 
 -- arguments with the same parts are the same plan
 plan-alike : (argument : List ℕ) (rest other : List (List ℕ)) (plan : RunPlan) (is : IsPlan (argument ∷ rest) plan) → HasParts (split_arguments plan.run other) is.parts → IsPlan (argument ∷ other) plan
 plan-alike argument rest other plan is like =
     let asked = for-kind plan.run is.argument is.parts plan.view plan.other plan.bases is.other is.bases is.kind in
+    let same : argument ≡ is.argument = cc is.are in
     let first_is = sym (like.2.values option.First) ∙ is.first in
     let other_is = sym (like.2.values option.Other) ∙ is.other in
     let bases_are = sym (like.2.values option.Bases) ∙ is.bases in
@@ -171,7 +166,7 @@ plan-alike argument rest other plan is like =
       rest = other;
       parts = like.0;
       are = refl;
-      run = ap run_of (sym (head-is is.are)) ∙ is.run;
+      run = ap run_of same ∙ is.run;
       splitting = like.1;
       sizes = sym (like.2.values option.Sizes) ∙ is.sizes;
       first = first_is;
@@ -180,7 +175,7 @@ plan-alike argument rest other plan is like =
       width = ap width_said (sym (like.2.values option.Width)) ∙ is.width;
       limit = ap limit_said (sym (like.2.values option.Limit)) ∙ is.limit;
       kind = of-kind plan.run argument like.0 plan.view plan.first plan.other plan.bases first_is other_is bases_are
-          (asked.view_is ∙ ap (λ (w : List ℕ). if is_session plan.run then is.parts.view else w ∷ is.parts.view) (head-is is.are)
+          (asked.view_is ∙ ap (λ (w : List ℕ). if is_session plan.run then is.parts.view else w ∷ is.parts.view) (sym same)
           ∙ ap (λ (l : List (List ℕ)). if is_session plan.run then l else argument ∷ l) like.2.view)
           asked.needed asked.accepted;
     }
@@ -218,11 +213,7 @@ put-more k (Some asked) piece p = more-values (is_option k asked) (asked, unwrap
 
 put-own : (k : RunOption) (piece : Piece) (p : SplitArguments) → count_of k (put (Some k) piece p) ≡ count_of k p + 1
 put-own option.Sizes piece p = omega arith
-put-own option.First piece p = omega arith
-put-own option.Other piece p = omega arith
-put-own option.Bases piece p = omega arith
-put-own option.Width piece p = omega arith
-put-own option.Limit piece p = omega arith
+put-own k piece p = omega arith
 
 put-given : (k : RunOption) (o : Option RunOption) (piece : Piece) (p : SplitArguments) → o ≡ Some k → count_of k (put o piece p) ≡ count_of k p + 1
 put-given k o piece p is = subst (λ (r : Option RunOption). count_of k (put r piece p) ≡ count_of k p + 1) (sym is) (put-own k piece p)
@@ -245,18 +236,9 @@ two-values run k (c ∷ front) middle a b p first second =
     let more = put-more k (option_of run c.argument) c (put_all run (front ++ a ∷ (middle ++ b ∷ [])) p) in
     omega (arith, some, more)
 
--- each option has one value at most in a plan
-at-most-one : (arguments : List (List ℕ)) (plan : RunPlan) (is : IsPlan arguments plan) (k : RunOption) → count_of k is.parts ≤ 1
-at-most-one arguments plan is option.Sizes = omega (arith, ap (λ (l : List (List ℕ)). length l) is.sizes)
-at-most-one arguments plan is option.First = omega (arith, ap (λ (l : List (List ℕ)). length l) is.first)
-at-most-one arguments plan is option.Other = omega (arith, ap (λ (l : List (List ℕ)). length l) is.other, few-listed plan.other)
-at-most-one arguments plan is option.Bases = omega (arith, ap (λ (l : List (List ℕ)). length l) is.bases, few-listed plan.bases)
-at-most-one arguments plan is option.Width = width-once (values_of option.Width is.parts.settings) plan.width is.width
-at-most-one arguments plan is option.Limit = limit-once (values_of option.Limit is.parts.settings) plan.limit is.limit
-
 map-some : (f : SplitArguments → SplitArguments) (o : Option SplitArguments) (p : SplitArguments) → option_map f o ≡ Some p → (r : SplitArguments) × (f r ≡ p)
-map-some f None p is = absurd (none≢some p is)
-map-some f (Some r) p is = (r, some-same (f r) p is)
+map-some f None p is = absurd (none-some p is)
+map-some f (Some r) p is = (r, same_Some (f r) p is)
 
 pub plan-never : (plan : RunPlan) (argument : List ℕ) (front middle : List Piece) (a b : Piece) (back : List (List ℕ)) (asked : RunOption)
     → All (IsPiece plan.run) (front ++ a ∷ (middle ++ b ∷ [])) → option_of plan.run a.argument ≡ Some asked → option_of plan.run b.argument ≡ Some asked

@@ -1,7 +1,8 @@
-//! The kinds of run and their options, each said once.
+//! The table of kinds of run and their options, which hints read.
 //!
-//! Hints read these tables. `scripts/test/options.py` writes the lists of options of the help texts, the man page and the completions
-//! from them, and compares those of the pages and of the Python package.
+//! `scripts/test/options.py` writes the lists of options of the help texts, the man page and the completions from it, compares those of
+//! the pages and of the Python package, and tries that parsing, which spells names itself (`subcommand.rt`, `flags.rt` of `iv_view`),
+//! agrees.
 use crate::subcommand::Subcommand;
 
 /// What the argument after an option is.
@@ -38,6 +39,17 @@ pub struct OptionUsage {
     pub meaning: &'static [u8],
 }
 
+/// An option by its name, what comes after it, and its meaning.
+macro_rules! option {
+    ($name:literal => $value:ident, $meaning:literal) => {
+        OptionUsage {
+            name: $name,
+            value: OptionValue::$value,
+            meaning: $meaning,
+        }
+    };
+}
+
 /// A kind of run and its options.
 #[derive(Clone, Copy)]
 pub struct RunUsage {
@@ -58,41 +70,22 @@ pub struct RunUsage {
     pub rule: &'static [u8],
 }
 
-const GENOME: OptionUsage = OptionUsage {
-    name: b"-g",
-    value: OptionValue::Genome,
-    meaning: b"names and lengths of the sequences, two columns",
-};
+const GENOME: OptionUsage =
+    option!(b"-g" => Genome, b"names and lengths of the sequences, two columns");
 
-const FIRST: OptionUsage = OptionUsage {
-    name: b"-i",
-    value: OptionValue::Bed,
-    meaning: b"the records, three to six columns, in any order",
-};
+const FIRST: OptionUsage =
+    option!(b"-i" => Bed, b"the records, three to six columns, in any order");
 
-const FIRST_OF_PAIRS: OptionUsage = OptionUsage {
-    name: b"-a",
-    value: OptionValue::Bed,
-    meaning: b"the records, three to six columns, in any order",
-};
+const FIRST_OF_PAIRS: OptionUsage =
+    option!(b"-a" => Bed, b"the records, three to six columns, in any order");
 
-const SECOND: OptionUsage = OptionUsage {
-    name: b"-b",
-    value: OptionValue::Bed,
-    meaning: b"the records of the second file",
-};
+const SECOND: OptionUsage = option!(b"-b" => Bed, b"the records of the second file");
 
-const WIDTH: OptionUsage = OptionUsage {
-    name: b"-width",
-    value: OptionValue::Width,
-    meaning: b"columns of a BED without a record, 3 to 6 (default 3)",
-};
+const WIDTH: OptionUsage =
+    option!(b"-width" => Width, b"columns of a BED without a record, 3 to 6 (default 3)");
 
-const LIMIT: OptionUsage = OptionUsage {
-    name: b"-limit",
-    value: OptionValue::Limit,
-    meaning: b"most records of a file, up to 100000000 (default 4000000)",
-};
+const LIMIT: OptionUsage =
+    option!(b"-limit" => Limit, b"most records of a file, up to 100000000 (default 4000000)");
 
 const SESSION: RunUsage = RunUsage {
     run: Subcommand::Session,
@@ -100,29 +93,13 @@ const SESSION: RunUsage = RunUsage {
     meaning: b"carry out a script of corrections, and print views of the track",
     needed: &[
         GENOME,
-        OptionUsage {
-            name: b"-i",
-            value: OptionValue::Bed,
-            meaning: b"the records of the track, three to six columns, in any order",
-        },
+        option!(b"-i" => Bed, b"the records of the track, three to six columns, in any order"),
     ],
     others: &[
-        OptionUsage {
-            name: b"-b",
-            value: OptionValue::Bed,
-            meaning: b"records of a second file, which intersect and subtract look at",
-        },
-        OptionUsage {
-            name: b"-fi",
-            value: OptionValue::Fasta,
-            meaning: b"bases of the sequences, which getfasta prints",
-        },
+        option!(b"-b" => Bed, b"records of a second file, which intersect and subtract look at"),
+        option!(b"-fi" => Fasta, b"bases of the sequences, which getfasta prints"),
         WIDTH,
-        OptionUsage {
-            name: b"-limit",
-            value: OptionValue::Limit,
-            meaning: b"most records of a file, and lines of a script (default 4000000)",
-        },
+        option!(b"-limit" => Limit, b"most records of a file, and lines of a script (default 4000000)"),
     ],
     view: &[],
     view_usage: b"",
@@ -136,26 +113,10 @@ const MERGE: RunUsage = RunUsage {
     needed: &[GENOME, FIRST],
     others: &[WIDTH, LIMIT],
     view: &[
-        OptionUsage {
-            name: b"-d",
-            value: OptionValue::Distance,
-            meaning: b"records at most N bases apart are one block too",
-        },
-        OptionUsage {
-            name: b"-s",
-            value: OptionValue::Nothing,
-            meaning: b"blocks of each strand by itself, without records of strand .; needs six columns",
-        },
-        OptionUsage {
-            name: b"-c",
-            value: OptionValue::Columns,
-            meaning: b"columns by number, separated by commas: a summary of each",
-        },
-        OptionUsage {
-            name: b"-o",
-            value: OptionValue::Operations,
-            meaning: b"operations: count, sum, min, max, collapse, distinct (default sum)",
-        },
+        option!(b"-d" => Distance, b"records at most N bases apart are one block too"),
+        option!(b"-s" => Nothing, b"blocks of each strand by itself, without records of strand .; needs six columns"),
+        option!(b"-c" => Columns, b"columns by number, separated by commas: a summary of each"),
+        option!(b"-o" => Operations, b"operations: count, sum, min, max, collapse, distinct (default sum)"),
     ],
     view_usage: b"[-d N] [-s] [-c LIST [-o LIST]]",
     rule: b"",
@@ -167,11 +128,7 @@ const CLUSTER: RunUsage = RunUsage {
     meaning: b"every record with the number of its block",
     needed: &[GENOME, FIRST],
     others: &[WIDTH, LIMIT],
-    view: &[OptionUsage {
-        name: b"-d",
-        value: OptionValue::Distance,
-        meaning: b"records at most N bases apart are in one block",
-    }],
+    view: &[option!(b"-d" => Distance, b"records at most N bases apart are in one block")],
     view_usage: b"[-d N]",
     rule: b"",
 };
@@ -182,11 +139,7 @@ const COMPLEMENT: RunUsage = RunUsage {
     meaning: b"what no record covers",
     needed: &[GENOME, FIRST],
     others: &[WIDTH, LIMIT],
-    view: &[OptionUsage {
-        name: b"-L",
-        value: OptionValue::Nothing,
-        meaning: b"only on sequences that have a record",
-    }],
+    view: &[option!(b"-L" => Nothing, b"only on sequences that have a record")],
     view_usage: b"[-L]",
     rule: b"",
 };
@@ -198,21 +151,9 @@ const GENOMECOV: RunUsage = RunUsage {
     needed: &[GENOME, FIRST],
     others: &[WIDTH, LIMIT],
     view: &[
-        OptionUsage {
-            name: b"-bg",
-            value: OptionValue::Nothing,
-            meaning: b"a row for each interval of one depth above 0",
-        },
-        OptionUsage {
-            name: b"-bga",
-            value: OptionValue::Nothing,
-            meaning: b"the same, also where the depth is 0",
-        },
-        OptionUsage {
-            name: b"-d",
-            value: OptionValue::Nothing,
-            meaning: b"a row for each position, counted from 1",
-        },
+        option!(b"-bg" => Nothing, b"a row for each interval of one depth above 0"),
+        option!(b"-bga" => Nothing, b"the same, also where the depth is 0"),
+        option!(b"-d" => Nothing, b"a row for each position, counted from 1"),
     ],
     view_usage: b"-bg|-bga|-d",
     rule: b"genomecov needs one of -bg, -bga and -d (there is no histogram)",
@@ -225,31 +166,11 @@ const INTERSECT: RunUsage = RunUsage {
     needed: &[GENOME, FIRST_OF_PAIRS, SECOND],
     others: &[WIDTH, LIMIT],
     view: &[
-        OptionUsage {
-            name: b"-wa",
-            value: OptionValue::Nothing,
-            meaning: b"the record whole",
-        },
-        OptionUsage {
-            name: b"-wb",
-            value: OptionValue::Nothing,
-            meaning: b"also the other record whole",
-        },
-        OptionUsage {
-            name: b"-u",
-            value: OptionValue::Nothing,
-            meaning: b"the record once if it has an overlap",
-        },
-        OptionUsage {
-            name: b"-v",
-            value: OptionValue::Nothing,
-            meaning: b"the record once if it has none",
-        },
-        OptionUsage {
-            name: b"-c",
-            value: OptionValue::Nothing,
-            meaning: b"each record with the number of its overlaps",
-        },
+        option!(b"-wa" => Nothing, b"the record whole"),
+        option!(b"-wb" => Nothing, b"also the other record whole"),
+        option!(b"-u" => Nothing, b"the record once if it has an overlap"),
+        option!(b"-v" => Nothing, b"the record once if it has none"),
+        option!(b"-c" => Nothing, b"each record with the number of its overlaps"),
     ],
     view_usage: b"[-wa] [-wb|-u|-v|-c]",
     rule: b"at most one of -u, -v and -c can be given, and none of them beside -wb",
@@ -261,11 +182,7 @@ const SUBTRACT: RunUsage = RunUsage {
     meaning: b"what a second file does not cover",
     needed: &[GENOME, FIRST_OF_PAIRS, SECOND],
     others: &[WIDTH, LIMIT],
-    view: &[OptionUsage {
-        name: b"-A",
-        value: OptionValue::Nothing,
-        meaning: b"only whole records that have no overlap",
-    }],
+    view: &[option!(b"-A" => Nothing, b"only whole records that have no overlap")],
     view_usage: b"[-A]",
     rule: b"",
 };
@@ -276,29 +193,13 @@ const GETFASTA: RunUsage = RunUsage {
     meaning: b"the bases of the records",
     needed: &[
         GENOME,
-        OptionUsage {
-            name: b"-bed",
-            value: OptionValue::Bed,
-            meaning: b"the records, three to six columns, in any order",
-        },
-        OptionUsage {
-            name: b"-fi",
-            value: OptionValue::Fasta,
-            meaning: b"the bases of the sequences",
-        },
+        option!(b"-bed" => Bed, b"the records, three to six columns, in any order"),
+        option!(b"-fi" => Fasta, b"the bases of the sequences"),
     ],
     others: &[WIDTH, LIMIT],
     view: &[
-        OptionUsage {
-            name: b"-s",
-            value: OptionValue::Nothing,
-            meaning: b"with the strand, and the bases of records on - reversed and complemented; needs six columns",
-        },
-        OptionUsage {
-            name: b"-tab",
-            value: OptionValue::Nothing,
-            meaning: b"head and bases on one line, separated by a TAB",
-        },
+        option!(b"-s" => Nothing, b"with the strand, and the bases of records on - reversed and complemented; needs six columns"),
+        option!(b"-tab" => Nothing, b"head and bases on one line, separated by a TAB"),
     ],
     view_usage: b"[-s] [-tab]",
     rule: b"",

@@ -15,6 +15,7 @@ use Rattle.iv_blocks.specs.Inside.Groups.{is_in_group, starts_between, between, 
 use Rattle.iv_blocks.specs.Groups.{is_on_side, group, listed}
 use Rattle.iv_blocks.specs.KeptBlocks.{Key, key_cmp, Kept, Entries, KeptBlocks, kept_block, kept_at, name_of, AreBlocksOf}
 use Rattle.iv_blocks.specs.Inside.Insertion.{AreInserted, AreInsertedOn}
+use Rattle.iv_blocks.specs.Inside.Repairs.{AreOthers}
 use Rattle.iv_blocks.specs.declared.group.Group.{Group}
 use Rattle.iv_blocks.specs.declared.group.Side.{Side}
 use Rattle.iv_blocks.specs.declared.group.Side.TheVariants.{Plus, Minus}
@@ -46,12 +47,18 @@ module _ (genome : Sequences) (width : ℕ) (records : List RecordValue) (fit : 
   fits : (q : RecordValue) → Mem q records → Fits genome width q
   fits = all-mem (Fits genome width) records fit
 
-  -- no record of a sequence stops past its end
-  pub all-stops : (g : Group) (end : ℕ) → end ≡ sequence_length genome g.rank → All (λ r. r.stop ≤ end) (members_between g 0 end records)
-  all-stops g end is = mem-all (λ r. r.stop ≤ end) _ (λ q m.
-      let member = member-in g 0 end records q m in
-      let within : q.stop ≤ sequence_length genome q.seq = (fits q member.0).is_placed.within.1 in
-      omega (arith, is, ap (sequence_length genome) member.1))
+  -- the records of a sequence are what is left of a record over all of it
+  pub all-others : (g : Group) (end d : ℕ) → end ≡ sequence_length genome g.rank → AreOthers d (0, end) (0, end) (members_between g 0 end records)
+  all-others g end d is = record {
+    within = omega arith;
+    below = omega arith;
+    stops = mem-all (λ r. r.stop ≤ end) _ (λ q m.
+        let member = member-in g 0 end records q m in
+        let within : q.stop ≤ sequence_length genome q.seq = (fits q member.0).is_placed.within.1 in
+        omega (arith, is, ap (sequence_length genome) member.1));
+    starts = λ before. absurd (omega (arith, before));
+    reached = λ x above within far. absurd (elim far [ inl early ↦ omega (arith, early, above) | inr past ↦ omega (arith, past, within) ]);
+  }
 
   in_group-rank : (s : Bool) (rank : ℕ) (minus : Bool) (q : RecordValue) → is_in_group s rank minus q ≡ true → q.seq ≡ rank
   in_group-rank s rank minus q e = eqb-true _ _ (and_parts (q.seq == rank) (is_on_side s minus q) e).0

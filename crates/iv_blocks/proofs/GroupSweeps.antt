@@ -220,16 +220,6 @@ module _ (o : KeptBlocks) (genome : Sequences) (records : List RecordValue) (g :
         others = s.others;
       }
 
-    -- once the open block stops at the end of the range, all that are left are in it
-    pub sweep-rest : (now : KeptBlocks) (start stop : ℕ) (left : List RecordValue) → to ≤ stop → IsSweeping now start stop left → IsSweeping now start stop []
-    sweep-rest now start stop [] full s = s
-    sweep-rest now start stop (r ∷ left) full s =
-        let opens : Mem r (members_between g from to records) = here now start stop r left s in
-        let is = member-in g from to records r opens in
-        let same : max stop r.stop ≡ stop = omega (arith, known.stops r opens, full) in
-        sweep-rest now start stop left full
-        (subst (λ (n : ℕ). IsSweeping now start n left) same (sweep-join now start stop r left s (omega (arith, is.3, full))))
-
     -- the members of the open block
     own : (now : KeptBlocks) (start stop : ℕ) (left : List RecordValue) → (s : IsSweeping now start stop left) → ((q : RecordValue) → Mem q left → stop ≤ q.start)
         → filter (starts_in start_of stop_of o.options.distance start stop) s.passed ≡ members_between g start stop records

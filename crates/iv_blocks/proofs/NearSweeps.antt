@@ -155,7 +155,7 @@ module _ (o : KeptBlocks) (genome : Sequences) (records : List RecordValue) (g :
     near-same now start stop left n late = elim n.same [
       | inl is ↦ is
       | inr before ↦
-          let below : gone.0 < block.1 = others.below in
+          let below : gone.0 ≤ block.1 = others.below in
           let reached = reaches-to now start n.top left gone.0 n.sweep late (omega (arith, below)) (inl (omega arith)) in
           absurd (omega (arith, before, reached))
     ]
@@ -235,7 +235,7 @@ module _ (o : KeptBlocks) (genome : Sequences) (records : List RecordValue) (g :
     near-front : (from : ℕ) → block.0 < from → from ≤ gone.0 → ((q : RecordValue) → Mem q records → q.start < from → q.stop + o.options.distance < gone.0)
         → IsNear o block.0 0 (members_between g from block.1 records)
     near-front from below before short =
-        let inside : gone.0 < block.1 = others.below in
+        let inside : gone.0 ≤ block.1 = others.below in
         front-opens from (members_between g block.0 from records) (members_between g from block.1 records) below (omega (arith, below, before))
         (members-cut g block.0 from block.1 records known.ordered (omega (arith, below)) (omega (arith, before, inside)))
         (λ q m. (member-in g from block.1 records q m).2)

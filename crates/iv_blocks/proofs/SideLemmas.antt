@@ -27,11 +27,6 @@ off-first p r rs e = cond-false (p r) (r ∷ filter p rs) (filter p rs) e
 pub on-both : (records : List RecordValue) → filter (is_on Both) records ≡ records
 on-both records = filter-all (is_on Both) records (λ q m. refl)
 
--- if the first passes, it is the first of those that pass
-pub first-on : (p : RecordValue → Bool) (records : List RecordValue) → ((r : RecordValue) (rs : List RecordValue) → records ≡ r ∷ rs → p r ≡ true) → slice_get (filter p records) 0 ≡ slice_get records 0
-first-on p [] on = refl
-first-on p (r ∷ rs) on = ap (λ (l : List RecordValue). slice_get l 0) (on-first p r rs (on r rs refl))
-
 -- one more record that passes, after those that are passed
 on-last : (p : RecordValue → Bool) (n : ℕ) (xs : List RecordValue) (r : RecordValue) (rs : List RecordValue) → drop n xs ≡ r ∷ rs → p r ≡ true
     → filter p (take (n + 1) xs) ≡ filter p (take n xs) ++ r ∷ []

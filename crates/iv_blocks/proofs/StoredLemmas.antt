@@ -1,5 +1,5 @@
 -- Blocks that are stored without results, as entries with empty ones.
-use Rattle.std.proofs.Common.{◌≡◌, ℕ, Bool, true, false, cond, List, [], ◌∷◌, ◌++◌, map, filter, find, reverse, option_map, Some, Result, Ok, Err, OnOk, Ordering, Less, Equal, Greater, refl, sym, ap, ap₂, subst, ◌∙◌}
+use Rattle.std.proofs.Common.{◌≡◌, ℕ, Bool, true, false, cond, List, [], ◌∷◌, ◌++◌, map, filter, find, reverse, Option, option_map, Some, Result, Ok, Err, OnOk, Ordering, Less, Equal, Greater, refl, sym, ap, ap₂, subst, ◌∙◌}
 use Rattle.std.specs.BTreeMap.{is_at, insert_entry}
 use Rattle.std.specs.List.Sorted.{IsStrictlySortedBy}
 use Rattle.std.specs.Map.{remove_entry}
@@ -27,11 +27,6 @@ of-plain P storage blocks ledger same is holds = subst P same (subst (λ s. P (s
 pub with_stored : {A : Type 0} (P : StoredBlocks → Type 0) (storage : Storage A) (blocks : StoredBlocks) (ledger : Entries) → stored storage ≡ blocks → storage ≡ all.WithResults ledger
     → P (record { with_results = true; entries = ledger }) → P blocks
 with_stored P storage blocks ledger same is holds = subst P same (subst (λ s. P (stored s)) (sym is) holds)
-
--- and of a walk over them
-pub of-plain_left : {A : Type 0} (P : Entries → Type 0) (rest : Rest A) (entries : Entries) (walk : List (Key × ℕ)) → entries_left rest ≡ entries → rest ≡ left.Plain walk
-    → P (map plain_entry walk) → P entries
-of-plain_left P rest entries walk same is holds = subst P same (subst (λ r. P (entries_left r)) (sym is) holds)
 
 pub plain-ordered : (es : List (Key × ℕ)) → IsLedger key_cmp es → IsLedger key_cmp (map plain_entry es)
 plain-ordered es sorted = subst (IsStrictlySortedBy key_cmp) (sym (keys_of-map_values plain es)) sorted
@@ -70,6 +65,13 @@ pub plain-last : (es : List (Key × ℕ)) (k : Key) → option_map key_and_stop 
 plain-last es k =
     ap (λ (l : Entries). option_map key_and_stop (find (λ e. is_ge (key_cmp k e.0)) l)) (sym (map-reverse es))
     ∙ find-plain (λ q. is_ge (key_cmp k q)) (reverse es)
+
+-- an entry that is found among those that are stored without results
+pub plain-found : {A : Type 0} (sought : Entries → Option (Key × Kept)) (storage : Storage A) (blocks : StoredBlocks) (ledger : List (Key × ℕ)) (found answer : Option (Key × ℕ))
+    → stored storage ≡ blocks → storage ≡ all.Plain ledger → option_map key_and_stop (sought (map plain_entry ledger)) ≡ found → answer ≡ found → IsLedger key_cmp ledger
+    → (answer ≡ option_map key_and_stop (sought blocks.entries)) × IsLedger key_cmp blocks.entries
+plain-found sought storage blocks ledger found answer same is at here sorted =
+    of-plain (λ (b : StoredBlocks). (answer ≡ option_map key_and_stop (sought b.entries)) × IsLedger key_cmp b.entries) storage blocks ledger same is (here ∙ sym at, plain-ordered ledger sorted)
 
 -- ---- walks
 

@@ -150,7 +150,7 @@ impl<A: Allocator + Copy> BlockLedger<A> {
     }
 
     /// Takes the block of a key out, if there is one. It takes no memory.
-    pub(crate) fn take(&mut self, key: &Key, meter: &mut Meter)
+    pub(crate) fn remove(&mut self, key: &Key, meter: &mut Meter)
         ensures taken { self.new ≡ record self.old { entries = remove_entry (is_at (key_cmp key.now)) self.old.entries } }
         ensures ordered { IsLedger key_cmp self.new.entries }
         ensures step { meter.new ≡ ticked meter.old }

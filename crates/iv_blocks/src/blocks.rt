@@ -116,7 +116,7 @@ impl<A: Allocator + Copy> Kept<A> for Blocks<A> {
         if self.stays_covered(track, group, start, end, meter) {
             return Ok(());
         }
-        self.take(group, low, meter);
+        self.remove_block(group, low, meter);
         self.split_block(track, genome, group, (low, high), (start, end), meter)
     }
 }

@@ -71,7 +71,7 @@ impl<A: Allocator + Copy> Blocks<A> {
         if u64::from(start) > self.reach(last) {
             return (start, stop);
         }
-        self.take(group, low, meter);
+        self.remove_block(group, low, meter);
         (low, last.max(stop))
     }
 
@@ -97,7 +97,7 @@ impl<A: Allocator + Copy> Blocks<A> {
             if u64::from(start) > self.reach(high) {
                 break;
             }
-            self.take(group, start, meter);
+            self.remove_block(group, start, meter);
             high = high.max(stop);
         }
         high
@@ -141,12 +141,12 @@ impl<A: Allocator + Copy> Blocks<A> {
     }
 
     /// Takes out the block of the group that starts here, if there is one. One step.
-    pub(crate) fn take(&mut self, group: Group, start: u32, meter: &mut Meter)
+    pub(crate) fn remove_block(&mut self, group: Group, start: u32, meter: &mut Meter)
         ensures taken { self.new ≡ without_block self.old group start }
         ensures ordered { IsLedger key_cmp self.new.entries }
         ensures steps { TakesUpTo meter.old meter.new 1 }
     {
-        self.ledger.take(&group.key(start), meter);
+        self.ledger.remove(&group.key(start), meter);
     }
 
     /// Inserts the blocks of the records on the sequence of this rank over what is there, those of each strand.
@@ -162,60 +162,18 @@ impl<A: Allocator + Copy> Blocks<A> {
         ensures { OnOk result (AreInsertedOn rank (names_of genome.now) track.now.records self.old self.new) }
     {
         let length = genome.length_u32(rank).unwrap_or(0);
+        // As if a record over the whole sequence had been taken out of a block of its own.
+        let whole = (0, length);
         let plus = Group {
             rank,
             side: Side::Plus,
         };
-        self.insert_blocks(track, genome, plus, 0, length, meter)?;
+        self.split_block(track, genome, plus, whole, whole, meter)?;
         let minus = Group {
             rank,
             side: Side::Minus,
         };
-        self.insert_blocks(track, genome, minus, 0, length, meter)
-    }
-
-    /// Inserts the blocks of a group's records that start at `from` or after and below `to`, over what is there: they are the
-    /// blocks of these records alone.
-    ///
-    /// None of these records stops past `to`. At most 2 steps, and 5 for each record, of any strand, that starts there.
-    /// After a refusal some of the blocks may be inserted.
-    pub(crate) fn insert_blocks(
-        &mut self,
-        track: &Track<A>,
-        genome: &Genome<A>,
-        group: Group,
-        from: u32,
-        to: u32,
-        meter: &mut Meter,
-    ) -> Result<(), AllocError>
-        requires apart { is_apart group.side ≡ self.old.options.stranded }
-        requires fit { All (Fits genome.now track.now.width) track.now.records }
-        requires stops { All (λ r. r.stop ≤ to) (members_between group from to track.now.records) }
-        ensures ok { OnOk result (AreInserted group (names_of genome.now) (between from to track.now.records) self.old self.new) }
-        ensures steps { TakesUpTo meter.old meter.new (2 + 5 * length (between_on group.rank from to track.now.records)) }
-    {
-        // The keys of the ledger ascend, even if nothing is inserted.
-        let _ordered = self.ledger.len();
-        let distance = u64::from(self.options.distance);
-        let mut members = Members::of(track, group, from, to, meter);
-        let Some(first) = members.next(meter) else {
-            return Ok(());
-        };
-        let (mut start, mut stop) = bounds_of(&first.as_ref());
-        // None of them stops past `to`: once the block does there, all others are in it.
-        'feature: while stop < to {
-            let Some(feature) = members.next(meter) else {
-                break;
-            };
-            let (next_start, next_stop) = bounds_of(&feature.as_ref());
-            if u64::from(next_start) <= u64::from(stop) + distance {
-                stop = stop.max(next_stop);
-            } else {
-                self.insert_block(track, genome, group, start, stop, meter)?;
-                (start, stop) = (next_start, next_stop);
-            }
-        }
-        self.insert_block(track, genome, group, start, stop, meter)
+        self.split_block(track, genome, minus, whole, whole, meter)
     }
 
     /// Inserts the blocks of a group's records that start within `block`, over what is there, once a record with the bounds `gone`

@@ -34,10 +34,6 @@ Reads-append h1 h2 h3 s1 s2 s3 a b first second = record {
 pub Reads-skip : (held : List ℕ) (state : SourceState) (n : ℕ) → Reads held (drop n held) state state (take n held)
 Reads-skip held state n = record { pulled = []; from = Consumes-nil state.remaining; all = append-nil held ∙ sym (take-append-drop n held) }
 
--- nothing was held, and these bytes came
-pub Reads-pull : (old new : SourceState) (bytes : List ℕ) → Gives old new bytes → Reads [] bytes old new []
-Reads-pull old new bytes gives = record { pulled = bytes; from = gives.from; all = refl }
-
 -- what is held after the first n bytes
 pub held_skip : (chunk : List ℕ) (start end n : ℕ) → start + n ≤ end → slice_range chunk (start + n) end ≡ drop n (slice_range chunk start end)
 held_skip chunk start end n fits =

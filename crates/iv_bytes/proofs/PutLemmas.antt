@@ -188,20 +188,6 @@ FailsIn-sent old new name held later fails = record {
   failed = fails.failed;
 }
 
--- a buffer took bytes, and none went on
-pub Takes-held : (sink : SinkState) (name : GName) (held text : List ℕ)
-    → Takes (buffered sink name held) (buffered sink name (held ++ text)) text
-Takes-held sink name held text = record {
-  moved = record {
-    sent = [];
-    reaches = Appends-nil sink.reached;
-    all = append_assoc (waiting sink) held text;
-    holds = refl;
-    same = refl;
-  };
-  failed = refl;
-}
-
 -- the top of what two buffers hold their sinks by: the borrow, and whether it may hold bytes back
 pub same-top : (after name : GName) (b c : Bool) (xs ys : List (GName × Bool)) → (after, b) ∷ xs ≡ (name, c) ∷ ys → (after ≡ name) × (b ≡ c)
 same-top after name b c xs ys same =

@@ -4,7 +4,7 @@ ghost use Rattle.std.specs.Option.{option_copied, option_map};
 ghost use Rattle.iv_track.specs.Tracked.{most_records};
 ghost use Rattle.iv_workspace.specs.States.{begun};
 ghost use Rattle.iv_run.specs.Loading.{IsReport};
-ghost use Rattle.iv_run.specs.RunFiles.{AreAll, AreOf, IsParsed};
+ghost use Rattle.iv_run.specs.RunFiles.{AreAllWanted, AreOf, IsParsed};
 ghost use Rattle.iv_cli.specs.Loading.{loaded};
 
 use iv_args::Plan;
@@ -50,7 +50,7 @@ pub fn begin_session<A: Allocator + Copy>(
     files: RunFiles<HeldRecords<Record<A>, A>, A>,
 ) -> Result<Session<A>, CliFault>
     requires { files.on.limit ≤ most_records }
-    ensures { (sizes first : List ℕ) (second fasta_text : Option (List ℕ)) → AreOf (IsParsed (λ r. r)) AreAll sizes first second fasta_text files
+    ensures { (sizes first : List ℕ) (second fasta_text : Option (List ℕ)) → AreOf (IsParsed (λ r. r)) AreAllWanted sizes first second fasta_text files
         → IsReport result (loaded files.on.width sizes first second fasta_text files.on.limit) }
 {
     let RunFiles {

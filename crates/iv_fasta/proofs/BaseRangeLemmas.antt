@@ -11,34 +11,34 @@ use Rattle.iv_fasta.specs.Inside.BaseRanges.{bases_at, placed, EndsWithin, IsPla
 use Rattle.iv_fasta.specs.declared.held_sequences.BaseRange.{BaseRange}
 
 -- one more range
-pub placed-more : (fasta : Bases) (places more : List (Option BaseRange)) (bases : List ℕ) (rank : ℕ) (place : Option BaseRange) → rank < length fasta
-    → placed places bases ≡ take rank fasta → option_map (bases_at bases) place ≡ bases_of fasta rank → more ≡ places ++ place ∷ []
+pub placed-more : (fasta : Bases) (ranges more : List (Option BaseRange)) (bases : List ℕ) (rank : ℕ) (range : Option BaseRange) → rank < length fasta
+    → placed ranges bases ≡ take rank fasta → option_map (bases_at bases) range ≡ bases_of fasta rank → more ≡ ranges ++ range ∷ []
     → placed more bases ≡ take (rank + 1) fasta
-placed-more fasta places more bases rank place within so_far is next =
-    ap (map (option_map (bases_at bases))) next ∙ map-append (option_map (bases_at bases)) places (place ∷ [])
-    ∙ ap (λ (l : Bases). l ++ option_map (bases_at bases) place ∷ []) so_far
+placed-more fasta ranges more bases rank range within so_far is next =
+    ap (map (option_map (bases_at bases))) next ∙ map-append (option_map (bases_at bases)) ranges (range ∷ [])
+    ∙ ap (λ (l : Bases). l ++ option_map (bases_at bases) range ∷ []) so_far
     ∙ ap (λ (o : Option (List ℕ)). take rank fasta ++ o ∷ []) (is ∙ unwrap_or-slice_get fasta rank None)
     ∙ sym (take_more fasta rank None within)
 
-placed-at : (places : List (Option BaseRange)) (bases : List ℕ) (seq : ℕ) (place : BaseRange) → Some place ≡ unwrap_or (slice_get places seq) None
-    → bases_of (placed places bases) seq ≡ Some (bases_at bases place)
-placed-at places bases seq place at =
-    ap (λ (o : Option (Option (List ℕ))). unwrap_or o None) (slice_get-map (option_map (bases_at bases)) places seq) ∙ by (slice_get places seq) at
+placed-at : (ranges : List (Option BaseRange)) (bases : List ℕ) (seq : ℕ) (range : BaseRange) → Some range ≡ unwrap_or (slice_get ranges seq) None
+    → bases_of (placed ranges bases) seq ≡ Some (bases_at bases range)
+placed-at ranges bases seq range at =
+    ap (λ (o : Option (Option (List ℕ))). unwrap_or o None) (slice_get-map (option_map (bases_at bases)) ranges seq) ∙ by (slice_get ranges seq) at
   where
-    by : (o : Option (Option BaseRange)) → Some place ≡ unwrap_or o None → unwrap_or (option_map (option_map (bases_at bases)) o) None ≡ Some (bases_at bases place)
+    by : (o : Option (Option BaseRange)) → Some range ≡ unwrap_or o None → unwrap_or (option_map (option_map (bases_at bases)) o) None ≡ Some (bases_at bases range)
     by None is = cc
     by (Some None) is = cc
-    by (Some (Some p)) is = let same : place ≡ p = cc in ap {B = Option (List ℕ)} (λ (q : BaseRange). Some (bases_at bases q)) (sym same)
+    by (Some (Some p)) is = let same : range ≡ p = cc in ap {B = Option (List ℕ)} (λ (q : BaseRange). Some (bases_at bases q)) (sym same)
 
 -- if each range is among so many bases, so is one of them
-is_placed-at : (places : List (Option BaseRange)) (total seq : ℕ) (place : BaseRange) (o : Option (Option BaseRange)) → All (IsPlacedWithin total) places → slice_get places seq ≡ o
-    → Some place ≡ unwrap_or o None → EndsWithin total place
-is_placed-at places total seq place None all at is = cc
-is_placed-at places total seq place (Some None) all at is = cc
-is_placed-at places total seq place (Some (Some p)) all at is =
-    let same : place ≡ p = cc in
+is_placed-at : (ranges : List (Option BaseRange)) (total seq : ℕ) (range : BaseRange) (o : Option (Option BaseRange)) → All (IsPlacedWithin total) ranges → slice_get ranges seq ≡ o
+    → Some range ≡ unwrap_or o None → EndsWithin total range
+is_placed-at ranges total seq range None all at is = cc
+is_placed-at ranges total seq range (Some None) all at is = cc
+is_placed-at ranges total seq range (Some (Some p)) all at is =
+    let same : range ≡ p = cc in
     subst (λ (q : BaseRange). EndsWithin total q) (sym same)
-    (subst (λ (q : Option BaseRange). IsPlacedWithin total q) (get_or_from_slice_get places seq (Some p) None at) (all seq None (slice_get_within places seq (Some p) at)))
+    (subst (λ (q : Option BaseRange). IsPlacedWithin total q) (get_or_from_slice_get ranges seq (Some p) None at) (all seq None (slice_get_within ranges seq (Some p) at)))
 
 -- ---- a part of a sequence's bases
 
@@ -66,15 +66,15 @@ range-range bases from to start stop order within =
     ∙ ap (λ n. take n (drop (from + start) bases)) long
 
 -- the part of a sequence's bases that is asked for
-pub part-is : (fasta : Bases) (places : List (Option BaseRange)) (bases output : List ℕ) (seq start stop from to : ℕ) (place : BaseRange) → placed places bases ≡ fasta → output ≡ bases
-    → All (IsPlacedWithin (length bases)) places → Some place ≡ unwrap_or (slice_get places seq) None → to ≡ min (place.stop - place.start) stop → from ≡ min to start
-    → Some (slice_range output (place.start + from) (place.start + to)) ≡ option_map (λ b. slice_range b start stop) (bases_of fasta seq)
-part-is fasta places bases output seq start stop from to place view same all at cut_to cut_from =
-    let there : bases_of fasta seq ≡ Some (bases_at bases place) = ap (λ (f : Bases). bases_of f seq) (sym view) ∙ placed-at places bases seq place at in
-    let is_placed : EndsWithin (length bases) place = is_placed-at places (length bases) seq place (slice_get places seq) all refl at in
-    let long : length (bases_at bases place) ≡ place.stop - place.start = length-between bases place.start place.stop is_placed.in_bounds in
-    ap {B = Option (List ℕ)} (λ (l : List ℕ). Some (slice_range l (place.start + from) (place.start + to))) same
+pub part-is : (fasta : Bases) (ranges : List (Option BaseRange)) (bases output : List ℕ) (seq start stop from to : ℕ) (range : BaseRange) → placed ranges bases ≡ fasta → output ≡ bases
+    → All (IsPlacedWithin (length bases)) ranges → Some range ≡ unwrap_or (slice_get ranges seq) None → to ≡ min (range.stop - range.start) stop → from ≡ min to start
+    → Some (slice_range output (range.start + from) (range.start + to)) ≡ option_map (λ b. slice_range b start stop) (bases_of fasta seq)
+part-is fasta ranges bases output seq start stop from to range view same all at cut_to cut_from =
+    let there : bases_of fasta seq ≡ Some (bases_at bases range) = ap (λ (f : Bases). bases_of f seq) (sym view) ∙ placed-at ranges bases seq range at in
+    let is_placed : EndsWithin (length bases) range = is_placed-at ranges (length bases) seq range (slice_get ranges seq) all refl at in
+    let long : length (bases_at bases range) ≡ range.stop - range.start = length-between bases range.start range.stop is_placed.in_bounds in
+    ap {B = Option (List ℕ)} (λ (l : List ℕ). Some (slice_range l (range.start + from) (range.start + to))) same
     ∙ ap {B = Option (List ℕ)} (λ (l : List ℕ). Some l)
-    (sym (range-range bases place.start place.stop from to (omega (arith, cut_from)) (omega (arith, cut_to)))
-    ∙ range-cut (bases_at bases place) start stop from to (omega (arith, cut_to, long)) cut_from)
+    (sym (range-range bases range.start range.stop from to (omega (arith, cut_from)) (omega (arith, cut_to)))
+    ∙ range-cut (bases_at bases range) start stop from to (omega (arith, cut_to, long)) cut_from)
     ∙ ap (option_map (λ b. slice_range b start stop)) (sym there)

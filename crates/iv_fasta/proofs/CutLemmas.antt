@@ -14,7 +14,7 @@ use Rattle.std.specs.Str.{bytes_eq}
 use Rattle.iv_text.specs.Named.{names_of, name_index}
 use Rattle.iv_fasta.specs.FastaReading.{Summary, Summaries, with_part}
 use Rattle.iv_fasta.specs.Inside.BaseRanges.{EndsWithin}
-use Rattle.iv_fasta.specs.Inside.Drafts.{sequence_at, NamedHeaders, end_at, end_before, count_at, count_before, cut, StartInOrder, CountInOrder}
+use Rattle.iv_fasta.specs.Inside.Drafts.{sequence_at, NamedHeaders, first_number, number_at, cut, AreRising}
 use Rattle.iv_fasta.specs.declared.held_sequences.Header.{Header}
 
 -- a part of the front
@@ -27,31 +27,35 @@ range-rest : (xs ys : List ℕ) (a : ℕ) → a ≤ length xs → slice_range (x
 range-rest xs ys a within =
     take_rest (xs ++ ys) a ∙ drop-append-le a xs ys within ∙ ap (λ (l : List ℕ). l ++ ys) (sym (take_rest xs a))
 
-pub starts-low : (low : ℕ) (hs : NamedHeaders) (total : ℕ) → StartInOrder low hs total → low ≤ total
-starts-low low [] total order = order
-starts-low low (h ∷ hs) total order = let rest = starts-low h.1.start hs total order.1 in omega (arith, rest, order.0)
+module _ (number : Header → ℕ) where
+  rises-through : (low : ℕ) (hs : NamedHeaders) (high : ℕ) → AreRising number low hs high → low ≤ high
+  rises-through low [] high order = order
+  rises-through low (h ∷ hs) high order = let rest = rises-through (number h.1) hs high order.1 in omega (arith, rest, order.0)
 
--- more bases leave the headers in order
-pub starts-more : (low : ℕ) (hs : NamedHeaders) (total more : ℕ) → total ≤ more → StartInOrder low hs total → StartInOrder low hs more
-starts-more low [] total more le order = omega (arith, le, order)
-starts-more low (h ∷ hs) total more le order = (order.0, starts-more h.1.start hs total more le order.1)
+  -- more bases leave the headers in order
+  pub rises-more : (low : ℕ) (hs : NamedHeaders) (high more : ℕ) → high ≤ more → AreRising number low hs high → AreRising number low hs more
+  rises-more low [] high more le order = omega (arith, le, order)
+  rises-more low (h ∷ hs) high more le order = (order.0, rises-more (number h.1) hs high more le order.1)
 
--- and so does a header at the end of them
-pub starts-push : (low : ℕ) (hs : NamedHeaders) (name : List ℕ) (h : Header) (total : ℕ) → h.start ≡ total → StartInOrder low hs total → StartInOrder low (hs ++ (name, h) ∷ []) total
-starts-push low [] name h total at order = (omega (arith, at, order), omega (arith, at))
-starts-push low (x ∷ hs) name h total at order = (order.0, starts-push x.1.start hs name h total at order.1)
+  -- and so does a header at the end of them
+  pub rises-push : (low : ℕ) (hs : NamedHeaders) (name : List ℕ) (h : Header) (high : ℕ) → number h ≡ high → AreRising number low hs high → AreRising number low (hs ++ (name, h) ∷ []) high
+  rises-push low [] name h high at order = (omega (arith, at, order), omega (arith, at))
+  rises-push low (x ∷ hs) name h high at order = (order.0, rises-push (number x.1) hs name h high at order.1)
 
--- the same of how many bases were counted
-pub counts-more : (low : ℕ) (hs : NamedHeaders) (count more : ℕ) → count ≤ more → CountInOrder low hs count → CountInOrder low hs more
-counts-more low [] count more le order = omega (arith, le, order)
-counts-more low (h ∷ hs) count more le order = (order.0, counts-more h.1.before hs count more le order.1)
+  number-first : (hs : NamedHeaders) (last : ℕ) → first_number number hs last ≡ number_at number (slice_get hs zero) last
+  number-first [] last = refl
+  number-first (h ∷ hs) last = refl
 
-pub counts-push : (low : ℕ) (hs : NamedHeaders) (name : List ℕ) (h : Header) (count : ℕ) → h.before ≡ count → CountInOrder low hs count → CountInOrder low (hs ++ (name, h) ∷ []) count
-counts-push low [] name h count at order = (omega (arith, at, order), omega (arith, at))
-counts-push low (x ∷ hs) name h count at order = (order.0, counts-push x.1.before hs name h count at order.1)
+  -- the number of the next header is no less, and no more than the last one
+  rises-at : (low : ℕ) (hs : NamedHeaders) (high i : ℕ) (h : List ℕ × Header) → AreRising number low hs high → slice_get hs i ≡ Some h
+      → (number h.1 ≤ number_at number (slice_get hs (suc i)) high) × (number_at number (slice_get hs (suc i)) high ≤ high)
+  rises-at low [] high i h order at = cc
+  rises-at low (x ∷ []) high zero h order at = let same : x ≡ h = cc in rw (← same) (order.1, omega arith)
+  rises-at low (x ∷ y ∷ hs) high zero h order at = let same : x ≡ h = cc in rw (← same) (order.1.0, rises-through (number y.1) hs high order.1.1)
+  rises-at low (x ∷ hs) high (suc i) h order at = rises-at (number x.1) hs high i h order.1 at
 
 -- more bases are those of the last sequence
-pub cut-part : (low from : ℕ) (hs : NamedHeaders) (bases part : List ℕ) (holds : Bool) (count : ℕ) → StartInOrder low hs (length bases) → CountInOrder from hs count
+pub cut-part : (low from : ℕ) (hs : NamedHeaders) (bases part : List ℕ) (holds : Bool) (count : ℕ) → AreRising (λ h. h.start) low hs (length bases) → AreRising (λ h. h.before) from hs count
     → cut hs (bases ++ cond holds part []) (count + length part) ≡ with_part holds (cut hs bases count) part
 cut-part low from [] bases part holds count order counted = refl
 cut-part low from (h ∷ []) bases part holds count order counted =
@@ -60,7 +64,7 @@ cut-part low from (h ∷ []) bases part holds count order counted =
     ∙ ap {B = Summaries} (λ (n : ℕ). (h.0, record { line = h.1.line; count = n; bases = slice_range bases h.1.start (length bases) ++ cond holds part [] }) ∷ []) more
 cut-part low from (h ∷ next ∷ hs) bases part holds count order counted =
     ap {B = Summaries} (λ (l : List ℕ). (h.0, record { line = h.1.line; count = next.1.before - h.1.before; bases = l }) ∷ cut (next ∷ hs) (bases ++ cond holds part []) (count + length part))
-    (range-front bases (cond holds part []) h.1.start next.1.start order.1.0 (starts-low next.1.start hs (length bases) order.1.1))
+    (range-front bases (cond holds part []) h.1.start next.1.start order.1.0 (rises-through (λ h. h.start) next.1.start hs (length bases) order.1.1))
     ∙ ap {B = Summaries} (λ (rest : Summaries). (h.0, record { line = h.1.line; count = next.1.before - h.1.before; bases = slice_range bases h.1.start next.1.start }) ∷ rest)
     (cut-part h.1.start h.1.before (next ∷ hs) bases part holds count order.1 counted.1)
 
@@ -83,12 +87,12 @@ names-cut [] bases count = refl
 names-cut (h ∷ hs) bases count = ap (λ (l : List (List ℕ)). h.0 ∷ l) (names-cut hs bases count)
 
 -- the indexes of the names are those of the headers
-pub place-cut : (hs : NamedHeaders) (bases : List ℕ) (count : ℕ) (name : List ℕ) → name_index (cut hs bases count) name ≡ name_index hs name
-place-cut hs bases count name = ap (position (bytes_eq name)) (names-cut hs bases count)
+pub index-cut : (hs : NamedHeaders) (bases : List ℕ) (count : ℕ) (name : List ℕ) → name_index (cut hs bases count) name ≡ name_index hs name
+index-cut hs bases count name = ap (position (bytes_eq name)) (names-cut hs bases count)
 
 -- a name that is new among the sequences is new among the headers
 pub fresh-cut : (hs : NamedHeaders) (bases : List ℕ) (count : ℕ) (name : List ℕ) → is_some (name_index (cut hs bases count) name) ≡ false → name_index hs name ≡ None
-fresh-cut hs bases count name is = by (name_index hs name) (sym (ap is_some (place-cut hs bases count name)) ∙ is)
+fresh-cut hs bases count name is = by (name_index hs name) (sym (ap is_some (index-cut hs bases count name)) ∙ is)
   where
     by : (o : Option ℕ) → is_some o ≡ false → o ≡ None
     by None e = refl
@@ -98,26 +102,18 @@ pub length-cut : (hs : NamedHeaders) (bases : List ℕ) (count : ℕ) → length
 length-cut [] bases count = refl
 length-cut (h ∷ hs) bases count = ap suc (length-cut hs bases count)
 
-end-first : (hs : NamedHeaders) (total : ℕ) → end_before hs total ≡ end_at (slice_get hs zero) total
-end-first [] total = refl
-end-first (h ∷ hs) total = refl
-
-count-first : (hs : NamedHeaders) (count : ℕ) → count_before hs count ≡ count_at (slice_get hs zero) count
-count-first [] count = refl
-count-first (h ∷ hs) count = refl
-
 -- the sequence at an index
 abbrev sequence_before : ℕ → ℕ → List ℕ → List ℕ × Header → Option (List ℕ × Summary)
 sequence_before stop before bases h = Some (h.0, record { line = h.1.line; count = before - h.1.before; bases = slice_range bases h.1.start stop })
 
 cut-at : (hs : NamedHeaders) (bases : List ℕ) (count i : ℕ) (h : List ℕ × Header) → slice_get hs i ≡ Some h
-    → slice_get (cut hs bases count) i ≡ sequence_before (end_at (slice_get hs (suc i)) (length bases)) (count_at (slice_get hs (suc i)) count) bases h
+    → slice_get (cut hs bases count) i ≡ sequence_before (number_at (λ h. h.start) (slice_get hs (suc i)) (length bases)) (number_at (λ h. h.before) (slice_get hs (suc i)) count) bases h
 cut-at [] bases count i h at = cc
 cut-at (x ∷ hs) bases count zero h at =
     let same : x ≡ h = cc in
-    ap (λ (n : ℕ). sequence_before n (count_before hs count) bases x) (end-first hs (length bases))
-    ∙ ap (λ (n : ℕ). sequence_before (end_at (slice_get hs zero) (length bases)) n bases x) (count-first hs count)
-    ∙ ap (sequence_before (end_at (slice_get hs zero) (length bases)) (count_at (slice_get hs zero) count) bases) same
+    ap (λ (n : ℕ). sequence_before n (first_number (λ h. h.before) hs count) bases x) (number-first (λ h. h.start) hs (length bases))
+    ∙ ap (λ (n : ℕ). sequence_before (number_at (λ h. h.start) (slice_get hs zero) (length bases)) n bases x) (number-first (λ h. h.before) hs count)
+    ∙ ap (sequence_before (number_at (λ h. h.start) (slice_get hs zero) (length bases)) (number_at (λ h. h.before) (slice_get hs zero) count) bases) same
 cut-at (x ∷ hs) bases count (suc i) h at = cut-at hs bases count i h at
 
 pub cut-past : (hs : NamedHeaders) (bases : List ℕ) (count i : ℕ) → slice_get hs i ≡ None → slice_get (cut hs bases count) i ≡ None
@@ -125,42 +121,28 @@ cut-past [] bases count i at = refl
 cut-past (x ∷ hs) bases count zero at = cc
 cut-past (x ∷ hs) bases count (suc i) at = cut-past hs bases count i at
 
--- and where it is
-order-at : (low : ℕ) (hs : NamedHeaders) (total i : ℕ) (h : List ℕ × Header) → StartInOrder low hs total → slice_get hs i ≡ Some h
-    → (h.1.start ≤ end_at (slice_get hs (suc i)) total) × (end_at (slice_get hs (suc i)) total ≤ total)
-order-at low [] total i h order at = cc
-order-at low (x ∷ []) total zero h order at = let same : x ≡ h = cc in rw (← same) (order.1, omega arith)
-order-at low (x ∷ y ∷ hs) total zero h order at = let same : x ≡ h = cc in rw (← same) (order.1.0, starts-low y.1.start hs total order.1.1)
-order-at low (x ∷ hs) total (suc i) h order at = order-at x.1.start hs total i h order.1 at
-
-counted-at : (low : ℕ) (hs : NamedHeaders) (count i : ℕ) (h : List ℕ × Header) → CountInOrder low hs count → slice_get hs i ≡ Some h
-    → h.1.before ≤ count_at (slice_get hs (suc i)) count
-counted-at low [] count i h order at = cc
-counted-at low (x ∷ []) count zero h order at = let same : x ≡ h = cc in rw (← same) order.1
-counted-at low (x ∷ y ∷ hs) count zero h order at = let same : x ≡ h = cc in rw (← same) order.1.0
-counted-at low (x ∷ hs) count (suc i) h order at = counted-at x.1.before hs count i h order.1 at
-
-pub sequence-counted : (hs : NamedHeaders) (count i before : ℕ) (h : List ℕ × Header) → CountInOrder 0 hs count → Some h ≡ slice_get hs i → before ≡ count_at (slice_get hs (i + 1)) count
+pub sequence-counted : (hs : NamedHeaders) (count i before : ℕ) (h : List ℕ × Header) → AreRising (λ h. h.before) 0 hs count → Some h ≡ slice_get hs i → before ≡ number_at (λ h. h.before) (slice_get hs (i + 1)) count
     → h.1.before ≤ before
 sequence-counted hs count i before h order at is =
-    let stops : before ≡ count_at (slice_get hs (suc i)) count = is ∙ ap (λ n. count_at (slice_get hs n) count) (add-one i) in
-    omega (arith, stops, counted-at 0 hs count i h order (sym at))
+    let stops : before ≡ number_at (λ h. h.before) (slice_get hs (suc i)) count = is ∙ ap (λ n. number_at (λ h. h.before) (slice_get hs n) count) (add-one i) in
+    let within = rises-at (λ h. h.before) 0 hs count i h order (sym at) in
+    omega (arith, stops, within.0)
 
-pub sequence-is : (hs : NamedHeaders) (bases name : List ℕ) (h : Header) (i stop before count : ℕ) → Some (name, h) ≡ slice_get hs i → stop ≡ end_at (slice_get hs (i + 1)) (length bases)
-    → before ≡ count_at (slice_get hs (i + 1)) count
+pub sequence-is : (hs : NamedHeaders) (bases name : List ℕ) (h : Header) (i stop before count : ℕ) → Some (name, h) ≡ slice_get hs i → stop ≡ number_at (λ h. h.start) (slice_get hs (i + 1)) (length bases)
+    → before ≡ number_at (λ h. h.before) (slice_get hs (i + 1)) count
     → Some (name, sequence_at bases h.line (before - h.before) (record { start = h.start; stop = stop })) ≡ slice_get (cut hs bases count) i
 sequence-is hs bases name h i stop before count at is counted =
-    let stops : stop ≡ end_at (slice_get hs (suc i)) (length bases) = is ∙ ap (λ n. end_at (slice_get hs n) (length bases)) (add-one i) in
-    let befores : before ≡ count_at (slice_get hs (suc i)) count = counted ∙ ap (λ n. count_at (slice_get hs n) count) (add-one i) in
+    let stops : stop ≡ number_at (λ h. h.start) (slice_get hs (suc i)) (length bases) = is ∙ ap (λ n. number_at (λ h. h.start) (slice_get hs n) (length bases)) (add-one i) in
+    let befores : before ≡ number_at (λ h. h.before) (slice_get hs (suc i)) count = counted ∙ ap (λ n. number_at (λ h. h.before) (slice_get hs n) count) (add-one i) in
     ap (λ (n : ℕ). sequence_before n before bases (name, h)) stops
-    ∙ ap (λ (n : ℕ). sequence_before (end_at (slice_get hs (suc i)) (length bases)) n bases (name, h)) befores
+    ∙ ap (λ (n : ℕ). sequence_before (number_at (λ h. h.start) (slice_get hs (suc i)) (length bases)) n bases (name, h)) befores
     ∙ sym (cut-at hs bases count i (name, h) (sym at))
 
-pub sequence-is_placed : (hs : NamedHeaders) (bases name : List ℕ) (h : Header) (i stop : ℕ) → StartInOrder 0 hs (length bases) → Some (name, h) ≡ slice_get hs i → stop ≡ end_at (slice_get hs (i + 1)) (length bases)
+pub sequence-is_placed : (hs : NamedHeaders) (bases name : List ℕ) (h : Header) (i stop : ℕ) → AreRising (λ h. h.start) 0 hs (length bases) → Some (name, h) ≡ slice_get hs i → stop ≡ number_at (λ h. h.start) (slice_get hs (i + 1)) (length bases)
     → EndsWithin (length bases) (record { start = h.start; stop = stop })
 sequence-is_placed hs bases name h i stop order at is =
-    let stops : stop ≡ end_at (slice_get hs (suc i)) (length bases) = is ∙ ap (λ n. end_at (slice_get hs n) (length bases)) (add-one i) in
-    let within : (h.start ≤ end_at (slice_get hs (suc i)) (length bases)) × (end_at (slice_get hs (suc i)) (length bases) ≤ length bases) = order-at 0 hs (length bases) i (name, h) order (sym at) in
+    let stops : stop ≡ number_at (λ h. h.start) (slice_get hs (suc i)) (length bases) = is ∙ ap (λ n. number_at (λ h. h.start) (slice_get hs n) (length bases)) (add-one i) in
+    let within : (h.start ≤ number_at (λ h. h.start) (slice_get hs (suc i)) (length bases)) × (number_at (λ h. h.start) (slice_get hs (suc i)) (length bases) ≤ length bases) = rises-at (λ h. h.start) 0 hs (length bases) i (name, h) order (sym at) in
     record { in_order = omega (arith, stops, within.0); in_bounds = omega (arith, stops, within.1) }
 
 -- ---- looking up a name
@@ -181,8 +163,8 @@ lookup-at {V} es name i e there at =
     first-there (bytes_eq name) es i e at (ap (bytes_eq name) (sym named) ∙ found.1) found.2
 
 -- an index of a name is an index of a header
-pub place-there : {V : Type 0} (es : List (List ℕ × V)) (name : List ℕ) (i : ℕ) → name_index es name ≡ Some i → slice_get es i ≡ None → ⊥
-place-there {V} es name i there none =
+pub index-there : {V : Type 0} (es : List (List ℕ × V)) (name : List ℕ) (i : ℕ) → name_index es name ≡ Some i → slice_get es i ≡ None → ⊥
+index-there {V} es name i there none =
     let found = position-Some (bytes_eq name) (names_of es) i [] there in
     let named : slice_get (names_of es) i ≡ None = slice_get-map (λ (n : List ℕ × V). n.0) es i ∙ ap (option_map (λ (n : List ℕ × V). n.0)) none in
     let some : slice_get (names_of es) i ≡ Some (get_or (names_of es) i []) = slice_get-get_or (names_of es) i [] found.0 in

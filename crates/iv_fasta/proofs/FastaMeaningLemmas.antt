@@ -11,9 +11,8 @@ use Rattle.iv_text.specs.Named.{name_index}
 use Rattle.iv_text.specs.declared.fault.LoadCause.{LoadCause}
 use Rattle.iv_text.specs.declared.fault.LoadCause.TheVariants as cause
 use Rattle.iv_text.specs.declared.fault.LoadFault.{LoadFault}
-use Rattle.iv_text.proofs.FileMeaningLemmas.{IsRun, run-value, run-fault}
+use Rattle.iv_text.proofs.FileMeaningLemmas.{AreSteps, looked, ok-err, run-fault, run-value, same-err, same-ok}
 use Rattle.iv_fasta.specs.Fasta.{Found, Stretch, Bases, header_name, has_wrong_length, with_bases, after_fasta_line, fasta_of}
-use Rattle.iv_fasta.specs.Inside.Drafts.{after_fasta_lines}
 use Rattle.iv_fasta.specs.Inside.Fasta.{is_no_base}
 use Rattle.iv_fasta.specs.Inside.FastaMeaning.{is_header, before_header, sequences_from, sequences_said, line_cause, HaveRightLengths, IsFirstWrongLength, with_lengths, by_rank}
 
@@ -166,62 +165,8 @@ line-stops before line c is = line-acts (1 + length before) (sequences_said befo
 
 -- ---- all lines
 
--- the loop with its own count of lines beside the sequences
-abbrev Counted : Type 0
-Counted = ℕ × Found
-
-abbrev run : ℕ → Counted → List (List ℕ) → Result Counted LoadFault
-run n s [] = Ok s
-run n s (line ∷ more) = elim (after_fasta_line s.0 s.1 line) [ Ok next ↦ run (n + 1) (s.0 + 1, next) more | Err c ↦ Err (record { line = n; cause = c }) ]
-
-abbrev says : List (List ℕ) → Counted
-says before = (1 + length before, sequences_said before)
-
-step : (n : ℕ) (s : Counted) (line : List ℕ) (more : List (List ℕ)) (r : Result Found LoadCause) → after_fasta_line s.0 s.1 line ≡ r
-    → run n s (line ∷ more) ≡ elim r as (λ _. Result Counted LoadFault) [ Ok next ↦ run (n + 1) (s.0 + 1, next) more | Err c ↦ Err (record { line = n; cause = c }) ]
-step n s line more r is =
-    ap (λ (o : Result Found LoadCause). elim o as (λ _. Result Counted LoadFault) [ Ok next ↦ run (n + 1) (s.0 + 1, next) more | Err c ↦ Err (record { line = n; cause = c }) ]) is
-
-length-more : (before : List (List ℕ)) (line : List ℕ) → length (before ++ line ∷ []) ≡ length before + 1
-length-more [] line = refl
-length-more (b ∷ before) line = let rest = length-more before line in omega (arith, rest)
-
-fasta-run : IsRun line_cause says run
-fasta-run = record {
-  ends = λ n s. refl;
-  goes = λ n before line more none.
-      let count : 1 + length before + 1 ≡ 1 + length (before ++ line ∷ []) = omega (arith, length-more before line) in
-      step n (says before) line more (Ok (sequences_said (before ++ line ∷ []))) (line-goes before line none)
-      ∙ ap (λ (k : ℕ). run (n + 1) (k, sequences_said (before ++ line ∷ [])) more) count;
-  stops = λ n before line more c is. step n (says before) line more (Err c) (line-stops before line c is);
-}
-
--- it gives what the definition gives
-abbrev sequences-in : Result Counted LoadFault → Result Found LoadFault
-sequences-in r = elim r [ Ok s ↦ Ok s.1 | Err f ↦ Err f ]
-
-same-run : (n : ℕ) (found : Found) (all : List (List ℕ)) → after_fasta_lines n found all ≡ sequences-in (run n (n, found) all)
-same-run n found [] = refl
-same-run n found (line ∷ more) = by (after_fasta_line n found line) (λ next. same-run (n + 1) next more)
-  where
-    by : (r : Result Found LoadCause) → ((next : Found) → after_fasta_lines (n + 1) next more ≡ sequences-in (run (n + 1) (n + 1, next) more))
-        → elim r as (λ _. Result Found LoadFault) [ Ok next ↦ after_fasta_lines (n + 1) next more | Err c ↦ Err (record { line = n; cause = c }) ]
-        ≡ sequences-in (elim r as (λ _. Result Counted LoadFault) [ Ok next ↦ run (n + 1) (n + 1, next) more | Err c ↦ Err (record { line = n; cause = c }) ])
-    by (Ok next) rest = rest next
-    by (Err c) rest = refl
-
--- what the whole file says
-whole : (g : Sequences) (text : List ℕ) (r : Result Counted LoadFault) → run 1 (says []) (lines text) ≡ r
-    → fasta_of g text ≡ elim r as (λ _. Result Bases LoadFault) [ Ok s ↦ with_lengths g s.1 | Err f ↦ Err f ]
-whole g text r is =
-    ap (λ (o : Result Found LoadFault). if_ok o (with_lengths g))
-    (same-run 1 [] (lines text) ∙ ap sequences-in is) ∙ by r
-  where
-    by : (r : Result Counted LoadFault)
-        → if_ok (sequences-in r) (with_lengths g)
-        ≡ elim r as (λ _. Result Bases LoadFault) [ Ok s ↦ with_lengths g s.1 | Err f ↦ Err f ]
-    by (Ok s) = refl
-    by (Err f) = refl
+fasta-steps : AreSteps line_cause sequences_said 1 after_fasta_line
+fasta-steps = record { goes = line-goes; stops = line-stops }
 
 -- the lengths of all sequences
 abbrev Lengths : Sequences → Found → Option (List ℕ × Stretch) → Result Bases LoadFault
@@ -233,63 +178,42 @@ module _ (g : Sequences) (text : List ℕ) where
 
   -- if no line has a cause the lengths decide
   decided : HaveNoCause line_cause all → fasta_of g text ≡ Lengths g (sequences_said all) (find (has_wrong_length g) (sequences_said all))
-  decided none = whole g text (Ok (says all)) ((run-value line_cause says run fasta-run all (says all)).1 (none, refl))
+  decided none = ap (λ r. if_ok r (with_lengths g)) ((run-value line_cause sequences_said after_fasta_line fasta-steps all (sequences_said all)).1 (none, refl))
 
   -- if one has, its fault is the first
   refused : (f : LoadFault) → IsFirstFault line_cause all f → fasta_of g text ≡ Err f
-  refused f w = whole g text (Err f) ((run-fault line_cause says run fasta-run all f).1 w)
+  refused f w = ap (λ r. if_ok r (with_lengths g)) ((run-fault line_cause sequences_said after_fasta_line fasta-steps all f).1 w)
 
-  same-value : (a b : Bases) → ◌≡◌ {A = Result Bases LoadFault} (Ok a) (Ok b) → a ≡ b
-  same-value a b is = cc is
+  abbrev IsValue : Bases → Type 0
+  IsValue f = HaveNoCause line_cause all × HaveRightLengths g (sequences_said all) × (f ≡ by_rank g (sequences_said all))
 
-  same-fault : (a b : LoadFault) → ◌≡◌ {A = Result Bases LoadFault} (Err a) (Err b) → a ≡ b
-  same-fault a b is = cc is
+  abbrev IsFault : LoadFault → Type 0
+  IsFault f = IsFirstFault line_cause all f ⊎ (HaveNoCause line_cause all × IsFirstWrongLength g (sequences_said all) f)
 
-  not-both : (a : Bases) (b : LoadFault) → ◌≡◌ {A = Result Bases LoadFault} (Ok a) (Err b) → ⊥
-  not-both a b is = cc is
-
-  value-back : (f : Bases) → HaveNoCause line_cause all × HaveRightLengths g (sequences_said all) × (f ≡ by_rank g (sequences_said all)) → fasta_of g text ≡ Ok f
+  value-back : (f : Bases) → IsValue f → fasta_of g text ≡ Ok f
   value-back f h = decided h.0 ∙ ap (Lengths g (sequences_said all)) h.1 ∙ ap {B = Result Bases LoadFault} Ok (sym h.2)
 
-  fault-back : (f : LoadFault) → IsFirstFault line_cause all f ⊎ (HaveNoCause line_cause all × IsFirstWrongLength g (sequences_said all) f) → fasta_of g text ≡ Err f
+  fault-back : (f : LoadFault) → IsFault f → fasta_of g text ≡ Err f
   fault-back f (inl w) = refused f w
   fault-back f (inr w) = decided w.0 ∙ ap (Lengths g (sequences_said all)) w.1.first ∙ ap {B = Result Bases LoadFault} Err (sym w.1.fault)
 
-  -- one of two: the lines have sequences, or a first line has a cause
-  lined : (r : Result Counted LoadFault) → run 1 (says []) all ≡ r → HaveNoCause line_cause all ⊎ ((f : LoadFault) × IsFirstFault line_cause all f)
-  lined (Ok s) is = inl ((run-value line_cause says run fasta-run all s).0 is).0
-  lined (Err f) is = inr (f, (run-fault line_cause says run fasta-run all f).0 is)
-
-  value-there : (f : Bases) → fasta_of g text ≡ Ok f → HaveNoCause line_cause all × HaveRightLengths g (sequences_said all) × (f ≡ by_rank g (sequences_said all))
-  value-there f is = by (lined (run 1 (says []) all) refl)
+  -- one of two: the lines have a value, or a fault
+  either : (P : Type 0) → ((f : Bases) → IsValue f → P) → ((f : LoadFault) → IsFault f → P) → P
+  either P value fault = by (looked line_cause all)
     where
-      long : HaveNoCause line_cause all → (o : Option (List ℕ × Stretch)) → find (has_wrong_length g) (sequences_said all) ≡ o
-          → HaveNoCause line_cause all × HaveRightLengths g (sequences_said all) × (f ≡ by_rank g (sequences_said all))
-      long none None right = (none, right, same-value _ _ (sym is ∙ decided none ∙ ap (Lengths g (sequences_said all)) right))
-      long none (Some s) wrong = absurd (not-both _ _ (sym is ∙ decided none ∙ ap (Lengths g (sequences_said all)) wrong))
+      long : HaveNoCause line_cause all → (o : Option (List ℕ × Stretch)) → find (has_wrong_length g) (sequences_said all) ≡ o → P
+      long none None right = value (by_rank g (sequences_said all)) (none, right, refl)
+      long none (Some s) wrong = fault (record { line = s.1.line; cause = cause.WrongLength }) (inr (none, record { wrong = s; first = wrong; fault = refl }))
 
-      by : HaveNoCause line_cause all ⊎ ((e : LoadFault) × IsFirstFault line_cause all e) → HaveNoCause line_cause all × HaveRightLengths g (sequences_said all) × (f ≡ by_rank g (sequences_said all))
+      by : HaveNoCause line_cause all ⊎ ((f : LoadFault) × IsFirstFault line_cause all f) → P
       by (inl none) = long none (find (has_wrong_length g) (sequences_said all)) refl
-      by (inr w) = absurd (not-both _ _ (sym is ∙ refused w.0 w.1))
+      by (inr w) = fault w.0 (inl w.1)
 
-  fault-there : (f : LoadFault) → fasta_of g text ≡ Err f → IsFirstFault line_cause all f ⊎ (HaveNoCause line_cause all × IsFirstWrongLength g (sequences_said all) f)
-  fault-there f is = by (lined (run 1 (says []) all) refl)
-    where
-      long : HaveNoCause line_cause all → (o : Option (List ℕ × Stretch)) → find (has_wrong_length g) (sequences_said all) ≡ o
-          → IsFirstFault line_cause all f ⊎ (HaveNoCause line_cause all × IsFirstWrongLength g (sequences_said all) f)
-      long none None right = absurd (not-both _ _ (sym (ap (Lengths g (sequences_said all)) right) ∙ sym (decided none) ∙ is))
-      long none (Some s) wrong = inr (
-        none,
-        record {
-          wrong = s;
-          first = wrong;
-          fault = same-fault _ _ (sym is ∙ decided none ∙ ap (Lengths g (sequences_said all)) wrong);
-        },
-      )
+  value-there : (f : Bases) → fasta_of g text ≡ Ok f → IsValue f
+  value-there f is = either (IsValue f) (λ v w. subst IsValue (same-ok v f (sym (value-back v w) ∙ is)) w) (λ e w. absurd (ok-err f e (sym is ∙ fault-back e w)))
 
-      by : HaveNoCause line_cause all ⊎ ((e : LoadFault) × IsFirstFault line_cause all e) → IsFirstFault line_cause all f ⊎ (HaveNoCause line_cause all × IsFirstWrongLength g (sequences_said all) f)
-      by (inl none) = long none (find (has_wrong_length g) (sequences_said all)) refl
-      by (inr w) = inl (subst (λ (e : LoadFault). IsFirstFault line_cause all e) (same-fault _ _ (sym (refused w.0 w.1) ∙ is)) w.1)
+  fault-there : (f : LoadFault) → fasta_of g text ≡ Err f → IsFault f
+  fault-there f is = either (IsFault f) (λ v w. absurd (ok-err v f (sym (value-back v w) ∙ is))) (λ e w. subst IsFault (same-err {X = Bases} e f (sym (fault-back e w) ∙ is)) w)
 
 pub fasta-value : (g : Sequences) (text : List ℕ) (f : Bases) → (fasta_of g text ≡ Ok f) ↔ (HaveNoCause line_cause (lines text) × HaveRightLengths g (sequences_said (lines text)) × (f ≡ by_rank g (sequences_said (lines text))))
 fasta-value g text f = (value-there g text f, value-back g text f)

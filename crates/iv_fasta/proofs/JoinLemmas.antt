@@ -1,12 +1,12 @@
 -- The lines of bases after a header are joined.
-use Rattle.std.proofs.Common.{◌≡◌, ◌≢◌, ℕ, ◌+◌, ◌++◌, ◌==◌, false, List, [], ◌∷◌, Result, Ok, Err, length, append_assoc, append-nil, refl, sym, ◌∙◌, ap, arith, is_some, true≢false}
+use Rattle.std.proofs.Common.{◌≡◌, ◌≢◌, ℕ, ◌+◌, ◌++◌, ◌==◌, false, List, [], ◌∷◌, Result, Ok, length, append_assoc, append-nil, refl, sym, ◌∙◌, ap, arith, is_some, true≢false}
 use Rattle.std.specs.Prelude.{All}
 use Rattle.std.specs.List.{concat}
 use Rattle.std.proofs.lemmas.Bool.{cond-true, cond-false, ne_eqb}
 use Rattle.std.proofs.lemmas.List.{length_push}
 use Rattle.std.proofs.lemmas.List.Elements.{All-head, All-tail}
 use Rattle.iv_text.specs.declared.fault.LoadCause.{LoadCause}
-use Rattle.iv_text.specs.declared.fault.LoadFault.{LoadFault}
+use Rattle.iv_text.proofs.FileMeaningLemmas.{all-step}
 use Rattle.iv_fasta.specs.Fasta.{Stretch, Found, header_name, with_bases, after_fasta_line}
 use Rattle.iv_fasta.specs.Inside.Drafts.{after_fasta_lines}
 use Rattle.iv_fasta.specs.Inside.Fasta.{IsNewHeader, IsBaseLine, with_joined}
@@ -46,8 +46,7 @@ lines-joined n m found name bases [] rest all =
     ∙ ap (λ (l : List ℕ). after_fasta_lines (n + 0) (found ++ (name, record { line = m; bases = l }) ∷ []) rest) (sym (append-nil bases))
 lines-joined n m found name bases (line ∷ ls) rest all =
     let count : n + 1 + length ls ≡ n + length (line ∷ ls) = omega arith in
-    ap (λ (r : Result Found LoadCause). elim r as (λ _. Result Found LoadFault) [ Ok more ↦ after_fasta_lines (n + 1) more (ls ++ rest) | Err c ↦ Err (record { line = n; cause = c }) ])
-    (line-joined n m found name bases line (All-head IsBaseLine line ls all))
+    all-step after_fasta_line n _ line (ls ++ rest) _ (line-joined n m found name bases line (All-head IsBaseLine line ls all))
     ∙ lines-joined (n + 1) m found name (bases ++ line) ls rest (All-tail IsBaseLine line ls all)
     ∙ ap (λ (k : ℕ). after_fasta_lines k (found ++ (name, record { line = m; bases = (bases ++ line) ++ concat ls }) ∷ []) rest) count
     ∙ ap (λ (l : List ℕ). after_fasta_lines (n + length (line ∷ ls)) (found ++ (name, record { line = m; bases = l }) ∷ []) rest) (append_assoc bases line (concat ls))
@@ -62,6 +61,5 @@ header-joined n found (b ∷ line) is =
 pub joined-lines : (n : ℕ) (found : Found) (header : List ℕ) (base_lines rest : List (List ℕ)) → IsNewHeader found header → All IsBaseLine base_lines
     → after_fasta_lines n found (header ∷ (base_lines ++ rest)) ≡ after_fasta_lines (n + 1 + length base_lines) (with_joined n found header base_lines) rest
 joined-lines n found header base_lines rest is all =
-    ap (λ (r : Result Found LoadCause). elim r as (λ _. Result Found LoadFault) [ Ok more ↦ after_fasta_lines (n + 1) more (base_lines ++ rest) | Err c ↦ Err (record { line = n; cause = c }) ])
-    (header-joined n found header is)
+    all-step after_fasta_line n found header (base_lines ++ rest) _ (header-joined n found header is)
     ∙ lines-joined (n + 1) n found (header_name header) [] base_lines rest all

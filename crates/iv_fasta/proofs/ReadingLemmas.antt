@@ -30,10 +30,6 @@ module _ (g : Sequences) where
       ap (λ (t : List ℕ). outcome old.read.wanted (said g old.read (t ++ (bytes ++ more)))) none
       ∙ ap (outcome old.read.wanted) (refused more (λ e. absurd (false≢true e)))
 
-  -- bytes wait behind others
-  pub kept-so : (p : Progress) (tail bytes more : List ℕ) → read_on g (record { read = p; tail = tail }) (bytes ++ more) ≡ read_on g (record { read = p; tail = tail ++ bytes }) more
-  kept-so p tail bytes more = ap (λ (t : List ℕ). outcome p.wanted (said g p t)) (sym (append_assoc tail bytes more))
-
   -- bytes that waited are taken with the first ones of a piece
   pub carried-so : (p : Progress) (tail none line piece more : List ℕ) (size : ℕ) → none ≡ [] → line ≡ tail ++ take size piece
       → read_on g (record { read = p; tail = tail }) (piece ++ more) ≡ read_on g (record { read = p; tail = none }) (line ++ (drop size piece ++ more))
@@ -42,24 +38,6 @@ module _ (g : Sequences) where
       ∙ ap (λ (t : List ℕ). outcome p.wanted (said g p t)) (sym (append_assoc tail (take size piece) (drop size piece ++ more)))
       ∙ ap (λ (t : List ℕ). outcome p.wanted (said g p (t ++ (drop size piece ++ more)))) (sym is)
       ∙ ap (λ (t : List ℕ). outcome p.wanted (said g p (t ++ (line ++ (drop size piece ++ more))))) (sym empty)
-
-  said-end : (q : Progress) → said g q [] ≡ Ok q.draft
-  said-end q = by q.is_open
-    where
-      by : (is_open : Bool) → cond {A = Result Draft LoadFault} is_open (Ok q.draft) (Ok q.draft) ≡ Ok q.draft
-      by true = refl
-      by false = refl
-
-  -- the bytes that waited are the last ones
-  pub finished-so : (r : Reading) (q : Progress) (size : ℕ) → q.wanted ≡ r.read.wanted → size ≡ length r.tail → Reads g r.read q r.tail size true → read_on g r [] ≡ ended g q.wanted q.draft.sequences
-  finished-so r q size same all reads =
-      ap (outcome r.read.wanted) (reads [] (λ e. refl))
-      ∙ ap (λ (t : List ℕ). outcome r.read.wanted (said g q t)) (append-nil (drop size r.tail) ∙ drop_all size r.tail (omega (arith, all)))
-      ∙ ap (outcome r.read.wanted) (said-end q)
-      ∙ ap (λ (w : Wanted). ended g w q.draft.sequences) (sym same)
-
-  pub refused-last : (r : Reading) (f : LoadFault) → ((more : List ℕ) → (true ≡ true → more ≡ []) → said g r.read (r.tail ++ more) ≡ Err f) → read_on g r [] ≡ Err f
-  refused-last r f refused = ap (outcome r.read.wanted) (refused [] (λ e. refl))
 
   -- a whole text is read as one piece
   pub text-so : (old : Reading) (text : List ℕ) → ((text : List ℕ) → read_on g old text ≡ only_or_fault None (fasta_of g text)) → read_on g old (text ++ []) ≡ fasta_of g text

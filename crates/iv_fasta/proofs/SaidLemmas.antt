@@ -154,19 +154,16 @@ module _ (g : Sequences) (wanted : Wanted) where
   later n others (Ok more) = after_lines g wanted (n + 1) more others
   later n others (Err c) = Err (record { line = n; cause = c })
 
+  next-later : (n : ℕ) (others : List (List ℕ)) (r : Result Draft LoadCause)
+      → elim r as (λ _. Result Draft LoadFault) [ Ok more ↦ after_lines g wanted (n + 1) more others | Err c ↦ Err (record { line = n; cause = c }) ] ≡ later n others r
+  next-later n others (Ok more) = refl
+  next-later n others (Err c) = refl
+
   line-later : (n : ℕ) (d : Draft) (line : List ℕ) (others : List (List ℕ)) → after_lines g wanted n d (line ∷ others) ≡ later n others (after_line g wanted n d line)
-  line-later n d line others = by (after_line g wanted n d line)
-    where
-      by : (r : Result Draft LoadCause) → elim r as (λ _. Result Draft LoadFault) [ Ok more ↦ after_lines g wanted (n + 1) more others | Err c ↦ Err (record { line = n; cause = c }) ] ≡ later n others r
-      by (Ok more) = refl
-      by (Err c) = refl
+  line-later n d line others = next-later n others (after_line g wanted n d line)
 
   rest-later : (n : ℕ) (d : Draft) (line : List ℕ) (others : List (List ℕ)) → after_rest g wanted n d (line ∷ others) ≡ later n others (with_rest d line)
-  rest-later n d line others = by (with_rest d line)
-    where
-      by : (r : Result Draft LoadCause) → elim r as (λ _. Result Draft LoadFault) [ Ok more ↦ after_lines g wanted (n + 1) more others | Err c ↦ Err (record { line = n; cause = c }) ] ≡ later n others r
-      by (Ok more) = refl
-      by (Err c) = refl
+  rest-later n d line others = next-later n others (with_rest d line)
 
   line-empty : (n : ℕ) (d : Draft) → after_line g wanted n d [] ≡ Ok d
   unfolding after_line
@@ -295,28 +292,15 @@ module _ (g : Sequences) where
       first-same : (a b : List ℕ) (more rest : List (List ℕ)) → a ∷ more ≡ b ∷ rest → a ≡ b
       first-same a b more rest e = cc
 
-  abbrev headed : Progress → Draft → Progress
-  headed p d = record { number = p.number + 1; is_open = false; wanted = p.wanted; draft = d; count = p.count }
-
-  pub header-reads : (p : Progress) (d : Draft) (text line more : List ℕ) (next : ℕ) → p.is_open ≡ false → 0 < length text → get_or text 0 0 ≡ 62 → lines (text ++ more) ≡ line ∷ lines (drop next text ++ more)
-      → with_header g p.wanted p.number p.draft (header_name line) ≡ Ok d → said g p (text ++ more) ≡ said g (headed p d) (drop next text ++ more)
-  header-reads p d text line more next closed some is first taken =
+  pub header-said : (p : Progress) (r : Result Draft LoadCause) (text line more : List ℕ) (next : ℕ) → p.is_open ≡ false → 0 < length text → get_or text 0 0 ≡ 62 → lines (text ++ more) ≡ line ∷ lines (drop next text ++ more)
+      → with_header g p.wanted p.number p.draft (header_name line) ≡ r → said g p (text ++ more) ≡ later g p.wanted p.number (lines (drop next text ++ more)) r
+  header-said p r text line more next closed some is first gives =
       let begins = header-line text more line next some is first in
       ap (λ (is_open : Bool). known g p.wanted is_open p.number p.draft (lines (text ++ more))) closed
       ∙ ap (after_lines g p.wanted p.number p.draft) first
       ∙ line-later g p.wanted p.number p.draft line (lines (drop next text ++ more))
       ∙ ap (later g p.wanted p.number (lines (drop next text ++ more)))
-      (ap (after_line g p.wanted p.number p.draft) begins.1 ∙ line-header g p.wanted p.number p.draft begins.0 ∙ sym (ap (λ (l : List ℕ). with_header g p.wanted p.number p.draft (header_name l)) begins.1) ∙ taken)
-
-  pub header-refused : (p : Progress) (why : LoadCause) (text line more : List ℕ) (next : ℕ) → p.is_open ≡ false → 0 < length text → get_or text 0 0 ≡ 62 → lines (text ++ more) ≡ line ∷ lines (drop next text ++ more)
-      → with_header g p.wanted p.number p.draft (header_name line) ≡ Err why → said g p (text ++ more) ≡ Err (record { line = p.number; cause = why })
-  header-refused p why text line more next closed some is first refused =
-      let begins = header-line text more line next some is first in
-      ap (λ (is_open : Bool). known g p.wanted is_open p.number p.draft (lines (text ++ more))) closed
-      ∙ ap (after_lines g p.wanted p.number p.draft) first
-      ∙ line-later g p.wanted p.number p.draft line (lines (drop next text ++ more))
-      ∙ ap (later g p.wanted p.number (lines (drop next text ++ more)))
-      (ap (after_line g p.wanted p.number p.draft) begins.1 ∙ line-header g p.wanted p.number p.draft begins.0 ∙ sym (ap (λ (l : List ℕ). with_header g p.wanted p.number p.draft (header_name l)) begins.1) ∙ refused)
+      (ap (after_line g p.wanted p.number p.draft) begins.1 ∙ line-header g p.wanted p.number p.draft begins.0 ∙ sym (ap (λ (l : List ℕ). with_header g p.wanted p.number p.draft (header_name l)) begins.1) ∙ gives)
 
   -- nothing is read
   pub none-read : (p : Progress) (text : List ℕ) (is_last : Bool) → Reads g p p text 0 is_last

@@ -51,8 +51,8 @@ module _ (g : Sequences) (wanted : Wanted) where
   names-summed [] = refl
   names-summed (s ∷ found) = ap (λ (l : List (List ℕ)). s.0 ∷ l) (names-summed found)
 
-  place-summed : (found : Found) (name : List ℕ) → name_index (summed_all found) name ≡ name_index found name
-  place-summed found name = ap (position (bytes_eq name)) (names-summed found)
+  index-summed : (found : Found) (name : List ℕ) → name_index (summed_all found) name ≡ name_index found name
+  index-summed found name = ap (position (bytes_eq name)) (names-summed found)
 
   empty-either : (b : Bool) → cond {A = List ℕ} b [] [] ≡ []
   empty-either true = refl
@@ -73,7 +73,7 @@ module _ (g : Sequences) (wanted : Wanted) where
   header-along : (n : ℕ) (found : Found) (name : List ℕ) → with_header g wanted n (summed found) name ≡ along (with_sequence n found name)
   header-along n found name =
       ap (λ (r : Result Draft LoadCause). cond (bad_name name) (Err cause.Name) r)
-      (ap (λ (o : Option ℕ). cond {A = Result Draft LoadCause} (is_some o) (Err cause.Repeated) (Ok (record { sequences = summed_all found ++ (name, record { line = n; count = 0; bases = [] }) ∷ []; holds = held name }))) (place-summed found name)
+      (ap (λ (o : Option ℕ). cond {A = Result Draft LoadCause} (is_some o) (Err cause.Repeated) (Ok (record { sequences = summed_all found ++ (name, record { line = n; count = 0; bases = [] }) ∷ []; holds = held name }))) (index-summed found name)
       ∙ ap (λ (r : Result Draft LoadCause). cond (is_some (name_index found name)) (Err cause.Repeated) r)
       (pair-up _ _ _ _ (sym (summed-push found name n)) (sym (last-push found name (record { line = n; bases = [] }))))
       ∙ sym (along-cond (is_some (name_index found name)) _ _))

@@ -17,7 +17,7 @@ use std::marker::Model;
 /// its byte in the file, or nothing if the file lacks the sequence.
 #[derive(Drop)]
 pub struct Fasta<A: Allocator = Global> {
-    places: Vec<Option<BaseRange>, A>,
+    ranges: Vec<Option<BaseRange>, A>,
     bases: Vec<u8, A>,
 }
 
@@ -28,16 +28,16 @@ impl<A: Allocator> Model for Fasta<A> {
 
     ghost Value = { Bases };
 
-    ghost view = { λ f. placed f.places.items f.bases.items };
+    ghost view = { λ f. placed f.ranges.items f.bases.items };
 
-    ghost invariant = { λ f. All (IsPlacedWithin (length f.bases.items)) f.places.items };
+    ghost invariant = { λ f. All (IsPlacedWithin (length f.bases.items)) f.ranges.items };
 }
 
 /// The range at this rank, if there is one.
-fn range_in<A: Allocator>(places: &Vec<Option<BaseRange>, A>, seq: u32) -> Option<BaseRange>
-    ensures { result ≡ unwrap_or (slice_get places.now.items seq) None }
+fn range_in<A: Allocator>(ranges: &Vec<Option<BaseRange>, A>, seq: u32) -> Option<BaseRange>
+    ensures { result ≡ unwrap_or (slice_get ranges.now.items seq) None }
 {
-    *places.get(seq as usize)?
+    *ranges.get(seq as usize)?
 }
 
 impl<A: Allocator + Copy> Fasta<A> {
@@ -62,12 +62,12 @@ impl<A: Allocator + Copy> Fasta<A> {
         Ok(fasta)
     }
 
-    /// The bases at these places.
-    pub(crate) fn of(places: Vec<Option<BaseRange>, A>, bases: Vec<u8, A>) -> Self
-        requires { All (IsPlacedWithin (length bases.items)) places.items }
-        ensures { result ≡ placed places.items bases.items }
+    /// The bases in these ranges.
+    pub(crate) fn of(ranges: Vec<Option<BaseRange>, A>, bases: Vec<u8, A>) -> Self
+        requires { All (IsPlacedWithin (length bases.items)) ranges.items }
+        ensures { result ≡ placed ranges.items bases.items }
     {
-        Fasta { places, bases }
+        Fasta { ranges, bases }
     }
 
     /// Whether it has the sequence of this rank.
@@ -75,15 +75,15 @@ impl<A: Allocator + Copy> Fasta<A> {
     pub fn covers(&self, seq: u32) -> bool
         ensures { result ≡ is_some (bases_of self.now seq) }
     {
-        range_in(&self.places, seq).is_some()
+        range_in(&self.ranges, seq).is_some()
     }
 
     /// How many bases the sequence of this rank has, if the file has it.
     pub fn length(&self, seq: u32) -> Option<u64>
         ensures { result ≡ option_map length (bases_of self.now seq) }
     {
-        let place = range_in(&self.places, seq)?;
-        Some((place.stop - place.start) as u64)
+        let range = range_in(&self.ranges, seq)?;
+        Some((range.stop - range.start) as u64)
     }
 
     /// The bases of the sequence of this rank from `start` to `stop`, which is not included, if the file has it.
@@ -92,10 +92,10 @@ impl<A: Allocator + Copy> Fasta<A> {
     pub fn bases(&self, seq: u32, start: u64, stop: u64) -> Option<&[u8]>
         ensures { option_copied result ≡ option_map (λ bases. slice_range bases start stop) (bases_of self.now seq) }
     {
-        let place = range_in(&self.places, seq)?;
-        let length = place.stop - place.start;
+        let range = range_in(&self.ranges, seq)?;
+        let length = range.stop - range.start;
         let to = length.min(stop as usize);
         let from = to.min(start as usize);
-        Some(&self.bases[place.start + from..place.start + to])
+        Some(&self.bases[range.start + from..range.start + to])
     }
 }

@@ -1,11 +1,11 @@
-//! What is held of a FASTA file while it is read, line by line.
+//! What is held of a FASTA file of which some bytes were read.
 ghost use Rattle.std.specs.Prelude.{◌≡◌, ◌≢◌, ◌≤◌, ◌<◌, ◌+◌, ◌^◌, ◌⊎◌, ◌++◌, ◌==◌, ◌||◌, not, ℕ, List, Bool, cond, [], None, Some, false, true, Ok, Err, IfOk, IfErr, OnOk, All, length, slice_index};
 ghost use Rattle.std.specs.Option.{option_map};
 ghost use Rattle.iv_text.specs.declared.fault.LoadCause.TheVariants as cause;
 ghost use Rattle.iv_text.specs.Genome.{Sequences};
 ghost use Rattle.iv_fasta.specs.FastaReading.{is_held, said, with_header, ended};
 ghost use Rattle.iv_fasta.specs.Inside.BaseRanges.{placed, IsPlacedWithin};
-ghost use Rattle.iv_fasta.specs.Inside.Drafts.{begun_with, lacks_a_header, refusal_of, with_line_end, Reads, Refuses, IsInLine};
+ghost use Rattle.iv_fasta.specs.Inside.Drafts.{begun_with, lacks_a_header, refusal_of, with_line_end, Reads, Refuses, IsInLine, TakesBytes};
 
 use crate::base_counts::{count_bases, is_bad};
 use crate::header_lines::{ended_line, name_in};
@@ -108,9 +108,7 @@ impl<A: Allocator + Copy> FastaDraft<A> {
         requires closed { self.old.is_open ≡ false }
         requires few { self.old.number + self.old.count + length text.now < 2 ^ 64 }
         ensures some { is_last ≡ true → IfOk result (λ size. 0 < size) }
-        ensures within { IfOk result (λ size. size ≤ length text.now) }
-        ensures few { IfOk result (λ size. self.new.number + self.new.count ≤ self.old.number + self.old.count + size) }
-        ensures wanted { self.new.wanted ≡ self.old.wanted }
+        ensures taken { TakesBytes self.old self.new text.now result }
         ensures ok { IfOk result (λ size. Reads genome.now self.old self.new text.now size is_last) }
         ensures err { IfErr result (λ c. (c ≡ cause.Memory) ⊎ Refuses genome.now self.old text.now c is_last) }
     {
@@ -146,9 +144,7 @@ impl<A: Allocator + Copy> FastaDraft<A> {
         requires begins { slice_index text.now 0 ≡ 13 }
         requires few { self.old.number + length text.now < 2 ^ 64 }
         ensures some { is_last ≡ true → IfOk result (λ size. 0 < size) }
-        ensures within { IfOk result (λ size. size ≤ length text.now) }
-        ensures few { IfOk result (λ size. self.new.number + self.new.count ≤ self.old.number + self.old.count + size) }
-        ensures wanted { self.new.wanted ≡ self.old.wanted }
+        ensures taken { TakesBytes self.old self.new text.now result }
         ensures ok { IfOk result (λ size. (g : Sequences) → Reads g self.old self.new text.now size is_last) }
         ensures err { IfErr result (λ c. (g : Sequences) → Refuses g self.old text.now c is_last) }
     {
@@ -171,9 +167,7 @@ impl<A: Allocator + Copy> FastaDraft<A> {
         requires open { self.old.is_open ≡ false → slice_index text.now 0 ≢ 62 }
         requires few { self.old.count + length text.now < 2 ^ 64 }
         ensures some { IfOk result (λ size. 0 < size) }
-        ensures within { IfOk result (λ size. size ≤ length text.now) }
-        ensures few { IfOk result (λ size. self.new.number + self.new.count ≤ self.old.number + self.old.count + size) }
-        ensures wanted { self.new.wanted ≡ self.old.wanted }
+        ensures taken { TakesBytes self.old self.new text.now result }
         ensures ok { IfOk result (λ size. (g : Sequences) (is_last : Bool) → Reads g self.old self.new text.now size is_last) }
         ensures err { IfErr result (λ c. (c ≡ cause.Memory) ⊎ ((g : Sequences) (is_last : Bool) → Refuses g self.old text.now c is_last)) }
     {
@@ -201,9 +195,7 @@ impl<A: Allocator + Copy> FastaDraft<A> {
         requires some { 0 < length text.now }
         requires few { self.old.number + self.old.count + length text.now < 2 ^ 64 }
         ensures some { is_last ≡ true → IfOk result (λ size. 0 < size) }
-        ensures within { IfOk result (λ size. size ≤ length text.now) }
-        ensures few { IfOk result (λ size. self.new.number + self.new.count ≤ self.old.number + self.old.count + size) }
-        ensures wanted { self.new.wanted ≡ self.old.wanted }
+        ensures taken { TakesBytes self.old self.new text.now result }
         ensures ok { IfOk result (λ size. Reads genome.now self.old self.new text.now size is_last) }
         ensures err { IfErr result (λ c. (c ≡ cause.Memory) ⊎ Refuses genome.now self.old text.now c is_last) }
     {
@@ -230,10 +222,8 @@ impl<A: Allocator + Copy> FastaDraft<A> {
         is_last: bool,
     ) -> Result<usize, LoadFault>
         requires few { self.old.number + self.old.count + length text.now < 2 ^ 64 }
-        ensures within { IfOk result (λ size. size ≤ length text.now) }
-        ensures few { IfOk result (λ size. self.new.number + self.new.count ≤ self.old.number + self.old.count + size) }
+        ensures taken { TakesBytes self.old self.new text.now result }
         ensures all { is_last ≡ true → IfOk result (λ size. size ≡ length text.now) }
-        ensures wanted { self.new.wanted ≡ self.old.wanted }
         ensures ok { IfOk result (λ size. Reads genome.now self.old self.new text.now size is_last) }
         ensures err { IfErr result (λ f. (f ≡ record { line = 0; cause = cause.Memory }) ⊎ ((more : List ℕ) → (is_last ≡ true → more ≡ []) → said genome.now self.old (text.now ++ more) ≡ Err f)) }
     {
@@ -261,7 +251,7 @@ impl<A: Allocator + Copy> FastaDraft<A> {
     {
         let FastaDraft { wanted, held, .. } = self;
         held.check_lengths(genome)?;
-        let places = held.ranges(alloc, genome, &wanted)?;
-        Ok((places, held.into_bases()))
+        let ranges = held.ranges(alloc, genome, &wanted)?;
+        Ok((ranges, held.into_bases()))
     }
 }

@@ -16,8 +16,8 @@ use std::mem;
 
 /// A FASTA file that comes in pieces, and what is held of it: the bases of the wanted sequences that the genome names.
 ///
-/// A line may begin in one piece and end in another. Of a header that hasn't ended the bytes are held until its end comes; bases
-/// go to those that are held at once. So no text is held.
+/// A line may begin in one piece and end in another. Of a header that hasn't ended the bytes are held until its end comes, and
+/// so is a CR at the end of a piece; bases go to those that are held at once. No other text is held.
 #[derive(Drop)]
 pub struct FastaReader<A: Allocator> {
     alloc: A,
@@ -138,7 +138,7 @@ impl<A: Allocator + Copy> FastaReader<A> {
             tail,
         } = self;
         draft.take_text(alloc, genome, tail.as_slice(), true)?;
-        let (places, bases) = draft.finish(alloc, genome)?;
-        Ok(Fasta::of(places, bases))
+        let (ranges, bases) = draft.finish(alloc, genome)?;
+        Ok(Fasta::of(ranges, bases))
     }
 }

@@ -9,7 +9,7 @@ ghost use Rattle.iv_fasta.specs.Fasta.{bases_of};
 ghost use Rattle.iv_fasta.specs.FastaReading.{Summary, Wanted, is_wanted, only, with_part, has_other_count, held_by_rank, ended};
 ghost use Rattle.iv_fasta.specs.Inside.FastaMeaning.{differs as differs_in};
 ghost use Rattle.iv_fasta.specs.Inside.BaseRanges.{bases_at, placed, EndsWithin, IsPlacedWithin};
-ghost use Rattle.iv_fasta.specs.Inside.Drafts.{cut, end_at, count_at, StartInOrder, StartInOrder-prop, CountInOrder, CountInOrder-prop, sequence_at};
+ghost use Rattle.iv_fasta.specs.Inside.Drafts.{cut, number_at, AreRising, AreRising-prop, sequence_at};
 
 use iv_text::{ContentSeed, Genome, LoadCause, LoadFault, NameMap};
 use std::alloc::{AllocError, Allocator};
@@ -40,8 +40,8 @@ pub(crate) struct HeldSequences<A: Allocator> {
     pub(crate) bases: Vec<u8, A>,
     // How many bases there were.
     pub(crate) count: u64,
-    ghost in_order: { StartInOrder 0 headers (length bases.items) } by { StartInOrder-prop 0 headers (length bases.items) },
-    ghost counted: { CountInOrder 0 headers count } by { CountInOrder-prop 0 headers count },
+    ghost in_order: { AreRising (λ h. h.start) 0 headers (length bases.items) } by { AreRising-prop (λ h. h.start) 0 headers (length bases.items) },
+    ghost counted: { AreRising (λ h. h.before) 0 headers count } by { AreRising-prop (λ h. h.before) 0 headers count },
 }
 
 /// So few names take no time, whether or not they collide.
@@ -158,11 +158,11 @@ impl<A: Allocator + Copy> HeldSequences<A> {
     }
 
     /// Where the bases before the header at an index end, among those that are held, and how many bases there were before it.
-    fn end_before(&self, place: usize) -> (usize, u64)
-        ensures stop { result.0 ≡ end_at (slice_get self.now.headers place) (length self.now.bases.items) }
-        ensures before { result.1 ≡ count_at (slice_get self.now.headers place) self.now.count }
+    fn end_before(&self, index: usize) -> (usize, u64)
+        ensures stop { result.0 ≡ number_at (λ h. h.start) (slice_get self.now.headers index) (length self.now.bases.items) }
+        ensures before { result.1 ≡ number_at (λ h. h.before) (slice_get self.now.headers index) self.now.count }
     {
-        match self.headers.at(place) {
+        match self.headers.at(index) {
             Some((_, header)) => (header.start, header.before),
             None => (self.held_count(), self.count),
         }
@@ -170,13 +170,13 @@ impl<A: Allocator + Copy> HeldSequences<A> {
 
     /// The sequence at this index: its name, the number of its header's line, how many bases it has, and where those lie that are
     /// held.
-    fn sequence(&self, place: usize) -> Option<(&[u8], u64, u64, BaseRange)>
-        ensures value { option_map (λ s. (s.0.now, sequence_at self.now.bases.items s.1 s.2 s.3)) result ≡ slice_get (cut self.now.headers self.now.bases.items self.now.count) place }
+    fn sequence(&self, index: usize) -> Option<(&[u8], u64, u64, BaseRange)>
+        ensures value { option_map (λ s. (s.0.now, sequence_at self.now.bases.items s.1 s.2 s.3)) result ≡ slice_get (cut self.now.headers self.now.bases.items self.now.count) index }
         ensures within { IfSome result (λ s. EndsWithin (length self.now.bases.items) s.3) }
     {
-        let (name, header) = self.headers.at(place)?;
+        let (name, header) = self.headers.at(index)?;
         let start = header.start;
-        let (stop, before) = self.end_before(place + 1);
+        let (stop, before) = self.end_before(index + 1);
         Some((
             name,
             header.line,
@@ -190,8 +190,8 @@ impl<A: Allocator + Copy> HeldSequences<A> {
         ensures ok { OnOk result (find (has_other_count genome.now) (cut self.now.headers self.now.bases.items self.now.count) ≡ None) }
         ensures err { IfErr result (λ f. (wanted : Wanted) → ended genome.now wanted (cut self.now.headers self.now.bases.items self.now.count) ≡ Err f) }
     {
-        for place in 0..self.headers.len() {
-            let Some((name, line, count, _)) = self.sequence(place) else {
+        for index in 0..self.headers.len() {
+            let Some((name, line, count, _)) = self.sequence(index) else {
                 break;
             };
             if differs(genome, name, count) {
@@ -207,7 +207,7 @@ impl<A: Allocator + Copy> HeldSequences<A> {
         ensures within { IsPlacedWithin (length self.now.bases.items) result }
     {
         match self.headers.index_of(name) {
-            Some(place) => match self.sequence(place) {
+            Some(index) => match self.sequence(index) {
                 Some((_, _, _, bases)) => Some(bases),
                 None => None,
             },
@@ -251,15 +251,15 @@ impl<A: Allocator + Copy> HeldSequences<A> {
         genome: &Genome<A>,
         wanted: &Option<Vec<bool, A>>,
     ) -> Result<Vec<Option<BaseRange>, A>, AllocError>
-        ensures value { IfOk result (λ places. placed places.items self.now.bases.items
+        ensures value { IfOk result (λ ranges. placed ranges.items self.now.bases.items
             ≡ only (option_map (λ ranks. ranks.items) wanted.now) (held_by_rank genome.now (cut self.now.headers self.now.bases.items self.now.count))) }
-        ensures within { IfOk result (λ places. All (IsPlacedWithin (length self.now.bases.items)) places.items) }
+        ensures within { IfOk result (λ ranges. All (IsPlacedWithin (length self.now.bases.items)) ranges.items) }
     {
-        let mut places = Vec::new(alloc);
+        let mut ranges = Vec::new(alloc);
         for rank in 0..genome.count() {
-            places.push(self.wanted_range_at(genome, wanted, rank))?;
+            ranges.push(self.wanted_range_at(genome, wanted, rank))?;
         }
-        Ok(places)
+        Ok(ranges)
     }
 
     /// The bases that are held. Memory that they don't take is given back.

@@ -1,4 +1,4 @@
-//! The FASTA file of a session, and the rows that are made with it: getfasta.
+//! The FASTA file of a session or a run, and the rows of getfasta.
 #![tactic(auto)]
 
 mod base_counts;

@@ -1,19 +1,16 @@
 //! The hint on a damaged file.
-use crate::faulty_record::{FaultyRecord, NO_NUMBER, SPACED, TOO_LONG, faulty_column};
 use crate::file_kinds::{BYTE_ORDER_MARK, HEADING, kind_of_any, kind_of_bed, kind_of_gzip};
-use crate::hint::{Hint, Value, Values};
-use crate::records::{column, count_columns, field, first_record, has_name, is_number};
-use crate::values::{is_spaced, shown};
+use crate::hint::{Escaped, Hint, said, say, shown};
+use crate::records::{
+    alike_in, column, count_columns, field, first_record, has_name, is_number, length_in,
+};
+use crate::values::{SPACES_AWAY, is_spaced, put_length, put_no_number, put_spaced};
 use iv_args::Slot;
-use iv_text::{Fault, LoadCause, LoadFault, read_number};
+use iv_text::{Fault, LoadCause, LoadFault};
 use std::alloc::AllocError;
 
 /// How many columns of a quoted line are shown.
 const MOST_COLUMNS: usize = 60;
-
-/// That the second column is a sequence.
-const SHIFTED: &[u8] =
-    b"column 2, {second}, is a sequence of the genome file: it is column 1 of a BED file\n{unshifted}";
 
 /// A damaged file: its name, its first fault, the text of the faulty line, the front of the file and that of the genome file.
 #[derive(Clone, Copy)]
@@ -47,227 +44,202 @@ fn quoted_front(line: &[u8]) -> &[u8] {
     line
 }
 
-/// What changes the first name of a line into the second: for which lines, the old front and the new one, and what follows both.
-fn renaming<'a>(name: &'a [u8], known: &'a [u8]) -> [&'a [u8]; 4] {
-    if known.strip_prefix(b"chr") == Some(name) {
-        [b"/^#/!", b"", b"chr", b""]
-    } else if name.strip_prefix(b"chr") == Some(known) {
-        [b"", b"chr", b"", b""]
-    } else if let (Some(front), true) = (name.get(..3), known.starts_with(b"chr")) {
-        [b"", front, b"chr", b""]
-    } else {
-        [b"", name, known, b"\\t"]
+/// What is wrong with a FASTA file.
+fn bases_text(cause: LoadCause) -> &'static str {
+    match cause {
+        LoadCause::BasesFirst => "a FASTA file begins with > and a name; is it another file?",
+        LoadCause::Base =>
+            "a base is a character without a space: sed '/^>/!s/ *$//' FILE takes spaces away at the end",
+        LoadCause::WrongLength =>
+            "the genome file has another length for it: take the .fai of the FASTA file as genome file",
+        LoadCause::Repeated => "each sequence comes once: delete one of the two",
+        _ => "a name follows > at once, and has no CR",
     }
 }
 
 impl<'a> Damage<'a> {
+    /// A column of the line, counted from 0; nothing if it isn't there.
+    fn field(&self, number: usize) -> &'a [u8] {
+        field(self.line, number)
+    }
+
     /// Puts the line, what it looks like and what to do.
     pub(crate) fn put(&self, hint: &mut Hint) -> Result<(), AllocError> {
         if self.line.is_empty() {
-            return hint.say(
-                b"the line isn't shown, since a pipe can't be read twice: write it into a file, and give that",
-            );
+            return say!(hint; "the line isn't shown, since a pipe can't be read twice: write it into a file, and give that");
         }
-        hint.put(b"line {line}: {quoted}{more}", self)?;
-        hint.put(self.text(), self)
-    }
-
-    /// The faulty record, or line of a genome file.
-    fn record(&self) -> FaultyRecord<'a> {
-        let (faulty, subject) = match self.fault.cause {
-            LoadCause::Record(fault) => faulty_column(fault.code()),
-            _ => (1, b"the length".as_slice()),
+        let quoted = quoted_front(self.line);
+        let more = if quoted.len() < self.line.len() {
+            " .."
+        } else {
+            ""
         };
-        FaultyRecord {
-            line: self.line,
-            begin: 0,
-            faulty,
-            subject,
-            genome: self.genome,
-            is_of_file: true,
-        }
-    }
-
-    /// What the file looks like, or what is wrong with the line.
-    fn text(&self) -> &'static [u8] {
+        say!(hint; "line {}: {}{more}", self.fault.line, Escaped(quoted))?;
         let kind = match self.slot {
             Slot::Sizes => kind_of_any(self.name, self.front, self.line),
             Slot::First | Slot::Other => kind_of_bed(self.name, self.front, self.line),
             Slot::Bases => kind_of_gzip(self.name, self.front),
         };
         match (self.slot, self.fault.cause) {
-            _ if !kind.is_empty() => kind,
-            (Slot::Sizes, _) => self.genome_text(),
-            (Slot::Bases, _) => self.bases_text(),
-            (_, LoadCause::Record(fault)) => self.record_text(fault),
-            _ => self.columns_text(),
+            _ if !kind.is_empty() => hint.put(kind),
+            (Slot::Sizes, cause) => self.put_genome(cause, hint),
+            (Slot::Bases, cause) => hint.put(bases_text(cause)),
+            (_, LoadCause::Record(fault)) => self.put_record(fault, hint),
+            _ => self.put_columns(hint),
         }
     }
 
-    /// What is wrong with a record.
-    fn record_text(&self, fault: Fault) -> &'static [u8] {
+    /// Puts what is wrong with a record.
+    fn put_record(&self, fault: Fault, hint: &mut Hint) -> Result<(), AllocError> {
+        let (start, end) = (Escaped(self.field(1)), Escaped(self.field(2)));
         match fault {
-            Fault::UnknownSeq => self.unknown_text(),
-            Fault::PastEnd => b"{name} has {length} bases in the genome file\n{assembly}",
-            Fault::Order if field(self.line, 1) == field(self.line, 2) => {
-                b"the start has to be below the end, and both are {start}: the record has no base\nawk -F '\\t' 'NF < 3 || $2 != $3' FILE leaves such records out"
+            Fault::UnknownSeq => self.put_unknown(hint),
+            Fault::PastEnd => self.put_past_end(hint),
+            Fault::Order if self.field(1) == self.field(2) =>
+                say!(hint; "the start has to be below the end, and both are {start}: the record has no base\nawk -F '\\t' 'NF < 3 || $2 != $3' FILE leaves such records out"),
+            Fault::Order => {
+                say!(hint; "the start has to be below the end: {start} is above {end}")?;
+                hint.put(
+                    "awk -F '\\t' -v OFS='\\t' '$2 > $3 { t = $2; $2 = $3; $3 = t } 1' FILE exchanges the two; '$2 < $3' leaves the record out",
+                )
             }
-            Fault::Order =>
-                b"the start has to be below the end: {start} is above {end}\nawk -F '\\t' -v OFS='\\t' '$2 > $3 { t = $2; $2 = $3; $3 = t } 1' FILE exchanges the two; '$2 < $3' leaves the record out",
-            Fault::StartNumber | Fault::StopNumber => NO_NUMBER,
-            Fault::Name => self.empty_text(3),
-            Fault::Score => self.empty_text(4),
-            Fault::Strand => self.strand_text(),
-            _ => self.columns_text(),
+            Fault::StartNumber => put_no_number("the start", self.field(1), true, hint),
+            Fault::StopNumber => put_no_number("the end", self.field(2), true, hint),
+            Fault::Name => self.put_empty(3, hint),
+            Fault::Score => self.put_empty(4, hint),
+            Fault::Strand => self.put_strand(hint),
+            _ => self.put_columns(hint),
         }
     }
 
-    /// How many columns the line has, and how many it should.
-    fn columns_text(&self) -> &'static [u8] {
+    /// Puts how many columns the line has, and how many it should.
+    fn put_columns(&self, hint: &mut Hint) -> Result<(), AllocError> {
         let count = count_columns(self.line);
-        if matches!(self.fault.cause, LoadCause::Record(_)) && first_record(self.front).is_some() {
-            b"columns of this line: {columns}; of the first record: {first}; cut -f1-3 FILE makes lines alike"
-        } else if is_number(self.line, 1) && count == 2 {
-            b"columns of this line: 2; it looks like a line of a genome file, which comes after -g; a BED file has 3 to 6"
-        } else if count > 3 && self.is_shifted() {
-            SHIFTED
-        } else {
-            b"columns of this line, separated by TABs: {columns}; a BED file has 3 to 6"
+        match (self.fault.cause, first_record(self.front)) {
+            (LoadCause::Record(_), Some(record)) =>
+                say!(hint; "columns of this line: {count}; of the first record: {}; cut -f1-3 FILE makes lines alike", count_columns(record)),
+            _ if is_number(self.line, 1) && count == 2 =>
+                say!(hint; "columns of this line: 2; it looks like a line of a genome file, which comes after -g; a BED file has 3 to 6"),
+            _ if count > 3 && self.is_shifted() => self.put_shifted(hint),
+            _ =>
+                say!(hint; "columns of this line, separated by TABs: {count}; a BED file has 3 to 6"),
         }
     }
 
     /// Whether the second column is a sequence.
     fn is_shifted(&self) -> bool {
-        has_name(self.genome, field(self.line, 1))
+        has_name(self.genome, self.field(1))
     }
 
-    /// What brings shifted columns into their order.
-    fn unshifted_text(&self) -> &'static [u8] {
-        match count_columns(self.line) {
+    /// Puts that the second column is a sequence.
+    fn put_shifted(&self, hint: &mut Hint) -> Result<(), AllocError> {
+        say!(hint; "column 2, {}, is a sequence of the genome file: it is column 1 of a BED file", shown(self.field(1)))?;
+        hint.put(match count_columns(self.line) {
             4 =>
-                b"awk -F '\\t' -v OFS='\\t' '{ print $2, $3, $4, $1 }' FILE makes the first column the name",
-            _ => b"cut -f2- FILE leaves the first column out",
-        }
+                "awk -F '\\t' -v OFS='\\t' '{ print $2, $3, $4, $1 }' FILE makes the first column the name",
+            _ => "cut -f2- FILE leaves the first column out",
+        })
     }
 
-    /// What is wrong with a name that the genome file lacks.
-    fn unknown_text(&self) -> &'static [u8] {
+    /// Puts what is wrong with a name that the genome file lacks.
+    fn put_unknown(&self, hint: &mut Hint) -> Result<(), AllocError> {
+        let name = self.field(0);
         if self.genome.starts_with(BYTE_ORDER_MARK) {
-            b"the genome file begins with a byte order mark: sed '1s/^\xEF\xBB\xBF//' takes it away"
+            say!(hint; "the genome file begins with a byte order mark: sed '1s/^\\xef\\xbb\\xbf//' takes it away")
         } else if first_record(self.genome).is_none() {
-            b"the genome file is empty: it has a name, a TAB and a length on each line"
-        } else if is_spaced(field(self.line, 0)) {
-            SPACED
+            say!(hint; "the genome file is empty: it has a name, a TAB and a length on each line")
+        } else if is_spaced(name) {
+            put_spaced("the name", name, hint)?;
+            hint.put(SPACES_AWAY)
         } else if self.is_shifted() {
-            SHIFTED
-        } else if self.record().known().is_some() {
-            b"the genome file has no {name}, and has {known}\nnames have to be the same: sed '{address}s/^{old}{tab}/{new}{tab}/' FILE"
+            self.put_shifted(hint)
+        } else if let Some(known) = alike_in(self.genome, name) {
+            put_renaming(name, known, hint)
         } else {
-            b"the genome file has no {name}: take the genome file of this assembly, or add a line to it"
+            say!(hint; "the genome file has no {}: take the genome file of this assembly, or add a line to it", Escaped(name))
         }
     }
 
-    /// What is wrong with a strand.
-    fn strand_text(&self) -> &'static [u8] {
-        let value = field(self.line, 5);
-        if is_spaced(value) && matches!(value.trim_ascii(), b"+" | b"-" | b".") {
-            b"column 6 has a space at an end: \"{shown}\"\n{away}"
-        } else if matches!(field(self.line, 4), b"+" | b"-") {
-            b"column 6 is the strand, and not {said}\nawk -F '\\t' -v OFS='\\t' 'NF > 5 { t = $5; $5 = $6; $6 = t } 1' FILE exchanges columns 5 and 6"
-        } else {
-            b"column 6 is +, - or . (cut -f1-5 FILE leaves it out), and not {said}"
-        }
-    }
-
-    /// What the genome file of a record that ends past its sequence may be.
-    fn assembly_text(&self) -> &'static [u8] {
-        match first_record(self.genome) {
+    /// Puts that a record ends past its sequence, and what the genome file may be.
+    fn put_past_end(&self, hint: &mut Hint) -> Result<(), AllocError> {
+        let length = length_in(self.genome, self.field(0)).unwrap_or(b"fewer");
+        say!(hint; "{} has {} bases in the genome file", Escaped(self.field(0)), Escaped(length))?;
+        hint.put(match first_record(self.genome) {
             Some(line) if is_number(line, 2) && count_columns(line) < 5 =>
-                b"the genome file looks like a BED file: cut -f1,3 GENOME makes a genome file of it",
-            _ => b"is the genome file that of this assembly?",
+                "the genome file looks like a BED file: cut -f1,3 GENOME makes a genome file of it",
+            _ => "is the genome file that of this assembly?",
+        })
+    }
+
+    /// Puts what is wrong with a strand.
+    fn put_strand(&self, hint: &mut Hint) -> Result<(), AllocError> {
+        let value = self.field(5);
+        if is_spaced(value) && matches!(value.trim_ascii(), b"+" | b"-" | b".") {
+            put_spaced("column 6", value, hint)?;
+            hint.put(SPACES_AWAY)
+        } else if matches!(self.field(4), b"+" | b"-") {
+            say!(hint; "column 6 is the strand, and not {}", said(value))?;
+            hint.put(
+                "awk -F '\\t' -v OFS='\\t' 'NF > 5 { t = $5; $5 = $6; $6 = t } 1' FILE exchanges columns 5 and 6",
+            )
+        } else {
+            say!(hint; "column 6 is +, - or . (cut -f1-5 FILE leaves it out), and not {}", said(value))
         }
     }
 
-    /// What is wrong with a name or a score.
-    fn empty_text(&self, place: usize) -> &'static [u8] {
-        match column(self.line, place) {
+    /// Puts what is wrong with a name or a score, in the column after so many.
+    fn put_empty(&self, before: usize, hint: &mut Hint) -> Result<(), AllocError> {
+        let number = before.saturating_add(1);
+        match column(self.line, before) {
             Some([]) if !self.line.ends_with(b"\t") =>
-                b"column {number} is empty: awk -F '\\t' -v OFS='\\t' 'NF > {number} && ${number} == \"\" { ${number} = \".\" } 1' FILE writes a . there",
+                say!(hint; "column {number} is empty: awk -F '\\t' -v OFS='\\t' 'NF > {number} && ${number} == \"\" {{ ${number} = \".\" }} 1' FILE writes a . there"),
             Some([]) =>
-                b"column {number} is empty: sed 's/\\t*$//' FILE takes TABs away at the end, or write a . there",
-            _ => b"column {number} holds a CR or a NUL",
+                say!(hint; "column {number} is empty: sed 's/\\t*$//' FILE takes TABs away at the end, or write a . there"),
+            _ => say!(hint; "column {number} holds a CR or a NUL"),
         }
     }
 
-    /// What is wrong with a line of a genome file.
-    fn genome_text(&self) -> &'static [u8] {
-        match self.fault.cause {
+    /// Puts what is wrong with a line of a genome file.
+    fn put_genome(&self, cause: LoadCause, hint: &mut Hint) -> Result<(), AllocError> {
+        match cause {
             LoadCause::Repeated if is_number(self.line, 2) =>
-                b"the genome file looks like a BED file: it has a name, a TAB and a length on each line",
+                say!(hint; "the genome file looks like a BED file: it has a name, a TAB and a length on each line"),
             LoadCause::Repeated =>
-                b"{name} came before: awk -F '\\t' '!seen[$1]++' FILE keeps the first line of each sequence",
-            LoadCause::Length if read_number(field(self.line, 1)).is_none() => NO_NUMBER,
-            LoadCause::Length => TOO_LONG,
+                say!(hint; "{} came before: awk -F '\\t' '!seen[$1]++' FILE keeps the first line of each sequence", Escaped(self.field(0))),
+            LoadCause::Length => {
+                put_length(self.field(1), hint)?;
+                hint.put(self.heading_text())
+            }
             _ if self.line.starts_with(b">") =>
-                b"the file looks like FASTA: samtools faidx FILE writes FILE.fai, which is a genome file",
-            _ => b"a genome file has a name, a TAB and a length on each line",
+                say!(hint; "the file looks like FASTA: samtools faidx FILE writes FILE.fai, which is a genome file"),
+            _ => say!(hint; "a genome file has a name, a TAB and a length on each line"),
         }
     }
 
     /// What the line of a genome file looks like whose length is faulty.
-    fn heading_text(&self) -> &'static [u8] {
-        match field(self.line, 1) {
+    fn heading_text(&self) -> &'static str {
+        match self.field(1) {
             _ if self.line.starts_with(b"@") =>
-                b"awk -F '[\\t:]' -v OFS='\\t' '/^@SQ/ { print $3, $5 }' FILE makes a genome file of a .dict",
+                "awk -F '[\\t:]' -v OFS='\\t' '/^@SQ/ { print $3, $5 }' FILE makes a genome file of a .dict",
             [first, ..]
                 if self.fault.line == 1
                     && first.is_ascii_alphabetic()
                     && !is_number(self.line, 0) => { HEADING }
-            _ => b"",
-        }
-    }
-
-    /// What is wrong with a FASTA file.
-    fn bases_text(&self) -> &'static [u8] {
-        match self.fault.cause {
-            LoadCause::BasesFirst => b"a FASTA file begins with > and a name; is it another file?",
-            LoadCause::Base =>
-                b"a base is a character without a space: sed '/^>/!s/ *$//' FILE takes spaces away at the end",
-            LoadCause::WrongLength =>
-                b"the genome file has another length for it: take the .fai of the FASTA file as genome file",
-            LoadCause::Repeated => b"each sequence comes once: delete one of the two",
-            _ => b"a name follows > at once, and has no CR",
-        }
-    }
-
-    /// What a place of a text stands for, if that is no number.
-    fn text_at(&self, place: &[u8]) -> &'a [u8] {
-        let record = self.record();
-        let renaming = renaming(record.column(0), record.known().unwrap_or(b""));
-        match place {
-            b"quoted" => quoted_front(self.line),
-            b"more" if quoted_front(self.line).len() < self.line.len() => b" ..",
-            b"second" => shown(record.column(1)),
-            b"address" => renaming[0],
-            b"old" => renaming[1],
-            b"new" => renaming[2],
-            b"tab" => renaming[3],
-            b"assembly" => self.assembly_text(),
-            b"unshifted" => self.unshifted_text(),
-            b"remedy" if matches!(self.slot, Slot::Sizes) => self.heading_text(),
-            _ => record.value(place),
+            _ => "",
         }
     }
 }
 
-impl Values for Damage<'_> {
-    fn value(&self, place: &[u8]) -> Value<'_> {
-        match (place, first_record(self.front)) {
-            (b"line", _) => Value::Number(self.fault.line),
-            (b"columns", _) => Value::Number(count_columns(self.line) as u64),
-            (b"first", Some(record)) => Value::Number(count_columns(record) as u64),
-            (b"number", _) => Value::Number(self.record().faulty.saturating_add(1) as u64),
-            _ => Value::Text(self.text_at(place)),
-        }
+/// Puts what changes a name into the one that the genome file has.
+fn put_renaming(name: &[u8], known: &[u8], hint: &mut Hint) -> Result<(), AllocError> {
+    say!(hint; "the genome file has no {}, and has {}", Escaped(name), Escaped(known))?;
+    if known.strip_prefix(b"chr") == Some(name) {
+        say!(hint; "names have to be the same: sed '/^#/!s/^/chr/' FILE")
+    } else if name.strip_prefix(b"chr") == Some(known) {
+        say!(hint; "names have to be the same: sed 's/^chr//' FILE")
+    } else if let (Some(front), true) = (name.get(..3), known.starts_with(b"chr")) {
+        say!(hint; "names have to be the same: sed 's/^{}/chr/' FILE", Escaped(front))
+    } else {
+        say!(hint; "names have to be the same: sed 's/^{}\\t/{}\\t/' FILE", Escaped(name), Escaped(known))
     }
 }

@@ -1,10 +1,9 @@
 //! The hint on how a run has ended.
 use crate::damage::Damage;
-use crate::files::{FRONT_BYTES, HintFiles, NoFile, front_of, line_of};
-use crate::hint::{Hint, Named, Value};
+use crate::files::{FRONT_BYTES, HintFiles, NoFile, RunFiles};
+use crate::hint::{Escaped, Hint, say};
 use crate::losses::put_loss;
-use crate::options::value_after;
-use crate::records::{count_columns, first_record};
+use crate::options::{is_comma, value_after};
 use crate::words::put_words;
 use iv_args::{Plan, Slot};
 use iv_cli::ExitReason;
@@ -12,7 +11,7 @@ use iv_text::{Fault, LoadCause, LoadFault, read_number};
 use std::alloc::{AllocError, Global};
 
 /// Which page says how larger data is cut.
-const IN_PARTS: &[u8] = b"larger data is cut into parts: examples/at_scale/README.md";
+const IN_PARTS: &str = "larger data is cut into parts: examples/at_scale/README.md";
 
 /// The hint below the line of an ending, given the arguments after the program's name, the line of the script at which the run ended
 /// early (0 if at none), and the files, which are read again.
@@ -27,21 +26,21 @@ pub fn hint_of<F: HintFiles>(
     line: u64,
     files: &mut F,
 ) -> Result<Hint, AllocError> {
-    let mut hint = Hint::new(alloc);
+    let mut hint = Hint::new(alloc, 0);
     match (exit_reason, Plan::read(alloc, words)) {
         (ExitReason::Refused, _) => {}
-        (ExitReason::Words(Fault::Words), _) => put_words(alloc, words, &mut hint)?,
-        (ExitReason::InputUnreadable, _) => hint.put(
-            b"line {line} of the script: the input failed there",
-            &Value::Number(line),
-        )?,
-        (ExitReason::InputTooLong, _) => hint.put(
-            b"line {line} of the script: a script has at most as many lines as -limit allows, 4000000 if it isn't given, of at most 1048576 bytes",
-            &Value::Number(line),
-        )?,
+        (ExitReason::Words(Fault::Words), _) => put_words(words, &mut hint)?,
+        (ExitReason::InputUnreadable, _) => {
+            say!(hint; "line {line} of the script: the input failed there")?;
+        }
+        (ExitReason::InputTooLong, _) => {
+            say!(hint; "line {line} of the script: a script has at most as many lines as -limit allows, 4000000 if it isn't given, of at most 1048576 bytes")?;
+        }
         (ExitReason::Output, _) => put_output(line, &mut hint)?,
-        (ExitReason::Memory, _) => hint.say(IN_PARTS)?,
-        (_, Ok(plan)) => put_of_plan(alloc, &plan, exit_reason, files, &mut hint)?,
+        (ExitReason::Memory, _) => hint.put(IN_PARTS)?,
+        (_, Ok(plan)) => {
+            put_of_plan(exit_reason, &mut RunFiles { alloc, plan, files }, &mut hint)?;
+        }
         (_, Err(_)) => {}
     }
     Ok(hint)
@@ -53,9 +52,9 @@ pub fn hint_of<F: HintFiles>(
 ///
 /// An allocation failed.
 pub fn hint_of_no_words(alloc: Global, exit_reason: ExitReason) -> Result<Hint, AllocError> {
-    let mut hint = Hint::new(alloc);
+    let mut hint = Hint::new(alloc, 0);
     if matches!(exit_reason, ExitReason::Words(_)) {
-        hint.say(b"a word of the command line isn't UTF-8 text: give the file another name")?;
+        say!(hint; "a word of the command line isn't UTF-8 text: give the file another name")?;
     }
     Ok(hint)
 }
@@ -66,11 +65,9 @@ pub fn hint_of_no_words(alloc: Global, exit_reason: ExitReason) -> Result<Hint, 
 ///
 /// An allocation failed.
 pub fn hint_of_session(alloc: Global, words: &[&[u8]]) -> Result<Hint, AllocError> {
-    let mut hint = Hint::new(alloc);
+    let mut hint = Hint::new(alloc, 0);
     if Plan::read(alloc, words).is_ok_and(|plan| plan.is_script()) {
-        hint.say(
-            b"a session reads its script here; python3 -m bedkeep.curate is made for typing (see bedkeep session --help)",
-        )?;
+        say!(hint; "a session reads its script here; python3 -m bedkeep.curate is made for typing (see bedkeep session --help)")?;
     }
     Ok(hint)
 }
@@ -78,180 +75,137 @@ pub fn hint_of_session(alloc: Global, words: &[&[u8]]) -> Result<Hint, AllocErro
 /// Puts how far the output came.
 fn put_output(line: u64, hint: &mut Hint) -> Result<(), AllocError> {
     if line > 0 {
-        hint.put(
-            b"line {line} of the script: the lines before it were carried out",
-            &Value::Number(line),
-        )?;
+        say!(hint; "line {line} of the script: the lines before it were carried out")?;
     }
-    hint.say(
-        b"if the reader of a pipe has ended, as head does, it got all rows before; otherwise the disk may be full",
-    )
+    say!(hint; "if the reader of a pipe has ended, as head does, it got all rows before; otherwise the disk may be full")
 }
 
 /// Puts the hint of a run whose arguments ask for a plan.
 fn put_of_plan<F: HintFiles>(
-    alloc: Global,
-    plan: &Plan<'_>,
     exit_reason: ExitReason,
-    files: &mut F,
+    files: &mut RunFiles<'_, '_, F>,
     hint: &mut Hint,
 ) -> Result<(), AllocError> {
     match exit_reason {
-        ExitReason::Done => put_loss(alloc, plan, files, hint),
+        ExitReason::Done => put_loss(files, hint),
         ExitReason::Damaged(slot, fault) if fault.cause == LoadCause::TooMany => {
-            hint.say(too_many_text(slot))?;
-            hint.say(IN_PARTS)
+            hint.put(match slot {
+                Slot::Sizes => "a genome file has at most 1000000 sequences",
+                _ =>
+                    "a BED file has more records than -limit allows, which is 4000000 if it isn't given: -limit N, up to 100000000",
+            })?;
+            hint.put(IN_PARTS)
         }
-        ExitReason::Damaged(slot, fault) => put_damage(alloc, plan, slot, fault, files, hint),
+        ExitReason::Damaged(slot, fault) => put_damage(slot, fault, files, hint),
         ExitReason::Unreadable(_) => {
-            put_unreadable(alloc, exit_reason.file_meant(plan), plan, files, hint)
+            let name = exit_reason.file_meant(&files.plan);
+            put_unreadable(
+                name,
+                files.files.open(name).err(),
+                files.plan.is_script(),
+                hint,
+            )
         }
         ExitReason::TooLong(_) => {
-            hint.say(b"a file has at most 4294967295 bytes")?;
-            hint.say(IN_PARTS)
+            say!(hint; "a file has at most 4294967295 bytes")?;
+            hint.put(IN_PARTS)
         }
-        ExitReason::Words(fault) => put_columns(alloc, plan, fault.code(), files, hint),
+        ExitReason::Words(fault) => put_columns(fault, files, hint),
         _ => Ok(()),
     }
 }
 
-/// That a file has more sequences or records than it may.
-fn too_many_text(slot: Slot) -> &'static [u8] {
-    match slot {
-        Slot::Sizes => b"a genome file has at most 1000000 sequences",
-        _ =>
-            b"a BED file has more records than -limit allows, which is 4000000 if it isn't given: -limit N, up to 100000000",
-    }
-}
-
-/// The width of the track of a plan, and whether a record shows it.
-pub(crate) fn width_of<F: HintFiles>(
-    alloc: Global,
-    plan: &Plan<'_>,
-    slot: Slot,
-    files: &mut F,
-) -> Result<(usize, bool), AllocError> {
-    let front = front_of(alloc, files, plan.file(slot).unwrap_or(b""), 65536)?;
-    Ok(match first_record(front.bytes.as_slice()) {
-        Some(record) => (count_columns(record), true),
-        None => (plan.width() as usize, false),
-    })
-}
-
 /// Puts which column is missing, of how many.
 fn put_columns<F: HintFiles>(
-    alloc: Global,
-    plan: &Plan<'_>,
-    code: u8,
-    files: &mut F,
+    fault: Fault,
+    files: &mut RunFiles<'_, '_, F>,
     hint: &mut Hint,
 ) -> Result<(), AllocError> {
-    let (width, has_record) = width_of(alloc, plan, Slot::First, files)?;
-    put_missing_column(plan.view_arguments(), code, width, hint)?;
+    let (width, has_record) = files.width(Slot::First)?;
+    put_missing_column(files.plan.view_arguments(), fault, width, hint)?;
     if has_record {
         return Ok(());
     }
-    hint.say(b"the file has no record: -width 6 says that records of it would have six columns")
+    say!(hint; "the file has no record: -width 6 says that records of it would have six columns")
 }
 
 /// Puts which column the words of a view ask for, of records of this width.
 pub(crate) fn put_missing_column(
     words: &[&[u8]],
-    code: u8,
+    fault: Fault,
     width: usize,
     hint: &mut Hint,
 ) -> Result<(), AllocError> {
-    if code == 18 {
-        return hint.put(
-            b"-s needs six columns, and the records have {width}: leave it out, or give records with a strand",
-            &Value::Number(width as u64),
-        );
+    if fault == Fault::NoStrand {
+        return say!(hint; "-s needs six columns, and the records have {width}: leave it out, or give records with a strand");
     }
     let list = value_after(words, b"-c").unwrap_or(b"");
-    for item in list.split(|byte| *byte == b',') {
+    for item in list.split(is_comma) {
         if read_number(item).is_none_or(|number| number == 0 || number as usize > width) {
-            return hint.put(
-                b"-c {item}: the records have columns 1 to {width}",
-                &Named(&[
-                    (b"item", Value::Text(item)),
-                    (b"width", Value::Number(width as u64)),
-                ]),
-            );
+            return say!(hint; "-c {}: the records have columns 1 to {width}", Escaped(item));
         }
     }
     Ok(())
 }
 
-/// A line without the carriage return at its end.
-fn without_return(line: &[u8]) -> &[u8] {
-    line.strip_suffix(b"\r").unwrap_or(line)
-}
-
 /// Puts what a damaged file looks like.
 fn put_damage<F: HintFiles>(
-    alloc: Global,
-    plan: &Plan<'_>,
     slot: Slot,
     fault: LoadFault,
-    files: &mut F,
+    files: &mut RunFiles<'_, '_, F>,
     hint: &mut Hint,
 ) -> Result<(), AllocError> {
-    let name = plan.file(slot).unwrap_or(b"");
-    let line = line_of(alloc, files, name, fault.line)?;
-    let front = front_of(alloc, files, name, 65536)?;
-    let genome = front_of(alloc, files, plan.sizes_file(), FRONT_BYTES)?;
+    let line = files.line(slot, fault.line)?;
+    let front = files.front(slot, 65_536)?;
+    let genome = files.front(Slot::Sizes, FRONT_BYTES)?;
     let damage = Damage {
         slot,
-        name,
+        name: files.name(slot),
         fault,
-        line: without_return(line.as_slice()),
+        line: line
+            .as_slice()
+            .strip_suffix(b"\r")
+            .unwrap_or(line.as_slice()),
         front: front.bytes.as_slice(),
         genome: genome.bytes.as_slice(),
     };
     damage.put(hint)
 }
 
-/// Puts why a file of this name can't be read.
-fn put_unreadable<F: HintFiles>(
-    alloc: Global,
+/// Puts why a file of this name can't be read, given why it isn't opened now.
+fn put_unreadable(
     name: &[u8],
-    plan: &Plan<'_>,
-    files: &mut F,
+    why: Option<NoFile>,
+    is_script: bool,
     hint: &mut Hint,
 ) -> Result<(), AllocError> {
-    let text: &[u8] = match files.open(name) {
-        _ if matches!(name, b"-" | b"stdin") && plan.is_script() =>
-            b"standard input is the script: <(..) of bash is a file too",
-        _ if matches!(name, b"-" | b"stdin") => b"standard input as a file is /dev/stdin",
-        Err(NoFile::Missing) if name.contains(&b',') && !name.starts_with(b"~") => {
-            return put_names(alloc, name, hint);
+    match why {
+        _ if matches!(name, b"-" | b"stdin") && is_script =>
+            say!(hint; "standard input is the script: <(..) of bash is a file too"),
+        _ if matches!(name, b"-" | b"stdin") =>
+            say!(hint; "standard input as a file is /dev/stdin"),
+        Some(NoFile::Missing) => put_missing(name, hint),
+        Some(NoFile::Directory) =>
+            say!(hint; "it is a directory, and no file: ls {} shows its files", Escaped(name)),
+        Some(NoFile::Forbidden) =>
+            say!(hint; "the system doesn't allow to read it: ls -l shows whose it is"),
+        _ => say!(hint; "the system failed to read it to its end"),
+    }
+}
+
+/// Puts that there is no file of a name.
+fn put_missing(name: &[u8], hint: &mut Hint) -> Result<(), AllocError> {
+    if name.starts_with(b"~") {
+        say!(hint; "there is no such file: the shell knows ~, and not in quotes: write the folder, or $HOME")
+    } else if name.contains(&b',') {
+        let mut names = Vec::new(hint.alloc);
+        for byte in name {
+            names.push(if is_comma(byte) { b' ' } else { *byte })?;
         }
-        Err(NoFile::Missing) => missing_text(name),
-        Err(NoFile::Directory) => b"it is a directory, and no file: ls {name} shows its files",
-        Err(NoFile::Forbidden) => b"the system doesn't allow to read it: ls -l shows whose it is",
-        _ => b"the system failed to read it to its end",
-    };
-    hint.put(text, &Value::Text(name))
-}
-
-/// That there is no file of a name.
-fn missing_text(name: &[u8]) -> &'static [u8] {
-    match name {
-        [] => b"the name is empty: is a variable of the shell not set?",
-        [b'~', ..] =>
-            b"there is no such file: the shell knows ~, and not in quotes: write the folder, or $HOME",
-        _ => b"there is no such file: ls shows those that there are",
+        say!(hint; "there is no such file; one file comes after an option: of several, <(cat {})", Escaped(names.as_slice()))
+    } else if name.is_empty() {
+        say!(hint; "the name is empty: is a variable of the shell not set?")
+    } else {
+        say!(hint; "there is no such file: ls shows those that there are")
     }
-}
-
-/// Puts that there is no file of a name that is several names.
-fn put_names(alloc: Global, name: &[u8], hint: &mut Hint) -> Result<(), AllocError> {
-    let mut names = Vec::new(alloc);
-    for byte in name {
-        names.push(if *byte == b',' { b' ' } else { *byte })?;
-    }
-    hint.put(
-        b"there is no such file; one file comes after an option: of several, <(cat {names})",
-        &Value::Text(names.as_slice()),
-    )
 }

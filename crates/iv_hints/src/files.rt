@@ -1,13 +1,15 @@
 //! Files that are looked at again.
-use iv_bytes::Source;
+use crate::records::{count_columns, first_record};
+use iv_args::{Plan, Slot};
 use iv_text::lines_of;
 use std::alloc::{AllocError, Global};
+use std::io::{self, BufRead, BufReader, Read};
 
 /// How many bytes of the front of a file are looked at.
-pub(crate) const FRONT_BYTES: usize = 4_194_304;
+pub(crate) const FRONT_BYTES: u64 = 4_194_304;
 
 /// How many bytes of a line are kept.
-const MOST_LINE_BYTES: usize = 4096;
+const MOST_LINE_BYTES: u64 = 4096;
 
 /// More lines than the front of a pipe that is kept can have.
 const MOST_KEPT_LINES: u64 = 1_000_000;
@@ -26,65 +28,15 @@ pub enum NoFile {
 }
 
 /// Files that a hint looks at: they can be read twice.
-pub trait HintFiles {
+pub trait HintFiles: Drop {
     /// A file that is open.
-    type File: Source + Drop;
+    type File: Read + Drop;
 
     /// Opens the file of this name at its front.
     fn open(&mut self, name: &[u8]) -> Result<Self::File, NoFile>;
 
     /// What was kept of the front of a file that can't be read twice; nothing of others.
     fn kept(&self, name: &[u8]) -> &[u8];
-}
-
-/// A line that is looked for.
-#[derive(Drop)]
-struct LineFinder {
-    /// How many lines end before it.
-    left: u64,
-    text: Vec<u8>,
-    is_ended: bool,
-}
-
-impl LineFinder {
-    /// Takes the next bytes of the file.
-    fn take(&mut self, piece: &[u8]) -> Result<(), AllocError> {
-        for byte in piece {
-            if *byte == b'\n' {
-                if self.left == 0 {
-                    self.is_ended = true;
-                    return Ok(());
-                }
-                self.left -= 1;
-            } else if self.left == 0 && self.text.len() < MOST_LINE_BYTES {
-                self.text.push(*byte)?;
-            }
-        }
-        Ok(())
-    }
-}
-
-/// The front of a source's line of this number, counted from 1, or nothing if it has no such line.
-fn read_line<R: Source>(alloc: Global, source: &mut R, number: u64) -> Result<Vec<u8>, AllocError> {
-    let mut finder = LineFinder {
-        left: number.saturating_sub(1),
-        text: Vec::new(alloc),
-        is_ended: false,
-    };
-    let mut piece = [0u8; 65536];
-    for _ in 0..u32::MAX {
-        let Ok(n) = source.pull(&mut piece) else {
-            break;
-        };
-        if n == 0 {
-            break;
-        }
-        finder.take(&piece[..n])?;
-        if finder.is_ended {
-            break;
-        }
-    }
-    Ok(finder.text)
 }
 
 /// The front of a file.
@@ -95,65 +47,81 @@ pub(crate) struct Front {
     pub(crate) is_whole: bool,
 }
 
-/// The front of a source: at least this many bytes, or all.
-fn read_front<R: Source>(alloc: Global, source: &mut R, most: usize) -> Result<Front, AllocError> {
-    let mut front = Front {
-        bytes: Vec::new(alloc),
-        is_whole: false,
-    };
-    let mut piece = [0u8; 65536];
-    for _ in 0..u32::MAX {
-        if front.bytes.len() >= most {
-            break;
-        }
-        match source.pull(&mut piece) {
-            Ok(0) => {
-                front.is_whole = true;
-                break;
-            }
-            Ok(n) => front.bytes.extend_from_slice(&piece[..n])?,
-            Err(_) => break,
-        }
-    }
-    Ok(front)
+/// The files of a run, and what its arguments ask for.
+#[derive(Drop)]
+pub(crate) struct RunFiles<'a, 'f, F> {
+    pub(crate) alloc: Global,
+    pub(crate) plan: Plan<'a>,
+    pub(crate) files: &'f mut F,
 }
 
-/// The front of the file of a name, or what was kept of it.
-pub(crate) fn front_of<F: HintFiles>(
-    alloc: Global,
-    files: &mut F,
-    name: &[u8],
-    most: usize,
-) -> Result<Front, AllocError> {
-    match files.open(name) {
-        Ok(mut file) => read_front(alloc, &mut file, most),
-        Err(_) => {
-            let mut bytes = Vec::new(alloc);
-            bytes.extend_from_slice(files.kept(name))?;
-            Ok(Front {
-                bytes,
-                is_whole: false,
-            })
+impl<'a, F: HintFiles> RunFiles<'a, '_, F> {
+    /// The name of a file, empty if the run has none.
+    pub(crate) fn name(&self, slot: Slot) -> &'a [u8] {
+        self.plan.file(slot).unwrap_or(b"")
+    }
+
+    /// The front of a file, of at most so many bytes, or what was kept of it.
+    pub(crate) fn front(&mut self, slot: Slot, most: u64) -> Result<Front, AllocError> {
+        let name = self.name(slot);
+        let mut bytes = Vec::new(self.alloc);
+        let is_whole = match self.files.open(name) {
+            Ok(file) => {
+                let read = file.take(most).read_to_end(&mut bytes);
+                read.is_ok_and(|count| (count as u64) < most)
+            }
+            Err(_) => {
+                bytes.extend_from_slice(self.files.kept(name))?;
+                false
+            }
+        };
+        Ok(Front { bytes, is_whole })
+    }
+
+    /// The line of this number, counted from 1, of a file, without its end; nothing if it isn't known.
+    pub(crate) fn line(&mut self, slot: Slot, number: u64) -> Result<Vec<u8>, AllocError> {
+        let name = self.name(slot);
+        let before = number.saturating_sub(1);
+        let mut line = Vec::new(self.alloc);
+        match self.files.open(name) {
+            Ok(file) => {
+                let _ = read_line(self.alloc, file, before, &mut line);
+            }
+            Err(_) => put_line(self.files.kept(name), before, &mut line)?,
         }
+        Ok(line)
+    }
+
+    /// The width of the records of a file, and whether a record shows it.
+    pub(crate) fn width(&mut self, slot: Slot) -> Result<(usize, bool), AllocError> {
+        let front = self.front(slot, 65_536)?;
+        Ok(match first_record(front.bytes.as_slice()) {
+            Some(record) => (count_columns(record), true),
+            None => (self.plan.width() as usize, false),
+        })
     }
 }
 
-/// The line of this number of the file of a name, nothing if it isn't known.
-pub(crate) fn line_of<F: HintFiles>(
+/// Puts the line after so many lines of a text.
+fn put_line(text: &[u8], before: u64, line: &mut Vec<u8>) -> Result<(), AllocError> {
+    let found = lines_of(text).nth(before.min(MOST_KEPT_LINES) as usize);
+    line.extend_from_slice(found.unwrap_or(b""))
+}
+
+/// Reads the front of the line after so many lines of a file.
+fn read_line<R: Read + Drop>(
     alloc: Global,
-    files: &mut F,
-    name: &[u8],
-    number: u64,
-) -> Result<Vec<u8>, AllocError> {
-    match files.open(name) {
-        Ok(mut file) => read_line(alloc, &mut file, number),
-        Err(_) => {
-            let mut text = Vec::new(alloc);
-            let before = number.saturating_sub(1).min(MOST_KEPT_LINES) as usize;
-            if let Some(line) = lines_of(files.kept(name)).nth(before) {
-                text.extend_from_slice(line)?;
-            }
-            Ok(text)
-        }
+    file: R,
+    before: u64,
+    line: &mut Vec<u8>,
+) -> io::Result<()> {
+    let mut reader = BufReader::new(alloc, file)?;
+    for _ in 0..before {
+        reader.skip_until(b'\n')?;
     }
+    reader.take(MOST_LINE_BYTES).read_until(b'\n', line)?;
+    if line.as_slice().ends_with(b"\n") {
+        let _ = line.pop();
+    }
+    Ok(())
 }

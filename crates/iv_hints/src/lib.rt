@@ -6,7 +6,6 @@
 mod bedtools;
 mod damage;
 mod exit_reason;
-mod faulty_record;
 mod file_kinds;
 mod files;
 mod hint;

@@ -8,10 +8,7 @@ pub(crate) fn column(line: &[u8], number: usize) -> Option<&[u8]> {
 
 /// The same, and nothing if it isn't there.
 pub(crate) fn field(line: &[u8], number: usize) -> &[u8] {
-    match column(line, number) {
-        Some(text) => text,
-        None => b"",
-    }
+    column(line, number).unwrap_or(b"")
 }
 
 /// How many columns a line has.
@@ -44,23 +41,13 @@ pub(crate) fn is_record(line: &[u8]) -> bool {
 
 /// The first line of a BED file that is a record.
 pub(crate) fn first_record(text: &[u8]) -> Option<&[u8]> {
-    for line in lines_of(text) {
-        if is_record(line) {
-            return Some(line);
-        }
-    }
-    None
+    lines_of(text).find(|line| is_record(line))
 }
 
 /// The length that a genome file has for a name.
 pub(crate) fn length_in<'a>(genome: &'a [u8], name: &[u8]) -> Option<&'a [u8]> {
-    for line in lines_of(genome) {
-        let (first, rest) = split_first_column(line);
-        if first == name {
-            return rest.and_then(|rest| column(rest, 0));
-        }
-    }
-    None
+    let line = lines_of(genome).find(|line| split_first_column(line).0 == name)?;
+    column(line, 1)
 }
 
 /// Whether a genome file has a name.
@@ -68,20 +55,15 @@ pub(crate) fn has_name(genome: &[u8], name: &[u8]) -> bool {
     !name.is_empty() && length_in(genome, name).is_some()
 }
 
+/// A name of a genome file that differs from this one by `chr` at the front alone, or by capitals.
+pub(crate) fn alike_in<'a>(genome: &'a [u8], name: &[u8]) -> Option<&'a [u8]> {
+    let line = lines_of(genome).find(|line| are_alike(split_first_column(line).0, name))?;
+    Some(field(line, 0))
+}
+
 /// Whether two names differ by `chr` at the front alone, or by capitals.
 fn are_alike(one: &[u8], other: &[u8]) -> bool {
     one.strip_prefix(b"chr").is_some_and(|rest| rest == other)
         || other.strip_prefix(b"chr").is_some_and(|rest| rest == one)
         || one.eq_ignore_ascii_case(other)
-}
-
-/// A name of a genome file that differs from this one by `chr` at the front alone, or by capitals.
-pub(crate) fn alike_in<'a>(genome: &'a [u8], name: &[u8]) -> Option<&'a [u8]> {
-    for line in lines_of(genome) {
-        let (first, _) = split_first_column(line);
-        if are_alike(first, name) {
-            return Some(first);
-        }
-    }
-    None
 }

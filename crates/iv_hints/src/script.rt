@@ -39,21 +39,19 @@ const FAULTS: [Fault; 23] = [
     Fault::Fixed,
 ];
 
-/// A refused line of a script: its number, and that of the fault in its message.
+/// A refused line of a script: its number, and the fault in its message, which is none if memory ran out.
 #[derive(Clone, Copy, Debug, PartialEq, Eq)]
 pub struct Refusal {
     pub number: u64,
-    pub code: u8,
+    pub fault: Option<Fault>,
 }
 
 /// What is kept of a script while it runs. Each line is run before the next piece is read.
 #[derive(Drop)]
 pub struct SeenScript {
-    /// What came before the last piece of the line that this begins with.
-    front: Vec<u8>,
-    /// What was read last.
-    piece: Vec<u8>,
-    /// The number of the line that the front and the piece begin with.
+    /// The piece that was read last, after the front of the line that ends in it.
+    text: Vec<u8>,
+    /// The number of the line that the text begins with.
     number: u64,
     /// The front of a message that has not ended.
     message: Vec<u8>,
@@ -65,8 +63,7 @@ impl SeenScript {
     /// Nothing was read so far.
     pub fn new(alloc: Global) -> SeenScript {
         SeenScript {
-            front: Vec::new(alloc),
-            piece: Vec::new(alloc),
+            text: Vec::new(alloc),
             number: 1,
             message: Vec::new(alloc),
             counts: [0; 25],
@@ -79,37 +76,23 @@ impl SeenScript {
     ///
     /// An allocation failed.
     pub fn take_piece(&mut self, piece: &[u8]) -> Result<(), AllocError> {
-        let ended = count_of(self.piece.as_slice(), b'\n') as u64;
-        if ended > 0 {
-            self.front.clear();
-            self.number = self.number.saturating_add(ended);
+        let ended = count_of(self.text.as_slice(), b'\n') as u64;
+        self.number = self.number.saturating_add(ended);
+        if let Some(feed) = self.text.iter().rposition(|byte| *byte == b'\n') {
+            self.text.drain(..=feed);
         }
-        let open = after_last_feed(self.piece.as_slice());
-        let room = MOST_FRONT_BYTES.saturating_sub(self.front.len());
-        self.front
-            .extend_from_slice(open.get(..room).unwrap_or(open))?;
-        self.piece.clear();
-        self.piece.extend_from_slice(piece)?;
-        Ok(())
+        self.text.truncate(MOST_FRONT_BYTES);
+        self.text.extend_from_slice(piece)
     }
 
-    /// The line of this number, if it is kept.
+    /// The line of this number; nothing if it isn't kept.
     fn line(&self, alloc: Global, number: u64) -> Result<Vec<u8>, AllocError> {
-        let mut line = Vec::new(alloc);
-        if number < self.number {
-            return Ok(line);
-        }
-        let before = number - self.number;
-        if before == 0 {
-            line.extend_from_slice(self.front.as_slice())?;
-        }
-        if before < 1_000_000 {
-            let mut lines = self.piece.as_slice().split(|byte| *byte == b'\n');
-            if let Some(text) = lines.nth(before as usize) {
-                line.extend_from_slice(text.strip_suffix(b"\r").unwrap_or(text))?;
-            }
-        }
-        Ok(line)
+        let mut lines = self.text.as_slice().split(|byte| *byte == b'\n');
+        let line = match number.checked_sub(self.number) {
+            Some(before) => lines.nth(before as usize).unwrap_or(b""),
+            None => b"",
+        };
+        line.strip_suffix(b"\r").unwrap_or(line).to_vec(alloc)
     }
 
     /// Takes bytes of a message. At its end it answers which line was refused, and the line, if that wants a hint: the first three of
@@ -145,11 +128,13 @@ impl SeenScript {
         alloc: Global,
         refusal: Refusal,
     ) -> Result<Option<(Refusal, Vec<u8>)>, AllocError> {
-        let Some(count) = self.counts.get_mut(refusal.code as usize) else {
+        let code = refusal.fault.map_or(0, |fault| fault.code());
+        let Some(count) = self.counts.get_mut(code as usize) else {
             return Ok(None);
         };
         let is_few = *count < MOST_OF_A_KIND;
-        if !is_few && !(refusal.code == 1 && self.piece.as_slice().ends_with(b"?\n")) {
+        let is_command = refusal.fault == Some(Fault::Command);
+        if !is_few && !(is_command && self.text.as_slice().ends_with(b"?\n")) {
             return Ok(None);
         }
         *count = count.saturating_add(1);
@@ -162,37 +147,13 @@ impl SeenScript {
     }
 }
 
-/// What follows the last LF of a text, all of it if it has none.
-fn after_last_feed(text: &[u8]) -> &[u8] {
-    match text.iter().rposition(|byte| *byte == b'\n') {
-        Some(place) => text
-            .get(place..)
-            .and_then(|rest| rest.get(1..))
-            .unwrap_or(text),
-        None => text,
-    }
-}
-
-/// The number of the fault with this text.
-fn code_of(text: &[u8]) -> Option<u8> {
-    if text == b"no memory".as_slice() {
-        return Some(22);
-    }
-    for fault in &FAULTS {
-        if fault.text() == text {
-            return Some(fault.code());
-        }
-    }
-    None
-}
-
 /// What a message without its LF says, if it is on a line of a script.
 fn refusal_of(message: &[u8]) -> Option<Refusal> {
     let rest = message.strip_prefix(b"line ")?;
     let digits = rest.split(|byte| *byte == b':').next()?;
     let text = rest.get(digits.len()..)?.strip_prefix(b": ")?;
-    Some(Refusal {
-        number: read_number(digits)?,
-        code: code_of(text)?,
-    })
+    let fault = FAULTS.iter().find(|fault| fault.text() == text).copied();
+    let is_known = fault.is_some() || text == b"no memory".as_slice();
+    let number = read_number(digits)?;
+    Some(Refusal { number, fault }).filter(|_| is_known)
 }

@@ -27,14 +27,6 @@ rows-bare w text (p ∷ locators) = ap (λ (l : List RecordValue). record_at 3 t
 
 -- ---- on the genome
 
--- they are on it where they were
-pub on_genome-bare : (g : Sequences) (records : List RecordValue) → All (IsOnGenome g) records → All (IsOnGenome g) (map bare records)
-on_genome-bare g records lie = All-from_recursion (IsOnGenome g) (map bare records) (by records (recursion_from_All (IsOnGenome g) records lie))
-  where
-    by : (records : List RecordValue) → AllByRecursion (IsOnGenome g) records → AllByRecursion (IsOnGenome g) (map bare records)
-    by [] all = tt
-    by (r ∷ records) all = (record { some = all.0.some; within = all.0.within }, by records all.1)
-
 -- so is what is held of records that fit it, if only their intervals are
 pub kept-on_genome : (g : Sequences) (w : ℕ) (records : List RecordValue) → All (IsProjected bare g w) records → All (IsOnGenome g) records
 kept-on_genome g w records kept k e within =

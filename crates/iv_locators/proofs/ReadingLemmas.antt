@@ -10,7 +10,7 @@ use Rattle.iv_text.proofs.ReadLemmas.{hit}
 use Rattle.iv_text.proofs.BedReadingLemmas.{begun-sound, fit-all, kept-all, rows-all, sound-kept, whole-file}
 use Rattle.iv_text.specs.Fields.{columns}
 use Rattle.iv_text.specs.Genome.{Sequences}
-use Rattle.iv_text.specs.BedReading.{AreSound, Held, RefusesLines, Shows, TakesLines, after, begun, byte_after, none_held, shown, finished}
+use Rattle.iv_text.specs.BedReading.{AreSoundLines, Held, RefusesLines, Shows, TakesLines, after, begun, byte_after, none_held, shown, finished}
 use Rattle.iv_text.specs.Lines.{lines}
 use Rattle.iv_text.specs.Read.{read, feature, has_fault, faults, column, Fits}
 use Rattle.iv_text.specs.Chains.{unless_fault}
@@ -154,7 +154,7 @@ module _ (g : Sequences) (limit empty : ℕ) (text : List ℕ) (small : length t
       let records : List RecordValue = map (row_in text) now.kept in
       let begun_takes : TakesLines locator_at g limit none_held now text = subst (λ (h : Held Locator). TakesLines locator_at g limit h now text) none takes in
       let taken = begun_takes (λ r. r) (row_in text) shows-locators in
-      let sound : AreSound (λ r. r) g limit (shown (row_in text) now) = taken.0 (begun-sound (λ r. r) g limit) in
+      let sound : AreSoundLines (λ r. r) g limit (shown (row_in text) now) = taken.0 (begun-sound (λ r. r) g limit) in
       let wide = sound-kept (λ r. r) g limit (shown (row_in text) now) empty sound low high in
       let fit : All (Fits g w) records = fit-all g w records wide.2 in
       let same : records ≡ records_at w text now.kept = rows-in g w text now.kept fit in

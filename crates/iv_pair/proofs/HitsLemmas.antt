@@ -58,9 +58,6 @@ length-filter_le p records = omega (arith, length-filter p records, count_by-le-
 
 -- ---- a walk that goes on to a start
 
-pub near-none : (seq from : ℕ) (near records : List RecordValue) → near ≡ [] → filter (is_from seq from) near ≡ filter (is_from seq from) records → near ≡ filter (is_from seq from) records
-near-none seq from near records none same = none ∙ sym (ap (filter (is_from seq from)) none) ∙ same
-
 pub near-first : (seq from : ℕ) (near rest records : List RecordValue) (r : RecordValue) → near ≡ r ∷ rest → AreInOrder near → is_from seq from r ≡ true
     → filter (is_from seq from) near ≡ filter (is_from seq from) records → near ≡ filter (is_from seq from) records
 near-first seq from near rest records r first order is same =

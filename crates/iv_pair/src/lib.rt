@@ -1,5 +1,5 @@
-//! The second file of a session, and the rows that are made with it: intersect and subtract. The FASTA file of `iv_fasta` is
-//! re-exported, with the rows of getfasta over a track.
+//! The second file, and the rows of intersect and subtract: from tracks, or in one sweep over records of two texts. The FASTA file of
+//! `iv_fasta` is re-exported, with the rows of getfasta over a track.
 #![tactic(auto)]
 
 mod count_sweep;

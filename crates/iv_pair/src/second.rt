@@ -134,7 +134,7 @@ impl<A: Allocator + Copy> Second<A> {
         ensures err { OnErr result (self.new ≡ self.old) }
         ensures steps { TakesUpTo meter.old meter.new 16 }
     {
-        take(&mut self.track, &mut self.lengths, feature, meter)?;
+        remove_record(&mut self.track, &mut self.lengths, feature, meter)?;
         Ok(())
     }
 
@@ -163,7 +163,7 @@ impl<A: Allocator + Copy> Second<A> {
             return Err(EditFault::Absent);
         }
         stage(&mut self.track, &mut self.lengths, new, meter)?;
-        match take(&mut self.track, &mut self.lengths, old, meter) {
+        match remove_record(&mut self.track, &mut self.lengths, old, meter) {
             Ok(()) => Ok(()),
             Err(_) => unreachable!(),
         }
@@ -263,7 +263,7 @@ fn stage<A: Allocator + Copy>(
 /// # Errors
 ///
 /// E11 exactly if no copy is there. The track is unchanged.
-fn take<A: Allocator + Copy>(
+fn remove_record<A: Allocator + Copy>(
     track: &mut Track<A>,
     lengths: &mut Lengths<A>,
     feature: &Record<A>,

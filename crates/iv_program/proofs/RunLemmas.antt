@@ -27,7 +27,7 @@ use Rattle.iv_args.specs.declared.plan.Slot.{Slot}
 use Rattle.iv_args.specs.declared.plan.Slot.TheVariants.{Sizes, First, Other, Bases}
 use Rattle.iv_run.specs.Loading.{IsReport}
 use Rattle.iv_cli.specs.Loading.{loaded}
-use Rattle.iv_run.specs.RunFiles.{AreAll, AreOf, FilesRead, IsParsed}
+use Rattle.iv_run.specs.RunFiles.{AreAllWanted, AreOf, FilesRead, IsParsed}
 use Rattle.iv_run.specs.declared.fault.CliFault.{CliFault}
 use Rattle.iv_run.specs.declared.fault.FileFault.{FileFault}
 use Rattle.iv_run.specs.declared.fault.FileFault.TheVariants as file
@@ -139,8 +139,8 @@ module _ (plan : RunPlan) (f0 f1 : FilesState) (sizes : List ℕ) (has_sizes : I
 -- ---- scripts
 
 -- the session that the files of a plan begin, once they are read
-pub report-of : (plan : RunPlan) (texts : Texts) (files : FilesRead (Result Bed LoadFault)) (r : Result State CliFault) → HasTexts (IsParsed (λ r. r)) AreAll plan texts files
-    → ((sizes first : List ℕ) (second fasta_text : Option (List ℕ)) → AreOf (IsParsed (λ r. r)) AreAll sizes first second fasta_text files
+pub report-of : (plan : RunPlan) (texts : Texts) (files : FilesRead (Result Bed LoadFault)) (r : Result State CliFault) → HasTexts (IsParsed (λ r. r)) AreAllWanted plan texts files
+    → ((sizes first : List ℕ) (second fasta_text : Option (List ℕ)) → AreOf (IsParsed (λ r. r)) AreAllWanted sizes first second fasta_text files
     → IsReport r (loaded files.on.width sizes first second fasta_text files.on.limit))
     → IsReport r (loaded plan.width texts.sizes texts.first texts.other texts.bases plan.limit)
 report-of plan texts files r has report =

@@ -16,7 +16,7 @@ ghost use Rattle.iv_program.specs.Program.{Runs, world};
 ghost use Rattle.iv_program.specs.Runs.{World};
 ghost use Rattle.iv_program.specs.Inside.Files.{StopsAt, names_of};
 ghost use Rattle.iv_run.specs.Inside.Held.{IsEnough, IsHeld};
-ghost use Rattle.iv_run.specs.RunFiles.{AreAll, IsParsed};
+ghost use Rattle.iv_run.specs.RunFiles.{AreAllWanted, IsParsed};
 ghost use Rattle.iv_program.specs.Inside.Runs.{EndsRun, HasTexts, PrintsView, ReadsAll, StopsPlan};
 ghost use Rattle.iv_program.specs.Texts.{Texts, AreTexts};
 ghost use Rattle.iv_program.specs.declared.program.Ended.{Ended};
@@ -84,7 +84,7 @@ fn shot_of_intervals<A: Allocator + Copy, W: Sink>(
     files: RunFiles<HeldRecords<Span, A>, A>,
     output: &mut W,
 ) -> ExitReason
-    ensures { (plan : RunPlan) (texts : Texts) → AskForIntervals plan.view view → HasTexts (IsParsed bare) AreAll plan texts files
+    ensures { (plan : RunPlan) (texts : Texts) → AskForIntervals plan.view view → HasTexts (IsParsed bare) AreAllWanted plan texts files
         → PrintsView plan texts (W.state output.old) (W.state output.new) result }
 {
     ending_of(files.print(view, output))

@@ -1,6 +1,6 @@
 //! A run of a script over the session that the files of a plan begin.
 ghost use Rattle.std.specs.Prelude.{◌≡◌, ◌≤◌, IfOk, IfErr, OnOk, OnErr};
-ghost use Rattle.iv_run.specs.RunFiles.{AreAll, IsParsed};
+ghost use Rattle.iv_run.specs.RunFiles.{AreAllWanted, IsParsed};
 ghost use Rattle.iv_session.specs.Streams.{streams};
 ghost use Rattle.iv_args.specs.Arguments.{RunPlan, most_limit};
 ghost use Rattle.iv_program.specs.Files.{after_reading};
@@ -43,7 +43,7 @@ fn run_over<A: Allocator + Copy, R: Source, W: Sink, E: Sink>(
 ) -> Ended
     requires same { files.on.limit ≡ limit }
     requires few { limit ≤ most_limit }
-    ensures { (plan : RunPlan) (texts : Texts) → HasTexts (IsParsed (λ r. r)) AreAll plan texts files
+    ensures { (plan : RunPlan) (texts : Texts) → HasTexts (IsParsed (λ r. r)) AreAllWanted plan texts files
         → RunsScript plan texts
         (streams (R.state input.old) (W.state output.old) (E.state messages.old))
         (streams (R.state input.new) (W.state output.new) (E.state messages.new)) result.exit_reason result.line }

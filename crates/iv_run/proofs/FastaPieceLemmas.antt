@@ -45,12 +45,6 @@ module _ (wanted : Wanted) (g : Sequences) where
   fasta-few front (Ok r) n known few = omega (arith, known.0, few)
   fasta-few front (Err f) n known few = tt
 
-  -- so there is room for a piece more
-  pub fasta-room : (front piece : List ℕ) (r : Result Reading LoadFault) (n : ℕ) → FastaSoFar wanted g front r → 1 + length front + length piece < n
-      → IfOk r (λ d. size_of d + length piece < n)
-  fasta-room front piece (Ok r) n known few = omega (arith, known.0, few)
-  fasta-room front piece (Err f) n known few = tt
-
   -- all has come
   module _ (text : List ℕ) (ranked : AreRanked g) where
     pub fasta-file : (r : Reading) (f : Bases) → FastaSoFar wanted g text (Ok r) → read_on g r [] ≡ Ok f → IsFasta wanted g text (Ok f)

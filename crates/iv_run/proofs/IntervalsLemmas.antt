@@ -42,21 +42,15 @@ use Rattle.iv_run.proofs.ShotLemmas.{shows-text}
 -- what holds of each view that a view of intervals can be holds of the one that it is
 pub of-merge : (distance : ℕ) (P : KeptView → Type 0) → ((o : BlockOptions) → IsByIntervals distance o → P (projected.Merge o)) → (asked : KeptView) → IsViewOf (places.Merge distance) asked → P asked
 of-merge distance P each (projected.Merge options) is = each options is
-of-merge distance P each (projected.Cluster d) is = absurd is
-of-merge distance P each (projected.Complement limited) is = absurd is
-of-merge distance P each (projected.Genomecov output) is = absurd is
+of-merge distance P each asked is = absurd is
 
 pub of-complement : (limited : Bool) (P : KeptView → Type 0) → P (projected.Complement limited) → (asked : KeptView) → IsViewOf (places.Complement limited) asked → P asked
-of-complement limited P one (projected.Merge options) is = absurd is
-of-complement limited P one (projected.Cluster d) is = absurd is
 of-complement limited P one (projected.Complement asked) is = subst (λ (b : Bool). P (projected.Complement b)) (sym is) one
-of-complement limited P one (projected.Genomecov output) is = absurd is
+of-complement limited P one asked is = absurd is
 
 pub of-genomecov : (output : DepthOutput) (P : KeptView → Type 0) → P (projected.Genomecov output) → (asked : KeptView) → IsViewOf (places.Genomecov output) asked → P asked
-of-genomecov output P one (projected.Merge options) is = absurd is
-of-genomecov output P one (projected.Cluster d) is = absurd is
-of-genomecov output P one (projected.Complement limited) is = absurd is
 of-genomecov output P one (projected.Genomecov asked) is = subst (λ (d : DepthOutput). P (projected.Genomecov d)) (sym is) one
+of-genomecov output P one asked is = absurd is
 
 -- nothing except the intervals of records counts
 needs-places : (v : IntervalsView) (asked : KeptView) → IsViewOf v asked → NeedsIntervalsAlone asked
@@ -80,14 +74,12 @@ module _ (b : Bool) (o : BlockOptions) (plain : (b ≡ true) ↔ IsByIntervals o
       by : (b : Bool) → b ≡ true → then_some b (places.Merge o.distance) ≡ None → ⊥
       by true t e = cc
       by false t e = true≢false (sym t)
-  merge-columns none (places.Complement limited) is = is
-  merge-columns none (places.Genomecov output) is = is
+  merge-columns none v is = is
 
 -- a cluster is none
 pub cluster-columns : (distance : ℕ) → NeedsColumns (projected.Cluster distance)
 cluster-columns distance (places.Merge d) is = is
-cluster-columns distance (places.Complement limited) is = is
-cluster-columns distance (places.Genomecov output) is = is
+cluster-columns distance v is = is
 
 -- ---- the arguments of a view
 
@@ -99,9 +91,8 @@ narrowed-same width b c (places.Complement limited) = of-complement limited (λ 
 narrowed-same width b c (places.Genomecov output) = of-genomecov output (λ (k : KeptView). narrowed width b c (view.Kept k) ≡ Ok (view.Kept k)) refl
 
 merge-kept : (t u : Bool) (o : BlockOptions) (asked : KeptView) → as_merge (if t then Err refused.Column else if u then Err refused.NoStrand else Ok o) ≡ Ok (view.Kept asked) → view.Kept (projected.Merge o) ≡ view.Kept asked
-merge-kept true u o asked is = cc
 merge-kept false true o asked is = cc
-merge-kept false false o asked is = cc
+merge-kept t u o asked is = cc
 
 second-never : (t : Bool) (output : PairOutput) (asked : KeptView) → beside_second t (Some output) ≡ Ok (view.Kept asked) → ⊥
 second-never true output asked is = cc
@@ -109,19 +100,15 @@ second-never false output asked is = cc
 
 fasta-never : (t u : Bool) (output : FastaOutput) (asked : KeptView)
     → (if t then Err refused.NoStrand else if u then Ok (view.Written (written.Getfasta output)) else Err refused.NoFasta) ≡ Ok (view.Kept asked) → ⊥
-fasta-never true u output asked is = cc
 fasta-never false true output asked is = cc
-fasta-never false false output asked is = cc
+fasta-never t u output asked is = cc
 
 -- a kept view is what it was on six columns and beside both files
 narrowed-kept : (width : ℕ) (b c : Bool) (v : View) (asked : KeptView) → narrowed width b c v ≡ Ok (view.Kept asked) → v ≡ view.Kept asked
 narrowed-kept width b c (view.Kept (projected.Merge o)) asked is = merge-kept (not (has_columns width (listed o.summaries))) (o.stranded && nat_lt width 6) o asked is
-narrowed-kept width b c (view.Kept (projected.Cluster distance)) asked is = cc
-narrowed-kept width b c (view.Kept (projected.Complement limited)) asked is = cc
-narrowed-kept width b c (view.Kept (projected.Genomecov output)) asked is = cc
 narrowed-kept width b c (view.Written (written.Paired output)) asked is = absurd (second-never b output asked is)
-narrowed-kept width b c (view.Written written.Records) asked is = cc
 narrowed-kept width b c (view.Written (written.Getfasta output)) asked is = absurd (fasta-never (output.stranded && nat_lt width 6) c output asked is)
+narrowed-kept width b c v asked is = cc
 
 module _ (arguments : List (List ℕ)) where
   -- if no view of intervals is asked for on six columns, none is on fewer

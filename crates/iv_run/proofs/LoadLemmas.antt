@@ -13,7 +13,7 @@ use Rattle.iv_args.specs.declared.plan.Slot.TheVariants.{Sizes, First, Other, Ba
 use Rattle.iv_fasta.specs.Fasta as Fasta
 use Rattle.iv_text.specs.Chains.{if_ok, map_fault}
 use Rattle.iv_run.specs.Inside.Shots.{bases_said, second_of}
-use Rattle.iv_run.specs.Loading.{IsAnswer, Parsed, parsed, fault_of, damage_of}
+use Rattle.iv_run.specs.Loading.{IsAnswer, IsReport, Parsed, parsed, fault_of, damage_of}
 use Rattle.iv_text.specs.BedReading.{projected_bed, projected_or_fault}
 use Rattle.iv_text.specs.RecordValue.{RecordValue}
 use Rattle.iv_run.specs.RunFiles.{GenomeRead, IsGenomeOf, IsGenomeBy}
@@ -21,15 +21,7 @@ use Rattle.iv_run.specs.RunFiles.{GenomeRead, IsGenomeOf, IsGenomeBy}
 -- a fault is reported as damage, unless it is out of memory
 reported : (c : LoadCause) (damaged : CliFault) → (c ≡ cause.Memory) ⊎ (fault_of c damaged ≡ damaged)
 reported cause.Memory damaged = inl refl
-reported cause.Columns damaged = inr refl
-reported cause.Name damaged = inr refl
-reported cause.Length damaged = inr refl
-reported cause.Repeated damaged = inr refl
-reported cause.BasesFirst damaged = inr refl
-reported cause.Base damaged = inr refl
-reported cause.WrongLength damaged = inr refl
-reported (cause.Record f) damaged = inr refl
-reported cause.TooMany damaged = inr refl
+reported c damaged = inr refl
 
 -- why a file's fault is reported: out of memory, or the fault of the file's text
 abbrev pub IsWhy : {T : Type 0} → LoadFault → Result T LoadFault → Type 0
@@ -63,40 +55,31 @@ with_first g width other bases limit read = if_ok (map_fault (Damaged First) rea
 abbrev pub with_genome : ℕ → List ℕ → Option (List ℕ) → Option (List ℕ) → ℕ → Result Sequences LoadFault → Result Parsed CliFault
 with_genome width first other bases limit read = if_ok (map_fault (Damaged Sizes) read) (λ g. with_first g width other bases limit (bed_of g width limit first))
 
-module _ (width : ℕ) (sizes text : List ℕ) (limit : ℕ) where
-  -- whatever the other files are, this is the first fault
-  abbrev IsFault : CliFault → Type 0
-  IsFault k = (other bases : Option (List ℕ)) → parsed width sizes text other bases limit ≡ Err k
+-- the genome file is sound
+module _ (width : ℕ) (sizes text : List ℕ) (limit : ℕ) (g : Sequences) (genome : genome_of sizes ≡ Ok g) (other bases : Option (List ℕ)) where
+  pub past-genome : parsed width sizes text other bases limit ≡ with_first g width other bases limit (bed_of g width limit text)
+  past-genome = ap (with_genome width text other bases limit) genome
 
-  -- the genome file is sound
-  module _ (g : Sequences) (genome : genome_of sizes ≡ Ok g) where
-    past-genome : (other bases : Option (List ℕ)) → parsed width sizes text other bases limit ≡ with_first g width other bases limit (bed_of g width limit text)
-    past-genome other bases = ap (with_genome width text other bases limit) genome
+  -- the first file is sound
+  module _ (bed : Bed) (sound : bed_of g width limit text ≡ Ok bed) where
+    pub past-first : parsed width sizes text other bases limit ≡ with_second g bed bases limit (second_of g width limit other)
+    past-first = past-genome ∙ ap (with_first g width other bases limit) sound
 
-    pub first-damaged : (f : LoadFault) → IsWhy f (bed_of g width limit text) → (damage_of First f ≡ Memory) ⊎ IsFault (damage_of First f)
-    first-damaged f why = reported-by First f IsFault (λ is other bases. past-genome other bases ∙ ap (with_first g width other bases limit) is) why
+    -- the second file is sound, or there is none
+    pub past-second : (second : Option Bed) → second_of g width limit other ≡ Ok second → parsed width sizes text other bases limit ≡ with_bases g bed second limit (bases_said g bases)
+    past-second second whole = past-first ∙ ap (with_second g bed bases limit) whole
 
-    -- the first file is sound
-    module _ (bed : Bed) (sound : bed_of g width limit text ≡ Ok bed) (other : Option (List ℕ)) where
-      past-first : (bases : Option (List ℕ)) → parsed width sizes text other bases limit ≡ with_second g bed bases limit (second_of g width limit other)
-      past-first bases = past-genome other bases ∙ ap (with_first g width other bases limit) sound
+-- a file of a slot is damaged, and this is the report
+abbrev pub IsDamage : {T : Type 0} → Slot → Result T LoadFault → CliFault → Type 0
+IsDamage slot said k = (why : LoadFault) × (said ≡ Err why) × (k ≡ damage_of slot why)
 
-      abbrev IsLaterFault : CliFault → Type 0
-      IsLaterFault k = (bases : Option (List ℕ)) → parsed width sizes text other bases limit ≡ Err k
-
-      pub second-damaged : (f : LoadFault) → IsWhy f (second_of g width limit other) → (damage_of Other f ≡ Memory) ⊎ IsLaterFault (damage_of Other f)
-      second-damaged f why = reported-by Other f IsLaterFault (λ is bases. past-first bases ∙ ap (with_second g bed bases limit) is) why
-
-      -- the second file is sound, or there is none
-      module _ (second : Option Bed) (whole : second_of g width limit other ≡ Ok second) (bases : Option (List ℕ)) where
-        pub past-second : parsed width sizes text other bases limit ≡ with_bases g bed second limit (bases_said g bases)
-        past-second = past-first bases ∙ ap (with_second g bed bases limit) whole
-
-        abbrev IsLastFault : CliFault → Type 0
-        IsLastFault k = parsed width sizes text other bases limit ≡ Err k
-
-        pub bases-damaged : (f : LoadFault) → IsWhy f (bases_said g bases) → (damage_of Bases f ≡ Memory) ⊎ IsLastFault (damage_of Bases f)
-        bases-damaged f why = reported-by Bases f IsLastFault (λ is. past-second ∙ ap (with_bases g bed second limit) is) why
+-- it is the report of all files, if those before it are sound
+pub reports : {T : Type 0} (slot : Slot) (answer said : Result T LoadFault) (rest : T → Result Parsed CliFault) (all : Result Parsed CliFault) (k : CliFault)
+    → all ≡ if_ok (map_fault (Damaged slot) said) rest → IsAnswer answer said → IsDamage slot answer k → IsReport (Err k) all
+reports {T} slot answer said rest all k all_is is damage =
+    let why : IsWhy damage.0 said = rw damage.1 at is in
+    subst (λ (j : CliFault). IsReport (Err j) all) (sym damage.2)
+    (reported-by slot damage.0 (λ j. all ≡ Err j) (λ e. all_is ∙ ap (λ (r : Result T LoadFault). if_ok (map_fault (Damaged slot) r) rest) e) why)
 
 -- ---- files of which the records are held
 

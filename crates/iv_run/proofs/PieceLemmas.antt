@@ -2,7 +2,7 @@
 use Rattle.std.proofs.Common.{◌≡◌, ◌∙◌, ◌⊎◌, inl, inr, ℕ, ◌+◌, ◌<◌, ◌≤◌, ◌++◌, List, [], Result, Ok, Err, IfOk, length, sym, ap, subst, append_assoc, append-nil, length-append, arith}
 use Rattle.iv_text.specs.BedFile.{Bed, Draft}
 use Rattle.iv_text.specs.Genome.{Sequences}
-use Rattle.iv_text.specs.BedReading.{AreSound, Reading, begun, read_on, projected_bed_of, size_of, finished}
+use Rattle.iv_text.specs.BedReading.{AreSoundLines, Reading, begun, read_on, projected_bed_of, size_of, finished}
 use Rattle.iv_text.specs.RecordValue.{RecordValue}
 use Rattle.iv_text.specs.declared.fault.LoadFault.{LoadFault}
 use Rattle.iv_text.specs.declared.fault.LoadCause.TheVariants as cause
@@ -14,7 +14,7 @@ module _ (projected : RecordValue → RecordValue) (g : Sequences) (limit : ℕ)
   -- nothing has come
   pub says-begun : (r : Reading) → r ≡ begun → SaysSoFar projected g limit [] (Ok r)
   says-begun r is = (
-    subst (λ (s : Reading). AreSound projected g limit s.read) (sym is) (begun-sound projected g limit),
+    subst (λ (s : Reading). AreSoundLines projected g limit s.read) (sym is) (begun-sound projected g limit),
     omega (arith, ap size_of is),
     λ more. ap (λ (s : Reading). read_on projected g limit s more) (sym is),
   )
@@ -24,7 +24,7 @@ module _ (projected : RecordValue → RecordValue) (g : Sequences) (limit : ℕ)
     joined : (more : List ℕ) → read_on projected g limit begun ((front ++ piece) ++ more) ≡ read_on projected g limit begun (front ++ (piece ++ more))
     joined more = ap (read_on projected g limit begun) (append_assoc front piece more)
 
-    pub says-more : (r next : Reading) → SaysSoFar projected g limit front (Ok r) → AreSound projected g limit next.read → size_of next ≤ size_of r + length piece
+    pub says-more : (r next : Reading) → SaysSoFar projected g limit front (Ok r) → AreSoundLines projected g limit next.read → size_of next ≤ size_of r + length piece
         → ((more : List ℕ) → read_on projected g limit r (piece ++ more) ≡ read_on projected g limit next more) → SaysSoFar projected g limit (front ++ piece) (Ok next)
     says-more r next says sound few took = (
       sound,
@@ -43,7 +43,7 @@ module _ (projected : RecordValue → RecordValue) (g : Sequences) (limit : ℕ)
     says-still f (inr refused) = inr (λ more. joined more ∙ refused (piece ++ more))
 
   -- what is held is sound
-  pub says-sound : (front : List ℕ) (r : Result Reading LoadFault) → SaysSoFar projected g limit front r → IfOk r (λ d. AreSound projected g limit d.read)
+  pub says-sound : (front : List ℕ) (r : Result Reading LoadFault) → SaysSoFar projected g limit front r → IfOk r (λ d. AreSoundLines projected g limit d.read)
   says-sound front (Ok r) says = says.0
   says-sound front (Err f) says = tt
 

@@ -35,16 +35,6 @@ ReadsWhole-end a b c limit front piece n before few last none ended =
       failed = all.failed;
     }
 
--- a pull failed
-pub StopsReading-input : (a b c : SourceState) (limit : ℕ) (front : List ℕ) → HasGiven a b front → length front ≤ limit
-    → Gives (record b { failed = true }) c [] → StopsReading a c limit Input
-StopsReading-input a b c limit front before few fails = record {
-  front = front;
-  given = subst (λ (l : List ℕ). Consumes a.remaining c.remaining l) (append-nil front)
-      (Consumes-trans a.remaining b.remaining c.remaining front [] before.from fails.from);
-  cause = (fails.failed, few);
-}
-
 -- a piece was not taken
 pub StopsReading-piece : (a b c : SourceState) (limit : ℕ) (front piece : List ℕ) (n : ℕ) (fault : FileFault) → HasGiven a b front
     → Gives (answered n b) c piece → IsPieceFault fault limit (length front + length piece) → StopsReading a c limit fault

@@ -9,29 +9,19 @@ use Rattle.iv_text.specs.RecordValue.{RecordValue}
 use Rattle.iv_text.specs.declared.fault.LoadFault.{LoadFault}
 use Rattle.iv_text.specs.declared.fault.LoadCause.TheVariants as cause
 use Rattle.iv_fasta.specs.Fasta.{Bases}
-use Rattle.iv_args.specs.declared.plan.Slot.{Slot}
 use Rattle.iv_args.specs.declared.plan.Slot.TheVariants as slot
 use Rattle.iv_run.specs.Inside.Shots.{bases_said, second_of}
-use Rattle.iv_run.specs.Loading.{IsAnswer, IsReport, Parsed, damage_of, parsed}
-use Rattle.iv_run.specs.RunFiles.{AreAll, AreOf, AreProjected, FilesRead, GenomeRead, IsGenomeBy, IsGenomeOf, IsIfNamed, IsOn, IsParsed}
+use Rattle.iv_run.specs.Loading.{IsAnswer, IsReport, Parsed, parsed}
+use Rattle.iv_run.specs.RunFiles.{AreAllWanted, AreOf, AreProjected, FilesRead, GenomeRead, IsGenomeBy, IsGenomeOf, IsIfNamed, IsOn, IsParsed}
 use Rattle.iv_run.specs.Inside.RunFiles.{ReportsProjected}
 use Rattle.iv_run.specs.declared.fault.CliFault.{CliFault}
 use Rattle.iv_run.specs.declared.fault.CliFault.TheVariants.{Memory}
-use Rattle.iv_run.proofs.LoadLemmas.{IsWhy, bases-damaged, first-damaged, kept-sound, kept-why, past-second, second-damaged, with_bases}
+use Rattle.iv_run.proofs.LoadLemmas.{IsDamage, IsWhy, kept-sound, kept-why, past-first, past-genome, past-second, reports, with_bases}
 
 -- what a call answers
 pub answer-of : {T : Type 0} (r said : Result T LoadFault) → IfOk r (λ value. said ≡ Ok value) → IfErr r (λ f. (f ≡ record { line = 0; cause = cause.Memory }) ⊎ (said ≡ Err f)) → IsAnswer r said
 answer-of (Ok value) said ok err = ok
 answer-of (Err f) said ok err = err
-
--- what follows from the value of a call holds of it
-pub ok-then : {T E : Type 0} (P Q : T → Type 0) (r : Result T E) → ((value : T) → P value → Q value) → IfOk r P → IfOk r Q
-ok-then P Q (Ok value) leads p = leads value p
-ok-then P Q (Err e) leads p = tt
-
--- a file of a slot is damaged, and this is the report
-abbrev pub IsDamage : {T : Type 0} → Slot → Result T LoadFault → CliFault → Type 0
-IsDamage slot said k = (why : LoadFault) × (said ≡ Err why) × (k ≡ damage_of slot why)
 
 either : (k : CliFault) (said : Result Parsed CliFault) (P : Type 0) → (P → said ≡ Err k) → (k ≡ Memory) ⊎ P → IsReport {T = Parsed} (Err k) said
 either k said P leads (inl memory) = inl memory
@@ -43,32 +33,22 @@ module _ (width : ℕ) (sizes text : List ℕ) (limit : ℕ) (g : Sequences) (ge
 
   -- the first file is damaged
   pub report-first : (said : Result Bed LoadFault) (k : CliFault) → IsAnswer said (bed_of g width limit text) → IsDamage slot.First said k → Reports k
-  report-first said k answer damage =
-      let why : IsWhy damage.0 (bed_of g width limit text) = subst (λ (r : Result Bed LoadFault). IsAnswer r (bed_of g width limit text)) damage.1 answer in
-      subst Reports (sym damage.2)
-      (either (damage_of slot.First damage.0) (parsed width sizes text other bases limit) ((o b : Option (List ℕ)) → parsed width sizes text o b limit ≡ Err (damage_of slot.First damage.0))
-      (λ fault. fault other bases) (first-damaged width sizes text limit g genome damage.0 why))
+  report-first said k = reports slot.First said (bed_of g width limit text) _ _ k (past-genome width sizes text limit g genome other bases)
 
   module _ (bed : Bed) (sound : bed_of g width limit text ≡ Ok bed) where
     -- the second file is damaged
     pub report-second : (said : Result (Option Bed) LoadFault) (k : CliFault) → IsAnswer said (second_of g width limit other) → IsDamage slot.Other said k → Reports k
-    report-second said k answer damage =
-        let why : IsWhy damage.0 (second_of g width limit other) = subst (λ (r : Result (Option Bed) LoadFault). IsAnswer r (second_of g width limit other)) damage.1 answer in
-        subst Reports (sym damage.2)
-        (either (damage_of slot.Other damage.0) (parsed width sizes text other bases limit) ((b : Option (List ℕ)) → parsed width sizes text other b limit ≡ Err (damage_of slot.Other damage.0))
-        (λ fault. fault bases) (second-damaged width sizes text limit g genome bed sound other damage.0 why))
+    report-second said k = reports slot.Other said (second_of g width limit other) _ _ k (past-first width sizes text limit g genome other bases bed sound)
 
     module _ (second : Option Bed) (whole : second_of g width limit other ≡ Ok second) where
       -- the FASTA file is damaged
       pub report-bases : (said : Result (Option Bases) LoadFault) (k : CliFault) → IsAnswer said (bases_said g bases) → IsDamage slot.Bases said k → Reports k
-      report-bases said k answer damage =
-          let why : IsWhy damage.0 (bases_said g bases) = subst (λ (r : Result (Option Bases) LoadFault). IsAnswer r (bases_said g bases)) damage.1 answer in
-          subst Reports (sym damage.2) (bases-damaged width sizes text limit g genome bed sound other second whole bases damage.0 why)
+      report-bases said k = reports slot.Bases said (bases_said g bases) _ _ k (past-second width sizes text limit g genome other bases bed sound second whole)
 
       -- all files are sound
       pub report-files : (found : Option Bases) → bases_said g bases ≡ Ok found
           → parsed width sizes text other bases limit ≡ Ok (record { genome = g; first = bed; second = second; bases = found; limit = limit })
-      report-files found is = past-second width sizes text limit g genome bed sound other second whole bases ∙ ap (with_bases g bed second limit) is
+      report-files found is = past-second width sizes text limit g genome other bases bed sound second whole ∙ ap (with_bases g bed second limit) is
 
 -- what is known of the genome file
 module _ (sizes : List ℕ) (known : GenomeRead) (says : IsGenomeOf sizes known) where
@@ -120,7 +100,7 @@ module _ (projected : RecordValue → RecordValue) (g : Sequences) (width limit 
       (Some bed.0, ap (λ (r : Result Bed LoadFault). option_transpose (Some r)) bed.1, sym some ∙ ap Some bed.2)
 
 -- all files were read, and are those of these bytes
-module _ (projected : RecordValue → RecordValue) (sizes text : List ℕ) (other bases : Option (List ℕ)) (files : FilesRead (Result Bed LoadFault)) (are : AreOf (IsParsed projected) AreAll sizes text other bases files) where
+module _ (projected : RecordValue → RecordValue) (sizes text : List ℕ) (other bases : Option (List ℕ)) (files : FilesRead (Result Bed LoadFault)) (are : AreOf (IsParsed projected) AreAllWanted sizes text other bases files) where
   abbrev on : GenomeRead
   on = files.on
 
@@ -170,10 +150,3 @@ module _ (projected : RecordValue → RecordValue) (sizes text : List ℕ) (othe
                 (subst (λ (s : Sequences). bases_said s bases ≡ Ok found) same is),
             (λ i. record { genome = same i; first = bed.2 i; second = beside.2 i; bases = found; limit = most i }),
           )
-
--- a second file that is sound is on the genome, if it is there
-pub beside-on : (projected : RecordValue → RecordValue) (g : Sequences) (limit : ℕ) (file : Option (Result Bed LoadFault)) (second : Option Bed) → option_transpose file ≡ Ok second
-    → IfSome file (IsOn projected g limit) → IfSome second (AreProjected projected g limit)
-beside-on projected g limit None second is are = let none : None ≡ second = cc is in subst (λ (o : Option Bed). IfSome o (AreProjected projected g limit)) none tt
-beside-on projected g limit (Some (Err f)) second is are = absurd (cc is)
-beside-on projected g limit (Some (Ok file)) second is are = let some : Some file ≡ second = cc is in subst (λ (o : Option Bed). IfSome o (AreProjected projected g limit)) some are

@@ -50,12 +50,9 @@ module _ (width : ℕ) (first : List ℕ) (other bases : Option (List ℕ)) (lim
 pub shows-damage : (width : ℕ) (sizes first : List ℕ) (other bases : Option (List ℕ)) (limit : ℕ) (arguments : List (List ℕ)) (reported : CliFault) (old : SinkState)
     → (reported ≡ fault.Memory) ⊎ (parsed width sizes first other bases limit ≡ Err reported) → Shows old old (Err reported) (shown_of arguments (parsed width sizes first other bases limit))
 shows-damage width sizes first other bases limit arguments fault.Memory old why = refl
-shows-damage width sizes first other bases limit arguments fault.Output old (inl e) = cc
 shows-damage width sizes first other bases limit arguments fault.Output old (inr e) = absurd (genome-reported width first other bases limit (genome_of sizes) e)
-shows-damage width sizes first other bases limit arguments (fault.Words code) old (inl e) = cc
-shows-damage width sizes first other bases limit arguments (fault.Words code) old (inr e) = (ap (shown_of arguments) e, refl)
-shows-damage width sizes first other bases limit arguments (fault.Damaged slot damage) old (inl e) = cc
-shows-damage width sizes first other bases limit arguments (fault.Damaged slot damage) old (inr e) = (ap (shown_of arguments) e, refl)
+shows-damage width sizes first other bases limit arguments reported old (inl e) = cc
+shows-damage width sizes first other bases limit arguments reported old (inr e) = (ap (shown_of arguments) e, refl)
 
 -- ---- sound files
 
@@ -63,16 +60,10 @@ module _ (said : Result Parsed CliFault) (files : Parsed) (is : said ≡ Ok file
   asked-is : (r : Result View Fault) → view_beside files arguments ≡ r → shown_of arguments said ≡ text_or_fault files r
   asked-is r asked = ap (shown_of arguments) is ∙ ap (text_or_fault files) asked
 
-  -- a fault of the arguments is reported, and nothing is printed
-  pub shows-words : (why : Fault) (old : SinkState) → view_beside files arguments ≡ Err why → Shows old old (Err (fault_of_arguments why)) (shown_of arguments said)
-  shows-words refused.NoMemory old asked = refl
-  shows-words why old asked = (asked-is (Err why) asked, refl)
-
   -- the text of the view is printed; or a prefix of it is, and the output failed; or nothing is, for out of memory
   pub shows-text : (view : View) → view_beside files arguments ≡ Ok view → (old new : SinkState) (result : Result (Unit {0}) CliFault)
       → Prints old new result (text_beside files view) → Shows old new result (shown_of arguments said)
   shows-text view asked old new (Ok done) takes = (text_beside files view, asked-is (Ok view) asked, takes)
   shows-text view asked old new (Err fault.Output) fails = (text_beside files view, asked-is (Ok view) asked, fails)
   shows-text view asked old new (Err fault.Memory) same = same
-  shows-text view asked old new (Err (fault.Words code)) prints = absurd prints
-  shows-text view asked old new (Err (fault.Damaged slot damage)) prints = absurd prints
+  shows-text view asked old new (Err why) prints = absurd prints

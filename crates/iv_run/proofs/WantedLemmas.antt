@@ -29,7 +29,7 @@ use Rattle.iv_run.specs.RunFiles.{AreOf, FilesRead, IsEnoughOf, IsGenomeOf, IsIf
 use Rattle.iv_run.specs.Shots.{Shows}
 use Rattle.iv_run.specs.declared.fault.CliFault.{CliFault}
 use Rattle.iv_run.proofs.RunFilesLemmas.{report-files}
-use Rattle.iv_run.proofs.ShotLemmas.{shown_of, shows-text, shows-words}
+use Rattle.iv_run.proofs.ShotLemmas.{shown_of, shows-text}
 
 or-right : (a b : Bool) → b ≡ true → (a || b) ≡ true
 or-right true b is = refl
@@ -42,10 +42,6 @@ all-marked marked (r ∷ records) have =
     All-cons (λ (s : RecordValue). marked s.seq ≡ true) r records
     (have r.seq (ap (λ (b : Bool). b || list_any (has_rank r.seq) records) (eq-eqb r.seq r.seq refl)))
     (all-marked marked records (λ seq is. have seq (or-right (r.seq == seq) (list_any (has_rank seq) records) is)))
-
--- the sequences that have a record are enough
-pub enough-marked : (marks : List Bool) (records : List RecordValue) → ((seq : ℕ) → is_marked marks seq ≡ list_any (has_rank seq) records) → AreWanted (Some marks) records
-enough-marked marks records are = all-marked (is_marked marks) records (λ seq is. are seq ∙ is)
 
 -- all are
 pub enough-all : (held : Result Bed LoadFault) → IsEnough None held
@@ -97,10 +93,6 @@ module _ (said : Result Parsed CliFault) (files : Parsed) (reports : ReportsWant
 
   text-whole : (v : View) → text_beside files v ≡ text_beside whole v
   text-whole v = ap (λ (f : Parsed). text_beside f v) reports.4 ∙ text-wanted v reports.1 whole reports.3
-
-  -- a fault of the arguments is reported, and nothing is printed
-  pub wanted-words : (why : Fault) (old : SinkState) → view_beside files arguments ≡ Err why → Shows old old (Err (fault_of_arguments why)) (shown_of arguments said)
-  wanted-words why old asked = shows-words said whole reports.2 arguments why old (asked-whole (Err why) asked)
 
   -- the text of the view is printed; or a prefix of it is, and the output failed; or nothing is, for out of memory
   pub wanted-text : (v : View) → view_beside files arguments ≡ Ok v → (old new : SinkState) (result : Result (Unit {0}) CliFault)

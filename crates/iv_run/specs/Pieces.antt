@@ -1,7 +1,7 @@
 -- A BED file of which some bytes are not read yet.
 use Rattle.std.specs.Prelude.{◌≡◌, ◌≤◌, ◌⊎◌, ℕ, ◌+◌, ◌++◌, List, Result, Ok, Err, length}
 use Rattle.iv_text.specs.Genome.{Sequences}
-use Rattle.iv_text.specs.BedReading.{AreSound, Reading, begun, read_on, size_of}
+use Rattle.iv_text.specs.BedReading.{AreSoundLines, Reading, begun, read_on, size_of}
 use Rattle.iv_text.specs.RecordValue.{RecordValue}
 use Rattle.iv_text.specs.declared.fault.LoadCause.TheVariants as cause
 use Rattle.iv_text.specs.declared.fault.LoadFault.{LoadFault}
@@ -10,5 +10,5 @@ use Rattle.iv_text.specs.declared.fault.LoadFault.{LoadFault}
 -- whole file; or the fault is out of memory, or that of the file, whatever remains
 abbrev pub SaysSoFar : (RecordValue → RecordValue) → Sequences → ℕ → List ℕ → Result Reading LoadFault → Type 0
 SaysSoFar projected g limit front (Ok r) =
-    AreSound projected g limit r.read × (size_of r ≤ 1 + length front) × ((more : List ℕ) → read_on projected g limit begun (front ++ more) ≡ read_on projected g limit r more)
+    AreSoundLines projected g limit r.read × (size_of r ≤ 1 + length front) × ((more : List ℕ) → read_on projected g limit begun (front ++ more) ≡ read_on projected g limit r more)
 SaysSoFar projected g limit front (Err f) = (f ≡ record { line = 0; cause = cause.Memory }) ⊎ ((more : List ℕ) → read_on projected g limit begun (front ++ more) ≡ Err f)

@@ -52,8 +52,8 @@ abbrev pub IsEnoughOf : (Wanted → Type 0) → Sequences → List ℕ → Resul
 IsEnoughOf is_enough g text file = (wanted : Wanted) × is_enough wanted × IsFasta wanted g text file
 
 -- beside a first file of which a session or a caller may ask anything only all sequences are enough
-abbrev pub AreAll : {H : Type 0} → Wanted → H → Type 0
-AreAll wanted first = wanted ≡ None
+abbrev pub AreAllWanted : {H : Type 0} → Wanted → H → Type 0
+AreAllWanted wanted first = wanted ≡ None
 
 -- the files are those of these bytes, if what is held of a BED file on a genome, of this width without a record and with at most so many
 -- records, is so of its text, and if beside such a first file it is enough to hold these sequences of a FASTA file

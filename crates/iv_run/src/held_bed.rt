@@ -2,7 +2,7 @@
 ghost use Rattle.std.specs.Prelude.{◌≡◌, ◌<◌, ◌+◌, ◌^◌, ◌++◌, ℕ, List, [], None, Some, length, IfOk, IfErr, IsOkAnd};
 ghost use Rattle.std.specs.Option.{option_map};
 ghost use Rattle.std.proofs.Common.{arith};
-ghost use Rattle.iv_text.specs.BedReading.{AreSound, size_of};
+ghost use Rattle.iv_text.specs.BedReading.{AreSoundLines, size_of};
 ghost use Rattle.iv_text.specs.Genome.{Sequences};
 ghost use Rattle.iv_text.specs.Widths.{IsWidth};
 ghost use Rattle.iv_fasta.specs.FastaReading.{Wanted};

@@ -3,7 +3,7 @@ ghost use Rattle.std.specs.Prelude.{◌≡◌, ◌↔◌, ◌<◌, ◌≤◌, �
 ghost use Rattle.std.specs.Option.{option_map};
 ghost use Rattle.std.proofs.Common.{arith};
 ghost use Rattle.iv_bytes.specs.Sources.{SourceState};
-ghost use Rattle.iv_text.specs.BedReading.{AreSound, size_of};
+ghost use Rattle.iv_text.specs.BedReading.{AreSoundLines, size_of};
 ghost use Rattle.iv_text.specs.Genome.{Sequences};
 ghost use Rattle.iv_text.specs.Widths.{IsWidth};
 ghost use Rattle.iv_fasta.specs.FastaReading.{Wanted};
@@ -12,7 +12,7 @@ ghost use Rattle.iv_locators.specs.Inside.Spans.{span_records};
 ghost use Rattle.iv_run.specs.Files.{ReadsWhole, StopsReading};
 ghost use Rattle.iv_run.specs.Inside.Files.{EndsReading, HadMemory, IsPieceFault, IsTooLong};
 ghost use Rattle.iv_run.specs.Pieces.{SaysSoFar};
-ghost use Rattle.iv_run.specs.RunFiles.{AreAll, IsOn, IsParsed};
+ghost use Rattle.iv_run.specs.RunFiles.{AreAllWanted, IsOn, IsParsed};
 ghost use Rattle.iv_run.specs.declared.fault.FileFault.{FileFault};
 ghost use Rattle.iv_run.specs.declared.fault.FileFault.TheVariants as fault;
 
@@ -232,7 +232,7 @@ pub(crate) fn take_next<K: FromRecord<A>, A: Allocator + Copy>(
     so_far: Result<BedReader<K, A>, LoadFault>,
     piece: &[u8],
 ) -> Result<BedReader<K, A>, LoadFault>
-    requires sound { IfOk so_far (λ d. AreSound K.projected genome.now limit d.read) }
+    requires sound { IfOk so_far (λ d. AreSoundLines K.projected genome.now limit d.read) }
     requires few { IfOk so_far (λ d. size_of d + length piece.now < 2 ^ 64) }
     ensures { (front : List ℕ) → SaysSoFar K.projected genome.now limit front so_far → SaysSoFar K.projected genome.now limit (front ++ piece.now) result }
 {
@@ -249,7 +249,7 @@ pub(crate) fn finish<K: FromRecord<A>, A: Allocator + Copy>(
     limit: u32,
 ) -> Result<ParsedFile<K, A>, LoadFault>
     requires width { IsWidth empty_width }
-    requires sound { IfOk so_far (λ d. AreSound K.projected genome.now limit d.read) }
+    requires sound { IfOk so_far (λ d. AreSoundLines K.projected genome.now limit d.read) }
     requires few { IfOk so_far (λ d. size_of d < 2 ^ 64) }
     ensures says { (text : List ℕ) → SaysSoFar K.projected genome.now limit text so_far → IsParsed K.projected genome.now empty_width limit text result }
     ensures is_on { IsOn K.projected genome.now limit result }
@@ -293,7 +293,7 @@ impl<K: FromRecord<A>, A: Allocator + Copy> HoldsFile<A> for HeldRecords<K, A> {
 
     ghost is_on = { IsOn K.projected };
 
-    ghost is_enough = { AreAll };
+    ghost is_enough = { AreAllWanted };
 
     fn begin(alloc: A) -> Self::Reading {
         Ok(BedReader::new(alloc))

@@ -9,7 +9,7 @@ ghost use Rattle.iv_run.specs.IntervalsViews.{AskForIntervals, IsViewOf};
 ghost use Rattle.iv_run.specs.Inside.IntervalsViews.{AskForColumns, NeedsColumns};
 ghost use Rattle.iv_run.specs.Inside.Prints.{Prints};
 ghost use Rattle.iv_run.specs.Shots.{Shows, shown};
-ghost use Rattle.iv_run.specs.RunFiles.{AreAll, AreOf, IsParsed};
+ghost use Rattle.iv_run.specs.RunFiles.{AreAllWanted, AreOf, IsParsed};
 ghost use Rattle.iv_view.specs.Views.{kept_text};
 ghost use Rattle.iv_view.specs.declared.view.KeptView.{KeptView};
 
@@ -127,9 +127,7 @@ fn print_files<A: Allocator + Copy, S: Sink>(
         alloc,
         genome,
         first,
-        second: _,
-        fasta: _,
-        limit: _,
+        ..
     } = files;
     let mut spans = first.into_spans()?;
     sort_spans(&mut spans);
@@ -144,7 +142,7 @@ impl<A: Allocator + Copy> RunFiles<HeldRecords<Span, A>, A> {
     /// The fault of the first damaged file, or `Memory`: then nothing was printed. `Output`, and then a prefix was.
     pub fn print<S: Sink>(self, view: IntervalsView, sink: &mut S) -> Result<(), CliFault>
         ensures { (plan : RunPlan) (sizes first : List ℕ) (second fasta_text : Option (List ℕ)) → AskForIntervals plan.view view → self.on.width ≡ plan.width
-            → AreOf (IsParsed bare) AreAll sizes first second fasta_text self → Shows (S.state sink.old) (S.state sink.new) result (shown plan sizes first second fasta_text self.on.limit) }
+            → AreOf (IsParsed bare) AreAllWanted sizes first second fasta_text self → Shows (S.state sink.old) (S.state sink.new) result (shown plan sizes first second fasta_text self.on.limit) }
     {
         let RunFiles {
             on,

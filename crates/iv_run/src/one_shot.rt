@@ -1,4 +1,4 @@
-//! A run of one subcommand, without a script, over the bytes of its files.
+//! A run of one subcommand, without a script, over its files: their bytes, or what was held of them.
 ghost use Rattle.std.specs.Prelude.{◌≡◌, ◌<◌, ◌≤◌, ◌^◌, All, List, ℕ, Option, [], None, Ok, Err, IsSome, IfSome, IfOk, IfErr, OnOk, length};
 ghost use Rattle.std.specs.Option.{option_copied, option_map, unwrap_or};
 ghost use Rattle.iv_bytes.specs.Sinks.{Puts};
@@ -143,9 +143,7 @@ impl<'t, A: Allocator + Copy> TextFiles<'t, A> {
         let TextFiles {
             genome,
             first: mut file,
-            second: _,
-            fasta: _,
-            limit: _,
+            ..
         } = self;
         file.sort(alloc)?;
         sweep(alloc, view, file.records(), &genome, sink)
@@ -161,8 +159,7 @@ impl<'t, A: Allocator + Copy> TextFiles<'t, A> {
             genome,
             mut first,
             second,
-            fasta: _,
-            limit: _,
+            ..
         } = self;
         let Some(mut second) = second else {
             return Err(CliFault::from(Fault::NoSecond));
@@ -183,9 +180,8 @@ impl<'t, A: Allocator + Copy> TextFiles<'t, A> {
         let TextFiles {
             genome,
             first: mut records,
-            second: _,
             fasta,
-            limit: _,
+            ..
         } = self;
         let Some(fasta) = fasta else {
             return Err(CliFault::from(Fault::NoFasta));
@@ -203,9 +199,7 @@ impl<'t, A: Allocator + Copy> TextFiles<'t, A> {
         let TextFiles {
             genome,
             first: mut lines,
-            second: _,
-            fasta: _,
-            limit: _,
+            ..
         } = self;
         lines.sort(alloc)?;
         put_lines(&lines.records(), &genome, sink)?;

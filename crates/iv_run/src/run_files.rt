@@ -5,7 +5,7 @@ ghost use Rattle.iv_text.specs.declared.fault.LoadFault.{LoadFault};
 ghost use Rattle.iv_text.specs.Widths.{IsWidth};
 ghost use Rattle.iv_run.specs.Files.{ReadsWhole, StopsReading};
 ghost use Rattle.iv_run.specs.Loading.{damage_of, parsed};
-ghost use Rattle.iv_run.specs.RunFiles.{AreAll, AreOf, IsEnoughOf, IsFasta, IsIfNamed, IsOn, IsParsed, IsGenomeOf};
+ghost use Rattle.iv_run.specs.RunFiles.{AreAllWanted, AreOf, IsEnoughOf, IsFasta, IsIfNamed, IsOn, IsParsed, IsGenomeOf};
 ghost use Rattle.iv_run.specs.Inside.RunFiles.{ReportsProjected};
 ghost use Rattle.iv_run.specs.Inside.Held.{FitsOn, IsHeld};
 
@@ -233,7 +233,7 @@ impl<K: FromRecord<A>, A: Allocator + Copy> RunFiles<HeldRecords<K, A>, A> {
         fasta_text: Option<Vec<u8, A>>,
         limit: u32,
     ) -> Self
-        ensures says { AreOf (IsParsed K.projected) AreAll inputs.now.sizes.now inputs.now.first.now (option_copied inputs.now.other) (option_map (λ text. text.items) fasta_text) result }
+        ensures says { AreOf (IsParsed K.projected) AreAllWanted inputs.now.sizes.now inputs.now.first.now (option_copied inputs.now.other) (option_map (λ text. text.items) fasta_text) result }
         ensures width { result.on.width ≡ plan.now.width }
         ensures limit { result.on.limit ≡ limit }
     {
@@ -262,7 +262,7 @@ pub fn sound_files<K: FromRecord<A>, A: Allocator + Copy>(
 ) -> Result<LoadedFiles<K, A>, CliFault>
     requires first { IsOn K.projected on.genome on.limit first }
     requires second { IfSome second (IsOn K.projected on.genome on.limit) }
-    ensures says { (sizes text : List ℕ) (other bases : Option (List ℕ)) → AreOf (IsParsed K.projected) AreAll sizes text other bases (record { on = on; first = first; second = second; fasta = fasta })
+    ensures says { (sizes text : List ℕ) (other bases : Option (List ℕ)) → AreOf (IsParsed K.projected) AreAllWanted sizes text other bases (record { on = on; first = first; second = second; fasta = fasta })
         → ReportsProjected K.projected result (parsed on.width sizes text other bases on.limit) }
     ensures limit { IfOk result (λ files. files.limit ≡ on.limit) }
 {

@@ -21,7 +21,7 @@ use iv_workspace::{Edit, Session, Target};
 use std::alloc::Allocator;
 use std::marker::Model;
 
-/// What a line asks for. Names, words and columns are in the line.
+/// What a line asks for. Names, arguments and columns are in the line.
 #[derive(Drop)]
 pub(crate) enum Request<'a> {
     /// Nothing: the line is empty or a comment.
@@ -30,7 +30,7 @@ pub(crate) enum Request<'a> {
     Edit(Target, Edit<'a>),
     /// To give the sequence of this name this length, which is at most 4,000,000,000.
     Resize(Field<'a>, u64),
-    /// To open a view under this name, by the words of this text.
+    /// To open a view under this name, by the arguments in this text.
     Open(Field<'a>, Field<'a>),
     Close(Field<'a>),
     /// To print the view of this name, all of it or a region.
@@ -157,7 +157,7 @@ impl<'a> Request<'a> {
         Ok(Request::Resize(name, length))
     }
 
-    /// To open a view under the first field, by the words of the second.
+    /// To open a view under the first field, by the arguments in the second.
     fn open(fields: Option<&'a [u8]>) -> Result<Request<'a>, Fault>
         ensures { result ≡ if_ok (two_of (fields_left tab fields.entry)) (λ pair. Ok (request.Open pair.0 pair.1)) }
     {

@@ -1,5 +1,5 @@
 -- A BED file read line by line has the records of its lines if none has a cause, else the first fault.
-use Rattle.std.proofs.Common.{◌≡◌, ◌↔◌, ℕ, ◌+◌, ◌++◌, nat_le, Bool, true, false, not, cond, List, [], ◌∷◌, Option, None, Some, Result, Ok, Err, length, map, find, option_map, slice_get, refl, sym, ◌∙◌, ap}
+use Rattle.std.proofs.Common.{◌≡◌, ◌↔◌, ℕ, ◌++◌, nat_le, Bool, true, false, not, cond, List, [], ◌∷◌, Option, None, Some, Result, Ok, Err, length, map, find, option_map, slice_get, refl, sym, ◌∙◌, ap}
 use Rattle.std.specs.Option.{unwrap_or, option_or}
 use Rattle.std.proofs.lemmas.Bool.{cond-true, cond-false, not_from_true, not_from_false}
 use Rattle.std.proofs.lemmas.List.{map-append}
@@ -20,7 +20,8 @@ use Rattle.iv_text.specs.declared.fault.LoadCause.{LoadCause}
 use Rattle.iv_text.specs.declared.fault.LoadCause.TheVariants as cause
 use Rattle.iv_text.specs.declared.fault.LoadFault.{LoadFault}
 use Rattle.iv_text.proofs.BedLemmas.{row-unread}
-use Rattle.iv_text.proofs.FileMeaningLemmas.{same-ok, same-err, ok-err, IsRun, run-value, run-fault, kept, kept-not}
+use Rattle.iv_text.proofs.FileMeaningLemmas.{same-ok, same-err, ok-err, AreSteps, run-value, run-fault, kept-not}
+use Rattle.iv_text.proofs.ListLemmas.{filter-pushed}
 
 -- ---- what is known after lines
 
@@ -49,7 +50,7 @@ draft-unread g before line unread = ap (draft_of g) (kept-not (λ l. not (is_unr
 
 draft-read : (g : Sequences) (before : List (List ℕ)) (line : List ℕ) → is_unread line ≡ false → draft g (before ++ line ∷ []) ≡ with_line g (draft g before) line
 draft-read g before line read =
-    ap (draft_of g) (kept (λ l. not (is_unread l)) before line (not_from_false (is_unread line) read))
+    ap (draft_of g) (filter-pushed (λ l. not (is_unread l)) before line (not_from_false (is_unread line) read))
     ∙ draft-push g (record_lines before) line
 
 -- ---- the first cause of a line
@@ -124,18 +125,8 @@ row-stops g limit before line c is = by (is_unread line) refl
 
 -- ---- all lines
 
--- the loop's next step, from what one more line gives
-rows-step : (g : Sequences) (limit n : ℕ) (d : Draft) (line : List ℕ) (lines : List (List ℕ)) (r : Result Draft LoadCause) → after_record g limit d line ≡ r
-    → after_records g limit n d (line ∷ lines) ≡ elim r as (λ _. Result Draft LoadFault) [ Ok more ↦ after_records g limit (n + 1) more lines | Err c ↦ Err (record { line = n; cause = c }) ]
-rows-step g limit n d line lines r is =
-    ap (λ (o : Result Draft LoadCause). elim o as (λ _. Result Draft LoadFault) [ Ok more ↦ after_records g limit (n + 1) more lines | Err c ↦ Err (record { line = n; cause = c }) ]) is
-
-bed-run : (g : Sequences) (limit : ℕ) → IsRun (record_cause g limit) (draft g) (after_records g limit)
-bed-run g limit = record {
-  ends = λ n d. refl;
-  goes = λ n before line lines none. rows-step g limit n (draft g before) line lines (Ok (draft g (before ++ line ∷ []))) (row-goes g limit before line none);
-  stops = λ n before line lines c is. rows-step g limit n (draft g before) line lines (Err c) (row-stops g limit before line c is);
-}
+bed-steps : (g : Sequences) (limit : ℕ) → AreSteps (record_cause g limit) (draft g) 1 (λ n. after_record g limit)
+bed-steps g limit = record { goes = row-goes g limit; stops = row-stops g limit }
 
 abbrev bed_at : ℕ → Draft → Bed
 bed_at empty d = record { width = unwrap_or d.width empty; records = d.records }
@@ -146,13 +137,13 @@ bed-value g empty limit text b = (forth (after_records g limit 1 (draft g []) (l
   where
     forth : (r : Result Draft LoadFault) → after_records g limit 1 (draft g []) (lines text) ≡ r → finished empty r ≡ Ok b → HaveNoCause (record_cause g limit) (lines text) × (b ≡ bed_from g empty (lines text))
     forth (Ok d) was is =
-        let h = (run-value (record_cause g limit) (draft g) (after_records g limit) (bed-run g limit) (lines text) d).0 was in
+        let h = (run-value (record_cause g limit) (draft g) (λ n. after_record g limit) (bed-steps g limit) (lines text) d).0 was in
         (h.0, sym (same-ok (bed_at empty d) b is) ∙ ap (bed_at empty) h.1)
     forth (Err f) was is = absurd (ok-err b f (sym is))
 
     back : HaveNoCause (record_cause g limit) (lines text) × (b ≡ bed_from g empty (lines text)) → bed_of g empty limit text ≡ Ok b
     back h =
-        ap (finished empty) ((run-value (record_cause g limit) (draft g) (after_records g limit) (bed-run g limit) (lines text) (draft g (lines text))).1 (h.0, refl))
+        ap (finished empty) ((run-value (record_cause g limit) (draft g) (λ n. after_record g limit) (bed-steps g limit) (lines text) (draft g (lines text))).1 (h.0, refl))
         ∙ ap Ok (sym h.1)
 
 -- a fault of a file is one of its lines
@@ -164,4 +155,4 @@ pub bed-fault : (g : Sequences) (empty limit : ℕ) (text : List ℕ) (f : LoadF
 bed-fault g empty limit text f = (λ is. both.0 (unfinished empty (after_records g limit 1 (draft g []) (lines text)) f is), λ w. ap (finished empty) (both.1 w))
   where
     both : (after_records g limit 1 (draft g []) (lines text) ≡ Err f) ↔ IsFirstFault (record_cause g limit) (lines text) f
-    both = run-fault (record_cause g limit) (draft g) (after_records g limit) (bed-run g limit) (lines text) f
+    both = run-fault (record_cause g limit) (draft g) (λ n. after_record g limit) (bed-steps g limit) (lines text) f

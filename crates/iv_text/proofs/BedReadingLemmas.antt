@@ -1,5 +1,5 @@
 -- The reading of a BED file in pieces.
-use Rattle.std.proofs.Common.{◌≡◌, ℕ, zero, suc, ◌+◌, ◌-◌, ◌<◌, ◌≤◌, Bool, true, false, cond, ◌==◌, ◌&&◌, nat_le, List, [], ◌∷◌, ◌++◌, Option, Some, None, Result, Ok, Err, length, map, take, drop, slice_index_or, ◌%◌, ◌^◌, refl, sym, ap, subst, ◌∙◌, arith, inl, inr, append_assoc, unwrap_or}
+use Rattle.std.proofs.Common.{◌≡◌, ℕ, zero, suc, ◌+◌, ◌-◌, ◌<◌, ◌≤◌, Bool, true, false, cond, ◌==◌, ◌&&◌, nat_le, List, [], ◌∷◌, ◌++◌, Option, Some, None, Result, Ok, Err, length, map, take, drop, slice_index_or, ◌%◌, ◌^◌, refl, sym, ap, subst, ◌∙◌, arith, inl, inr, append_assoc, append-nil, take-append-drop, unwrap_or}
 use Rattle.std.specs.Prelude.{All, MatchOption, IsErrAnd, IfErr}
 use Rattle.std.proofs.lemmas.Grind.{common_steps}
 use Rattle.std.specs.List.{onto_first}
@@ -8,7 +8,7 @@ use Rattle.std.proofs.lemmas.Bool.Decides.{nat_tests}
 use Rattle.std.proofs.Math.Nat.{mod-add-mod, mod-eq_of_lt}
 use Rattle.std.proofs.lemmas.List.{length-map, map-append, drop_all, take_more, drop-drop}
 use Rattle.std.proofs.lemmas.List.Elements.{All-nil, All-cons, All-append, All-head, All-tail}
-use Rattle.iv_text.specs.BedFile.{Bed, Draft, is_unread, is_width, after_record}
+use Rattle.iv_text.specs.BedFile.{Bed, Draft, is_unread, is_width, after_record, bed_of}
 use Rattle.iv_text.specs.Inside.BedFile.{width_at, with_row}
 use Rattle.iv_text.specs.Fields.{columns}
 use Rattle.iv_text.specs.Genome.{Sequences}
@@ -22,7 +22,7 @@ use Rattle.iv_text.specs.declared.fault.LoadFault.{LoadFault}
 use Rattle.iv_text.specs.FastLine.{IsFastLine}
 use Rattle.iv_text.specs.Inside.OnePass.{IsFirstLine}
 use Rattle.iv_text.specs.declared.record_reader.FastLine.{FastLine}
-use Rattle.iv_text.specs.BedReading.{LinesRead, known, projected_draft, after, IsReadAt, IsProjected, AreSound, Held, shown, byte_after, BeginsAfter, Shows, TakesLines, RefusesLines, Reading, begun, read_on, projected_or_fault, projected_bed_of, after_records, finished}
+use Rattle.iv_text.specs.BedReading.{LinesRead, known, projected_draft, after, IsReadAt, IsProjected, AreSoundLines, Held, shown, byte_after, BeginsAfter, Shows, TakesLines, RefusesLines, Reading, begun, read_on, projected_or_fault, projected_bed_of, after_records, finished}
 use Rattle.iv_text.specs.Inside.BedReading.{Takes, Refuses, TakesLine, RefusesLine, EndsAtFeed, IsEnded}
 use Rattle.iv_text.proofs.BedLemmas.{row-unread, row-columns, row-taken}
 
@@ -193,7 +193,7 @@ module _ (projected : RecordValue → RecordValue) (g : Sequences) (limit : ℕ)
       (row-taken g limit (known old) line w (Err cause.TooMany) unread wide low high (ap (with_row limit w old.records) says ∙ full-row limit w old.records r full))
 
   -- what is held of the records before, at the width that is found
-  rows-before : (old : LinesRead) (w other : ℕ) → AreSound projected g limit old → w ≡ unwrap_or old.width other → All (IsProjected projected g w) old.records
+  rows-before : (old : LinesRead) (w other : ℕ) → AreSoundLines projected g limit old → w ≡ unwrap_or old.width other → All (IsProjected projected g w) old.records
   rows-before old w other sound is = by old.width sound.fit is
     where
       by : (o : Option ℕ) → MatchOption o (old.records ≡ []) (λ k. (3 ≤ k) × (k ≤ 6) × All (IsProjected projected g k) old.records) → w ≡ unwrap_or o other → All (IsProjected projected g w) old.records
@@ -201,8 +201,8 @@ module _ (projected : RecordValue → RecordValue) (g : Sequences) (limit : ℕ)
       by (Some k) some same = subst (λ (n : ℕ). All (IsProjected projected g n) old.records) (sym same) some.2
 
   -- a record was taken: what was read is sound
-  pub record-sound : (old new : LinesRead) (line : List ℕ) (w : ℕ) (r k : RecordValue) → AreSound projected g limit old → w ≡ unwrap_or old.width (length (columns line)) → 3 ≤ w → w ≤ 6
-      → Fits g w r → k ≡ projected r → length old.records < limit → new.records ≡ old.records ++ k ∷ [] → new.width ≡ Some w → AreSound projected g limit new
+  pub record-sound : (old new : LinesRead) (line : List ℕ) (w : ℕ) (r k : RecordValue) → AreSoundLines projected g limit old → w ≡ unwrap_or old.width (length (columns line)) → 3 ≤ w → w ≤ 6
+      → Fits g w r → k ≡ projected r → length old.records < limit → new.records ≡ old.records ++ k ∷ [] → new.width ≡ Some w → AreSoundLines projected g limit new
   record-sound old new line w r k sound wide low high fits kept_is free grown width =
       let one : All (IsProjected projected g w) (k ∷ []) = All-cons (IsProjected projected g w) k [] (r, fits, kept_is) (All-nil (IsProjected projected g w)) in
       let before : All (IsProjected projected g w) old.records = rows-before old w (length (columns line)) sound wide in
@@ -229,7 +229,7 @@ module _ (projected : RecordValue → RecordValue) (g : Sequences) (limit : ℕ)
       line-taken old new all left line next is (row-taken g limit (known old) line w (Ok next) unread wide low high gives) (sym width) records
 
   -- a width that is known is one of 3 to 6
-  pub known-wide : (old : LinesRead) (w : ℕ) → AreSound projected g limit old → old.width ≡ Some w → (3 ≤ w) × (w ≤ 6)
+  pub known-wide : (old : LinesRead) (w : ℕ) → AreSoundLines projected g limit old → old.width ≡ Some w → (3 ≤ w) × (w ≤ 6)
   known-wide old w sound is =
       let fit : (3 ≤ w) × (w ≤ 6) × All (IsProjected projected g w) old.records = subst (λ (o : Option ℕ). MatchOption o (old.records ≡ []) (λ n. (3 ≤ n) × (n ≤ 6) × All (IsProjected projected g n) old.records)) is sound.fit in
       (fit.0, fit.1)
@@ -237,27 +237,34 @@ module _ (projected : RecordValue → RecordValue) (g : Sequences) (limit : ℕ)
   -- ---- pieces
 
   -- a line that is carried on, and ends with the first of more lines
-  pub carried-lines : (tail all front back more : List ℕ) → all ≡ front ++ back → EndsAtFeed front → lines (tail ++ (all ++ more)) ≡ lines (tail ++ front) ++ lines (back ++ more)
-  carried-lines tail all front back more is ends =
-      ap (λ (t : List ℕ). lines (tail ++ (t ++ more))) is
-      ∙ ap (λ (t : List ℕ). lines (tail ++ t)) (append_assoc front back more)
-      ∙ ap lines (sym (append_assoc tail front (back ++ more)))
-      ∙ lines-fed (tail ++ front) (back ++ more) (fed-after tail front ends)
+  pub carried-lines : (old now : Reading) (all line : List ℕ) (size : ℕ) → now ≡ old → now.tail ++ take size all ≡ line → EndsAtFeed (take size all)
+      → (more : List ℕ) → read_on projected g limit old (all ++ more) ≡ after projected g limit now.read (lines line ++ lines (drop size all ++ more))
+  carried-lines old now all line size same is ends more =
+      let front : List ℕ = take size all in
+      let back : List ℕ = drop size all ++ more in
+      ap (λ (r : Reading). read_on projected g limit r (all ++ more)) (sym same)
+      ∙ ap (λ (t : List ℕ). read_on projected g limit now (t ++ more)) (sym (take-append-drop size all))
+      ∙ ap (read_on projected g limit now) (append_assoc front (drop size all) more)
+      ∙ ap (after projected g limit now.read) (ap lines (sym (append_assoc now.tail front back)) ∙ lines-fed (now.tail ++ front) back (fed-after now.tail front ends))
+      ∙ ap (λ (t : List ℕ). after projected g limit now.read (lines t ++ lines back)) is
 
   -- the lines of a piece, once no line is carried on
-  pub piece-lines : (old on : Reading) (piece all left back : List ℕ) → piece ≡ all ++ back
-      → ((m : List ℕ) → read_on projected g limit old (all ++ m) ≡ read_on projected g limit on (left ++ m)) → on.tail ≡ [] → IsEnded left
-      → (more : List ℕ) → read_on projected g limit old (piece ++ more) ≡ after projected g limit on.read (lines left ++ lines (back ++ more))
-  piece-lines old on piece all left back is carried none ended more =
+  pub piece-lines : (old on now : Reading) (piece all line back : List ℕ) (taken : ℕ) → piece ≡ all ++ back
+      → ((m : List ℕ) → read_on projected g limit old (all ++ m) ≡ read_on projected g limit on (drop taken all ++ m)) → on.tail ≡ [] → IsEnded (drop taken all) → now ≡ on → line ≡ drop taken all
+      → (more : List ℕ) → read_on projected g limit old (piece ++ more) ≡ after projected g limit now.read (lines line ++ lines (back ++ more))
+  piece-lines old on now piece all line back taken is carried none ended same line_is more =
+      let left : List ℕ = drop taken all in
       ap (λ (t : List ℕ). read_on projected g limit old (t ++ more)) is
       ∙ ap (read_on projected g limit old) (append_assoc all back more)
       ∙ carried (back ++ more)
       ∙ ap (λ (t : List ℕ). after projected g limit on.read (lines (t ++ (left ++ (back ++ more))))) none
       ∙ ap (after projected g limit on.read) (lines-ended left (back ++ more) ended)
+      ∙ ap (λ (r : Reading). after projected g limit r.read (lines left ++ lines (back ++ more))) (sym same)
+      ∙ ap (λ (t : List ℕ). after projected g limit now.read (lines t ++ lines (back ++ more))) (sym line_is)
 
   -- ---- the whole file
 
-  pub begun-sound : AreSound projected g limit begun.read
+  pub begun-sound : AreSoundLines projected g limit begun.read
   begun-sound = record { fit = refl; few = omega arith }
 
   -- what is known of a file before its first byte, if its text remains, is what is known of the text
@@ -276,7 +283,7 @@ module _ (projected : RecordValue → RecordValue) (g : Sequences) (limit : ℕ)
       (λ i. (ap projected first.2 ∙ again first.0 ∙ sym first.2) i ∷ projected-again again w records (All-tail (IsProjected projected g w) k records all) i)
 
   -- the width of a file that was read, and what is held of its records
-  pub sound-kept : (l : LinesRead) (empty : ℕ) → AreSound projected g limit l → 3 ≤ empty → empty ≤ 6
+  pub sound-kept : (l : LinesRead) (empty : ℕ) → AreSoundLines projected g limit l → 3 ≤ empty → empty ≤ 6
       → (3 ≤ unwrap_or l.width empty) × (unwrap_or l.width empty ≤ 6) × All (IsProjected projected g (unwrap_or l.width empty)) l.records
   sound-kept l empty sound low high = by l.width sound.fit
     where
@@ -379,11 +386,8 @@ module _ {K : Type 0} (held_of : RecordValue → ℕ → K) (g : Sequences) (lim
   abbrev pub TakesUpTo : Held K → Held K → List ℕ → List ℕ → Type 0
   TakesUpTo old now text left = (projected : RecordValue → RecordValue) (row_of : K → RecordValue) → Shows held_of g projected row_of old.at text
       → Shows held_of g projected row_of now.at left
-      × (AreSound projected g limit (shown row_of old) → AreSound projected g limit (shown row_of now))
+      × (AreSoundLines projected g limit (shown row_of old) → AreSoundLines projected g limit (shown row_of now))
       × ((rest : List (List ℕ)) → after projected g limit (shown row_of old) (lines text ++ rest) ≡ after projected g limit (shown row_of now) (lines left ++ rest))
-
-  pub takes-none : (h : Held K) (text : List ℕ) → TakesUpTo h h text text
-  takes-none h text = λ projected row_of s. (s, λ sound. sound, λ rest. refl)
 
   pub takes-more : (old now read next : Held K) (text left rest : List ℕ) (size : ℕ) → TakesUpTo old now text left → TakesLine held_of g limit now read left size
       → read.number ≡ now.number → read.at ≡ now.at → next ≡ record read { number = read.number + 1; at = byte_after read.at size } → rest ≡ drop size left
@@ -396,8 +400,8 @@ module _ {K : Type 0} (held_of : RecordValue → ℕ → K) (g : Sequences) (lim
       subst (λ (n : ℕ). Shows held_of g projected row_of n (drop size left)) (sym at_is) (shows-left projected row_of now.at left size so_far.0) in (
         subst (λ (t : List ℕ). Shows held_of g projected row_of next.at t) (sym rest_is) there,
         λ sound.
-            let more : AreSound projected g limit (shown row_of read) = one.0 (so_far.1 sound) in
-            subst (λ (h : Held K). AreSound projected g limit (shown row_of h)) (sym next_is) (record { fit = more.fit; few = more.few }),
+            let more : AreSoundLines projected g limit (shown row_of read) = one.0 (so_far.1 sound) in
+            subst (λ (h : Held K). AreSoundLines projected g limit (shown row_of h)) (sym next_is) (record { fit = more.fit; few = more.few }),
         λ others.
             so_far.2 others
             ∙ one.1 now.number others
@@ -405,16 +409,6 @@ module _ {K : Type 0} (held_of : RecordValue → ℕ → K) (g : Sequences) (lim
             ∙ ap (λ (h : Held K). after projected g limit (shown row_of h) (lines (drop size left) ++ others)) (sym next_is)
             ∙ ap (λ (t : List ℕ). after projected g limit (shown row_of next) (lines t ++ others)) (sym rest_is),
       )
-
-  pub takes-all : (old now : Held K) (text left : List ℕ) → TakesUpTo old now text left → left ≡ [] → TakesLines held_of g limit old now text
-  takes-all old now text left takes none = λ projected row_of s.
-      let so_far = takes projected row_of s in
-      (so_far.1, λ rest. so_far.2 rest ∙ ap (λ (t : List ℕ). after projected g limit (shown row_of now) (lines t ++ rest)) none)
-
-  pub takes-refused : (old now : Held K) (text left : List ℕ) (n : ℕ) (c : LoadCause) → TakesUpTo old now text left → RefusesLine held_of g limit now left c → n ≡ now.number
-      → RefusesLines held_of g limit old text (record { line = n; cause = c })
-  takes-refused old now text left n c takes refuses is = λ projected row_of s rest.
-      (takes projected row_of s).2 rest ∙ refuses projected row_of now.number rest ∙ ap (λ (m : ℕ). Err (record { line = m; cause = c })) (sym is)
 
   -- ---- items shown as the records that they represent
 
@@ -439,6 +433,14 @@ rows-all (r ∷ records) = ap (λ (rest : List RecordValue). r ∷ rest) (rows-a
 pub kept-all : (file : Result Bed LoadFault) → projected_or_fault (λ r. r) file ≡ file
 kept-all (Ok b) = ap (λ (records : List RecordValue). Ok (record { width = b.width; records = records })) (rows-all b.records)
 kept-all (Err f) = refl
+
+-- and so is the file of a text that was read from its first byte on
+pub text-whole : (g : Sequences) (limit empty : ℕ) (text : List ℕ) (r : Reading) → r ≡ begun → bed_of g empty limit text ≡ finished empty (read_on (λ r. r) g limit r (text ++ []))
+text-whole g limit empty text r is =
+    sym (kept-all (bed_of g empty limit text))
+    ∙ sym (whole-file (λ r. r) g limit empty text)
+    ∙ ap (λ (t : List ℕ). finished empty (read_on (λ r. r) g limit begun t)) (sym (append-nil text))
+    ∙ ap (λ (r : Reading). finished empty (read_on (λ r. r) g limit r (text ++ []))) (sym is)
 
 -- so they fit the genome
 pub fit-all : (g : Sequences) (w : ℕ) (records : List RecordValue) → All (IsProjected (λ r. r) g w) records → All (Fits g w) records

@@ -1,14 +1,14 @@
 -- The bytes of a cell, looked at one by one and together.
-use Rattle.std.proofs.Common.{◌≡◌, ℕ, zero, suc, ◌+◌, ◌-◌, ◌%◌, ◌^◌, ◌<◌, ◌≤◌, Bool, false, not, ltb, List, [], ◌∷◌, length, take, get_or, map, sym, ap, subst, arith, add-one, replicate, w8}
-use lib.Lanes.{chunk, zip2, mask_l, top}
+use Rattle.std.proofs.Common.{◌≡◌, ◌≢◌, ℕ, zero, suc, ◌+◌, ◌-◌, ◌%◌, ◌^◌, ◌<◌, ◌≤◌, Bool, false, ltb, List, [], ◌∷◌, length, take, get_or, map, sym, ap, subst, arith, add-one, replicate, w8}
+use lib.Lanes.{zip2, mask_l, top}
 use lib.Count.{count_trailing_zeros}
 use mathlib.Core.Bool.{cond}
 use Rattle.std.proofs.lemmas.Bool.Decides.{nat_tests}
 use Rattle.std.proofs.lemmas.List.{take_more}
 use Rattle.std.proofs.lemmas.List.Elements.{All-append, All-cons, All-nil}
-use Rattle.std.proofs.lemmas.Simd.{length-chunk, bitmask_splat, trailing_mask_l, run_in_chunk_fails, run_in_chunk_le}
-use Rattle.std.specs.List.{prefix_len}
+use Rattle.std.proofs.lemmas.Simd.{length-chunk, bitmask_splat}
 use Rattle.iv_text.specs.Inside.OnePass.{IsCell, ends_cell}
+use Rattle.iv_text.proofs.BlockLemmas.{before-lowest}
 
 -- one more byte that no cell ends at
 pub cell-more : (text : List ℕ) (k : ℕ) → k < length text → IsCell (take k text) → ends_cell (get_or text k 0) ≡ false → IsCell (take (k + 1) text)
@@ -31,17 +31,14 @@ is_control b = ltb b 14
 plain-byte : (b : ℕ) → is_control b ≡ false → ends_cell b ≡ false
 plain-byte b is = grind (arith, nat_tests)
 
--- the mask of these bytes
-pub control-mask : (bytes : List ℕ) → length bytes ≡ 16
-    → mask_l (map (top 7) (zip2 (λ a b. cond (ltb a b) (2 ^ 8 - 1) 0) bytes (replicate 16 14))) % 2 ^ 64 ≡ mask_l (map is_control bytes)
-control-mask bytes long = bitmask_splat w8 ltb bytes 16 14 long (omega arith)
+-- the mask of these bytes among the first sixteen
+abbrev pub control_mask : List ℕ → ℕ
+control_mask text = mask_l (map (top 7) (zip2 (λ a b. cond (ltb a b) (2 ^ 8 - 1) 0) (take 16 text) (replicate 16 14))) % 2 ^ 64
 
--- no cell ends before the lowest bit of the mask
-pub cell-before : (text : List ℕ) → 16 ≤ length text → 0 < mask_l (map is_control (take 16 text))
-    → IsCell (take (count_trailing_zeros 64 (mask_l (map is_control (take 16 text)))) text) × (count_trailing_zeros 64 (mask_l (map is_control (take 16 text))) ≤ length text)
+-- no cell ends before its lowest bit
+pub cell-before : (text : List ℕ) → 16 ≤ length text → control_mask text ≢ 0
+    → IsCell (take (count_trailing_zeros 64 (control_mask text)) text) × (count_trailing_zeros 64 (control_mask text) ≤ length text)
 cell-before text long some =
-    let r : ℕ = count_trailing_zeros 64 (mask_l (map is_control (take 16 text))) in
-    let few : length (chunk 0 16 text) ≤ 64 = omega (arith, length-chunk 0 16 text long) in
-    let counted : r ≡ prefix_len (λ x. not (is_control x)) (chunk 0 16 text) = trailing_mask_l is_control 64 (chunk 0 16 text) few some in
-    let most : r ≤ 16 = run_in_chunk_le is_control text 0 16 r 0 long counted in
-    (cell-below text r (omega (arith, most)) (λ k lt. plain-byte (get_or text k 0) (run_in_chunk_fails is_control text 0 16 r 0 long counted k (omega arith) (omega arith))), omega (arith, most))
+    let before = before-lowest is_control text (control_mask text) long (bitmask_splat w8 ltb (take 16 text) 16 14 (length-chunk 0 16 text long) (omega arith)) some in
+    let within : count_trailing_zeros 64 (control_mask text) ≤ length text = omega (arith, before.1) in
+    (cell-below text (count_trailing_zeros 64 (control_mask text)) within (λ k lt. plain-byte (get_or text k 0) (before.0 k lt)), within)

@@ -1,8 +1,6 @@
 -- Bytes looked at together: which of sixteen are digits, what eight digits mean, and four bytes as one number.
-use Rattle.std.proofs.Common.{fold, subst, ◌≡◌, ℕ, zero, suc, ◌+◌, ◌-◌, ◌*◌, ◌/◌, ◌%◌, ◌^◌, ◌<◌, ◌≤◌, Bool, true, false, not, ltb, List, [], ◌∷◌, ◌++◌, length, take, drop, length-take, Some, get_or, map, refl, sym, ap, ◌∙◌, arith, replicate, w8, add-one}
-use lib.Lanes.{chunk, zip2, mask_l, top}
+use Rattle.std.proofs.Common.{fold, subst, ◌≡◌, ◌≢◌, ℕ, zero, suc, ◌+◌, ◌-◌, ◌*◌, ◌/◌, ◌%◌, ◌^◌, ◌<◌, ◌≤◌, Bool, true, false, ltb, List, [], ◌∷◌, ◌++◌, length, take, drop, length-take, Some, get_or, map, refl, sym, ap, ◌∙◌, arith, replicate, add-one}
 use lib.Count.{count_trailing_zeros}
-use mathlib.Core.Bool.{cond}
 use Rattle.std.proofs.lemmas.Bool.Decides.{nat_tests}
 use Rattle.std.proofs.lemmas.Grind.{common_steps}
 use Rattle.std.proofs.lemmas.List.{take_more}
@@ -10,12 +8,11 @@ use Rattle.std.proofs.lemmas.List.Folds.{fold-map}
 use Rattle.std.proofs.Math.Nat.{mul-add, mul_assoc, pow-succ'}
 use Rattle.std.proofs.lemmas.List.Prefix.{front_from_reads}
 use native.Mathlib.Nat.{div-div-eq-div-mul}
-use Rattle.std.proofs.lemmas.Simd.{length-chunk, length-zip2, zip2_splat, zip2_splat_left, tops_compared, mask_l-mod, map-map, trailing_mask_l, none_from_empty_mask, run_in_chunk_fails}
 use Rattle.std.specs.Char.{is_ascii_digit}
-use Rattle.std.specs.List.{prefix_len}
 use Rattle.std.specs.Str.{all_ascii_digits}
 use Rattle.iv_text.specs.Inside.Number.{decimal_from}
 use Rattle.iv_text.specs.Inside.OnePass.{BeginsWithNumber}
+use Rattle.iv_text.proofs.BlockLemmas.{before-outside, is_outside, outside_mask}
 use Rattle.iv_text.proofs.OnePassLemmas.{decimal-more, digit-bound, digits-more, number-is, rest-whole}
 
 -- digits at each index below n are n digits in a row
@@ -38,42 +35,14 @@ begins text n value some few within each is =
 
 -- ---- sixteen bytes
 
--- a byte less 48, as a byte is
-abbrev value_of : ℕ → ℕ
-value_of b = (b + (2 ^ 8 - 48)) % 2 ^ 8
-
--- the byte is no digit
-abbrev pub is_other : ℕ → Bool
-is_other b = ltb 9 (value_of b)
-
 -- only a digit's value is at most 9
-value-digit : (b : ℕ) → b < 256 → is_other b ≡ false → is_ascii_digit b ≡ true
+value-digit : (b : ℕ) → b < 256 → is_outside 48 9 b ≡ false → is_ascii_digit b ≡ true
 value-digit b byte small = grind (arith, nat_tests)
 
--- the mask of the bytes that are no digits
-pub others-mask : (bytes : List ℕ) → length bytes ≡ 16
-    → mask_l (map (top 7) (zip2 (λ a b. cond (ltb a b) (2 ^ 8 - 1) 0) (replicate 16 9) (zip2 (λ a b. (a + (2 ^ 8 - b)) % 2 ^ 8) bytes (replicate 16 48)))) % 2 ^ 64 ≡ mask_l (map is_other bytes)
-others-mask bytes long =
-    let vs : List ℕ = zip2 (λ (a b : ℕ). (a + (2 ^ 8 - b)) % 2 ^ 8) bytes (replicate 16 48) in
-    let vs_long : length vs ≡ 16 = length-zip2 (λ (a b : ℕ). (a + (2 ^ 8 - b)) % 2 ^ 8) bytes (replicate 16 48) long ∙ long in
-    ap (λ ms. mask_l ms % 2 ^ 64) (tops_compared w8 ltb (replicate 16 9) vs)
-    ∙ mask_l-mod (zip2 ltb (replicate 16 9) vs) 64 (omega (arith, length-zip2 ltb (replicate 16 9) vs (sym vs_long)))
-    ∙ ap mask_l (zip2_splat_left ltb 9 16 vs vs_long
-    ∙ ap (map (ltb 9)) (zip2_splat (λ (a b : ℕ). (a + (2 ^ 8 - b)) % 2 ^ 8) bytes 16 48 long)
-    ∙ map-map (ltb 9) value_of bytes)
-
--- if the mask is empty, all of the sixteen are digits
-pub digits-in-all : (text : List ℕ) → 16 ≤ length text → ((k : ℕ) → get_or text k 0 < 256) → mask_l (map is_other (take 16 text)) ≡ 0
-    → (k : ℕ) → k < 16 → is_ascii_digit (get_or text k 0) ≡ true
-digits-in-all text long bytes none k lt = value-digit (get_or text k 0) (bytes k) (none_from_empty_mask is_other text 0 16 0 long none k (omega arith) lt)
-
--- else those before the lowest bit
-pub digits-before : (text : List ℕ) → 16 ≤ length text → ((k : ℕ) → get_or text k 0 < 256) → 0 < mask_l (map is_other (take 16 text))
-    → (k : ℕ) → k < count_trailing_zeros 64 (mask_l (map is_other (take 16 text))) → is_ascii_digit (get_or text k 0) ≡ true
-digits-before text long bytes some k lt =
-    let few : length (chunk 0 16 text) ≤ 64 = omega (arith, length-chunk 0 16 text long) in
-    let counted : count_trailing_zeros 64 (mask_l (map is_other (take 16 text))) ≡ prefix_len (λ x. not (is_other x)) (chunk 0 16 text) = trailing_mask_l is_other 64 (chunk 0 16 text) few some in
-    value-digit (get_or text k 0) (bytes k) (run_in_chunk_fails is_other text 0 16 (count_trailing_zeros 64 (mask_l (map is_other (take 16 text)))) 0 long counted k (omega arith) (omega arith))
+-- those before the first that is no digit
+pub digits-before : (text : List ℕ) → 16 ≤ length text → ((k : ℕ) → get_or text k 0 < 256) → outside_mask 48 9 text ≢ 0
+    → (k : ℕ) → k < count_trailing_zeros 64 (outside_mask 48 9 text) → is_ascii_digit (get_or text k 0) ≡ true
+digits-before text long bytes some k lt = value-digit (get_or text k 0) (bytes k) ((before-outside 48 9 text long some).0 k lt)
 
 -- ---- eight bytes
 

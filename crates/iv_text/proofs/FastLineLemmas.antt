@@ -1,6 +1,6 @@
 -- A line of a record at the front of a text.
-use Rattle.std.proofs.Common.{◌≢◌, ◌≡◌, ℕ, ◌+◌, ◌-◌, ◌<◌, ◌≤◌, Bool, true, false, not, nat_lt, ◌==◌, ◌||◌, ◌⊎◌, inl, inr, ◌&&◌, List, [], ◌∷◌, ◌++◌, Option, None, Some, unwrap_or, slice_get, length, take, drop, get_or, refl, sym, ap, subst, ◌∙◌, arith, append_assoc, codes}
-use Rattle.std.proofs.lemmas.Bool.{cond-false, false≢true, eq-eqb, ne_eqb, false_from_ne_true}
+use Rattle.std.proofs.Common.{◌≢◌, ◌≡◌, ℕ, ◌+◌, ◌-◌, ◌<◌, ◌≤◌, Bool, true, false, not, nat_lt, ◌==◌, ◌||◌, ◌⊎◌, inl, inr, ◌&&◌, List, [], ◌∷◌, ◌++◌, Option, None, Some, unwrap_or, slice_get, length, take, drop, get_or, refl, sym, ap, subst, ◌∙◌, arith, append_assoc, codes, append-nil}
+use Rattle.std.proofs.lemmas.Bool.{and_parts, cond-false, false≢true, eq-eqb, ne_eqb, false_from_ne_true, not-true, or_from, or_parts}
 use Rattle.std.proofs.lemmas.Bool.Decides.{nat_tests}
 use Rattle.std.proofs.lemmas.Grind.{common_steps}
 use Rattle.std.proofs.lemmas.Option.{slice_get_within}
@@ -13,7 +13,7 @@ use Rattle.std.specs.Io.BufRead.{strip_last}
 use Rattle.std.specs.Option.{is_some, option_map}
 use Rattle.std.specs.Str.{all_ascii_digits, bytes_eq}
 use Rattle.iv_text.proofs.LineLemmas.{strip-is, strip-more, lines-line}
-use Rattle.iv_text.proofs.OnePassLemmas.{and_true, number-digits, column-last, column-more, line-read, record_of, row-of}
+use Rattle.iv_text.proofs.OnePassLemmas.{number-digits, column-last, column-more, line-read, record_of, row-of}
 use Rattle.iv_text.specs.BedFile.{is_unread, is_headed}
 use Rattle.iv_text.specs.Inside.Fields.{HasNoTab, is_separator}
 use Rattle.iv_text.specs.Genome.{Sequences, length_at}
@@ -28,9 +28,6 @@ use Rattle.iv_text.specs.declared.record_ref.Strand.{Strand}
 
 -- ---- bytes that are no end of a line
 
-pub plain-feed : (xs : List ℕ) → All (λ b. is_separator 10 b ≡ false) xs → HasNoFeed xs
-plain-feed xs plain = λ k d within e. false≢true (sym (plain k d within) ∙ eq-eqb (get_or xs k d) 10 e)
-
 digit-other : (b c : ℕ) → is_ascii_digit b ≡ true → is_ascii_digit c ≡ false → b ≢ c
 digit-other b c is other e = false≢true (sym other ∙ ap is_ascii_digit (sym e) ∙ is)
 
@@ -38,7 +35,7 @@ digit-other b c is other e = false≢true (sym other ∙ ap is_ascii_digit (sym 
 digits-without : (z : ℕ) (ds : List ℕ) → is_ascii_digit z ≡ false → all_ascii_digits ds ≡ true → All (λ b. b ≢ z) ds
 digits-without z [] other all = All-nil (λ b. b ≢ z)
 digits-without z (d ∷ ds) other all =
-    let both = and_true (is_ascii_digit d) (all_ascii_digits ds) all in
+    let both = and_parts (is_ascii_digit d) (all_ascii_digits ds) all in
     All-cons (λ b. b ≢ z) d ds (digit-other d z both.0 other) (digits-without z ds other both.1)
 
 tab-feed : (xs : List ℕ) → HasNoFeed xs → HasNoFeed (9 ∷ xs)
@@ -72,22 +69,14 @@ tab-taken word name rest n plain more is =
     let seen : get_or word (length name) 0 ≡ 9 = ap (λ t. get_or t (length name) 0) is ∙ grind (arith, common_steps) ∙ at-tab name rest in
     false≢true (sym (plain (length name) 0 within) ∙ ap (is_separator 9) seen)
 
-or_false : (s t : Bool) → (s || t) ≡ false → (s ≡ false) × (t ≡ false)
-or_false true t h = absurd (false≢true (sym h))
-or_false false t h = (refl, h)
-
-or_neither : (s t : Bool) → s ≡ false → t ≡ false → (s || t) ≡ false
-or_neither true t p q = p
-or_neither false t p q = q
-
 headed-after : (word name rest : List ℕ) → HasNoTab word → HasNoTab (word ++ codes " ") → is_headed word name ≡ false → is_headed word (name ++ 9 ∷ rest) ≡ false
 headed-after word name rest plain spaced other =
     let line : List ℕ = name ++ 9 ∷ rest in
     let n : ℕ = length word + 1 in
-    let apart = or_false (bytes_eq name word) (bytes_eq (word ++ codes " ") (take n name)) other in
+    let apart = or_parts (bytes_eq name word) (bytes_eq (word ++ codes " ") (take n name)) other in
     let not_word : bytes_eq line word ≡ false = false_from_ne_true (bytes_eq line word) (λ same. tab-seen word name rest plain ((bytes_eq-Decides line word).0 same)) in
     let not_front : bytes_eq (word ++ codes " ") (take n line) ≡ false = front (nat_lt (length name) n) refl apart.1 in
-    or_neither (bytes_eq line word) (bytes_eq (word ++ codes " ") (take n line)) not_word not_front
+    or_from (bytes_eq line word) (bytes_eq (word ++ codes " ") (take n line)) not_word not_front
   where
     taken : length word + 1 ≤ length name → take (length word + 1) (name ++ 9 ∷ rest) ≡ take (length word + 1) name
     taken long = grind (arith, common_steps)
@@ -105,12 +94,8 @@ no_tab-plain : (bs : List ℕ) → no_tab bs ≡ true → HasNoTab bs
 unfolding no_tab
 no_tab-plain [] h = All-nil (λ b. is_separator 9 b ≡ false)
 no_tab-plain (b ∷ bs) h =
-    let both = and_true (not (is_separator 9 b)) (no_tab bs) h in
-    All-cons (λ c. is_separator 9 c ≡ false) b bs (is_not (is_separator 9 b) both.0) (no_tab-plain bs both.1)
-  where
-    is_not : (t : Bool) → not t ≡ true → t ≡ false
-    is_not true h = absurd (false≢true h)
-    is_not false h = refl
+    let both = and_parts (not (is_separator 9 b)) (no_tab bs) h in
+    All-cons (λ c. is_separator 9 c ≡ false) b bs (not-true (is_separator 9 b) both.0) (no_tab-plain bs both.1)
 
 -- a line that begins with a name that is no header, and a TAB, is none
 unread-after : (name rest : List ℕ) → is_unread name ≡ false → is_unread (name ++ 9 ∷ rest) ≡ false
@@ -119,12 +104,12 @@ unread-after [] rest other = cc
 unread-after (b ∷ bs) rest other =
     let name : List ℕ = b ∷ bs in
     let line : List ℕ = name ++ 9 ∷ rest in
-    let first = or_false ((length name == 0) || begins_with 35 name || is_headed (codes "track") name) (is_headed (codes "browser") name) other in
-    let second = or_false ((length name == 0) || begins_with 35 name) (is_headed (codes "track") name) first.0 in
-    let third = or_false (length name == 0) (begins_with 35 name) second.0 in
-    or_neither ((length line == 0) || begins_with 35 line || is_headed (codes "track") line) (is_headed (codes "browser") line)
-    (or_neither ((length line == 0) || begins_with 35 line) (is_headed (codes "track") line)
-    (or_neither (length line == 0) (begins_with 35 line) (ne_eqb (length line) 0 (λ e. omega (arith, e))) third.1)
+    let first = or_parts ((length name == 0) || begins_with 35 name || is_headed (codes "track") name) (is_headed (codes "browser") name) other in
+    let second = or_parts ((length name == 0) || begins_with 35 name) (is_headed (codes "track") name) first.0 in
+    let third = or_parts (length name == 0) (begins_with 35 name) second.0 in
+    or_from ((length line == 0) || begins_with 35 line || is_headed (codes "track") line) (is_headed (codes "browser") line)
+    (or_from ((length line == 0) || begins_with 35 line) (is_headed (codes "track") line)
+    (or_from (length line == 0) (begins_with 35 line) (ne_eqb (length line) 0 (λ e. omega (arith, e))) third.1)
     (headed-after (codes "track") name rest (no_tab-plain (codes "track") refl) (no_tab-plain (codes "track" ++ codes " ") refl) second.1))
     (headed-after (codes "browser") name rest (no_tab-plain (codes "browser") refl) (no_tab-plain (codes "browser" ++ codes " ") refl) first.1)
 
@@ -137,9 +122,6 @@ place_line name starts stops = name ++ 9 ∷ (starts ++ 9 ∷ stops)
 place-parts : (name starts stops rest : List ℕ) → name ++ 9 ∷ (starts ++ 9 ∷ (stops ++ rest)) ≡ place_line name starts stops ++ rest
 place-parts name starts stops rest =
     ap (λ t. name ++ 9 ∷ t) (sym (append_assoc starts (9 ∷ stops) rest)) ∙ sym (append_assoc name (9 ∷ (starts ++ 9 ∷ stops)) rest)
-
-append-nil : (xs : List ℕ) → xs ++ [] ≡ xs
-append-nil xs = grind (arith, common_steps)
 
 append-size : (xs ys : List ℕ) (n : ℕ) → n ≡ length (xs ++ ys) - length ys → (n ≡ length xs) × (drop n (xs ++ ys) ≡ ys)
 append-size xs ys n is = (grind (arith, common_steps), grind (arith, common_steps))
@@ -174,7 +156,7 @@ cell-without : (z : ℕ) (cell : List ℕ) → ends_cell z ≡ true → IsCell c
 cell-without z cell ends plain = λ k d within e. false≢true (sym (plain k d within) ∙ ap ends_cell e ∙ ends)
 
 cell-tab : (cell : List ℕ) → IsCell cell → HasNoTab cell
-cell-tab cell plain = λ k d within. (or_false (is_line_byte (get_or cell k d)) (is_separator 9 (get_or cell k d)) (plain k d within)).1
+cell-tab cell plain = λ k d within. (or_parts (is_line_byte (get_or cell k d)) (is_separator 9 (get_or cell k d)) (plain k d within)).1
 
 -- a byte that ends a cell, and is no TAB, is not among cells
 laid-without : (z : ℕ) (cells : List (List ℕ)) → ends_cell z ≡ true → 9 ≢ z → All IsCell cells → All (λ b. b ≢ z) (laid cells)
@@ -191,19 +173,19 @@ laid-after (cell ∷ cells) plain = λ column p.
 
 -- a cell with a byte may be a name or a score
 pub cell-text : (cell : List ℕ) → 0 < length cell → IsCell cell → bad_text cell ≡ false
-cell-text cell some plain = or_neither (length cell == 0) (list_any is_line_byte cell) (ne_eqb (length cell) 0 (λ e. omega (arith, e))) (none cell plain)
+cell-text cell some plain = or_from (length cell == 0) (list_any is_line_byte cell) (ne_eqb (length cell) 0 (λ e. omega (arith, e))) (none cell plain)
   where
     none : (bs : List ℕ) → IsCell bs → list_any is_line_byte bs ≡ false
     none [] p = refl
     none (b ∷ bs) p =
-        or_neither (is_line_byte b) (list_any is_line_byte bs) (or_false (is_line_byte b) (is_separator 9 b) (All-head (λ x. ends_cell x ≡ false) b bs p)).0
+        or_from (is_line_byte b) (list_any is_line_byte bs) (or_parts (is_line_byte b) (is_separator 9 b) (All-head (λ x. ends_cell x ≡ false) b bs p)).0
         (none bs (All-tail (λ x. ends_cell x ≡ false) b bs p))
 
 -- a byte that means a strand is a cell
 pub cell-strand : (b : ℕ) → is_some (strand_of (b ∷ [])) ≡ true → IsCell (b ∷ [])
 cell-strand b is =
     All-cons (λ x. ends_cell x ≡ false) b []
-    (or_neither (is_line_byte b) (is_separator 9 b) (or_neither ((b == 13) || (b == 10)) (b == 0) (or_neither (b == 13) (b == 10) (other 13 refl) (other 10 refl)) (other 0 refl)) (other 9 refl))
+    (or_from (is_line_byte b) (is_separator 9 b) (or_from ((b == 13) || (b == 10)) (b == 0) (or_from (b == 13) (b == 10) (other 13 refl) (other 10 refl)) (other 0 refl)) (other 9 refl))
     (All-nil (λ x. ends_cell x ≡ false))
   where
     other : (z : ℕ) → is_some (strand_of (z ∷ [])) ≡ false → (b == z) ≡ false

@@ -4,15 +4,16 @@ use Rattle.std.proofs.lemmas.Bool.{cond-true, cond-false, not_from_true, not_fro
 use Rattle.std.proofs.lemmas.List.{map-append}
 use Rattle.std.proofs.lemmas.List.Elements.{filter-append}
 use Rattle.std.proofs.lemmas.Option.{none-some}
+use Rattle.iv_text.specs.Chains.{after_all}
 use Rattle.iv_text.specs.Fields.{columns}
 use Rattle.iv_text.specs.Lines.{lines}
 use Rattle.iv_text.specs.Genome.{Sequences}
 use Rattle.iv_text.specs.Read.{column, number_in}
 use Rattle.iv_text.specs.GenomeFile.{is_skipped, has_cause, causes, sequence, after_line, genome_of}
-use Rattle.iv_text.specs.Inside.GenomeFile.{after_lines}
 use Rattle.iv_text.specs.FileMeaning.{HaveNoCause, IsFirstFault, sequences_of, sequence_cause}
 use Rattle.iv_text.specs.declared.fault.LoadCause.{LoadCause}
 use Rattle.iv_text.specs.declared.fault.LoadFault.{LoadFault}
+use Rattle.iv_text.proofs.ListLemmas.{filter-pushed}
 use Rattle.iv_text.proofs.FileLemmas.{line-skipped, line-refused, line-taken}
 
 -- ---- results
@@ -47,7 +48,7 @@ none-cons cause_of line lines here rest (x ∷ front) back l split =
     ap (λ (y : List ℕ). cause_of (y ∷ front) l) (sym same) ∙ rest front back l more
 
 -- one of two: no line has a cause, or a first one has
-looked : (cause_of : List (List ℕ) → List ℕ → Option LoadCause) (lines : List (List ℕ)) → HaveNoCause cause_of lines ⊎ ((f : LoadFault) × IsFirstFault cause_of lines f)
+pub looked : (cause_of : List (List ℕ) → List ℕ → Option LoadCause) (lines : List (List ℕ)) → HaveNoCause cause_of lines ⊎ ((f : LoadFault) × IsFirstFault cause_of lines f)
 looked cause_of [] = inl (none-nil cause_of)
 looked cause_of (line ∷ lines) = by (cause_of [] line) refl (looked (past line cause_of) lines)
   where
@@ -81,58 +82,65 @@ looked cause_of (line ∷ lines) = by (cause_of [] line) refl (looked (past line
 
 -- ---- a loop over lines
 
+-- the loop's next step, from what one more line gives
+pub all-step : {S : Type 0} (after : ℕ → S → List ℕ → Result S LoadCause) (n : ℕ) (s : S) (line : List ℕ) (lines : List (List ℕ)) (r : Result S LoadCause) → after n s line ≡ r
+    → after_all after n s (line ∷ lines) ≡ elim r as (λ _. Result S LoadFault) [ Ok more ↦ after_all after (n + 1) more lines | Err c ↦ Err (record { line = n; cause = c }) ]
+all-step {S} after n s line lines r is =
+    ap (λ (o : Result S LoadCause). elim o as (λ _. Result S LoadFault) [ Ok more ↦ after_all after (n + 1) more lines | Err c ↦ Err (record { line = n; cause = c }) ]) is
+
 -- if a line has no cause the loop goes on, with the value of the lines so far; if it has one it ends with that
-pub record IsRun {S : Type 0} (cause_of : List (List ℕ) → List ℕ → Option LoadCause) (says : List (List ℕ) → S) (run : ℕ → S → List (List ℕ) → Result S LoadFault) : Type 0 where
-  pub ends : (n : ℕ) (s : S) → run n s [] ≡ Ok s
-  pub goes : (n : ℕ) (before : List (List ℕ)) (line : List ℕ) (lines : List (List ℕ)) → cause_of before line ≡ None → run n (says before) (line ∷ lines) ≡ run (n + 1) (says (before ++ line ∷ [])) lines
-  pub stops : (n : ℕ) (before : List (List ℕ)) (line : List ℕ) (lines : List (List ℕ)) (c : LoadCause) → cause_of before line ≡ Some c → run n (says before) (line ∷ lines) ≡ Err (record { line = n; cause = c })
+pub record AreSteps {S : Type 0} (cause_of : List (List ℕ) → List ℕ → Option LoadCause) (says : List (List ℕ) → S) (n : ℕ) (after : ℕ → S → List ℕ → Result S LoadCause) : Type 0 where
+  pub goes : (before : List (List ℕ)) (line : List ℕ) → cause_of before line ≡ None → after (n + length before) (says before) line ≡ Ok (says (before ++ line ∷ []))
+  pub stops : (before : List (List ℕ)) (line : List ℕ) (c : LoadCause) → cause_of before line ≡ Some c → after (n + length before) (says before) line ≡ Err c
+
+one-more : (n : ℕ) (line : List ℕ) (lines : List (List ℕ)) → n + 1 + length lines ≡ n + length (line ∷ lines)
+one-more n line lines = omega arith
 
 -- it goes over lines that have no cause
-passes : {S : Type 0} (cause_of : List (List ℕ) → List ℕ → Option LoadCause) (says : List (List ℕ) → S) (run : ℕ → S → List (List ℕ) → Result S LoadFault) → IsRun cause_of says run
-    → (front rest : List (List ℕ)) (n : ℕ) → HaveNoCause cause_of front → run n (says []) (front ++ rest) ≡ run (n + length front) (says front) rest
-passes cause_of says run t [] rest n none =
+passes : {S : Type 0} (cause_of : List (List ℕ) → List ℕ → Option LoadCause) (says : List (List ℕ) → S) (n : ℕ) (after : ℕ → S → List ℕ → Result S LoadCause) → AreSteps cause_of says n after
+    → (front rest : List (List ℕ)) → HaveNoCause cause_of front → after_all after n (says []) (front ++ rest) ≡ after_all after (n + length front) (says front) rest
+passes cause_of says n after t [] rest none =
     let same : n ≡ n + 0 = omega arith in
-    ap (λ (k : ℕ). run k (says []) rest) same
-passes cause_of says run t (line ∷ front) rest n none =
-    let count : n + 1 + length front ≡ n + length (line ∷ front) = omega arith in
-    let later : IsRun (past line cause_of) (λ before. says (line ∷ before)) run = record {
-      ends = t.ends;
-      goes = λ k before. t.goes k (line ∷ before);
-      stops = λ k before. t.stops k (line ∷ before);
+    ap (λ (k : ℕ). after_all after k (says []) rest) same
+passes cause_of says n after t (line ∷ front) rest none =
+    let same : n ≡ n + 0 = omega arith in
+    let later : AreSteps (past line cause_of) (λ before. says (line ∷ before)) (n + 1) after = record {
+      goes = λ before l is. ap (λ (k : ℕ). after k (says (line ∷ before)) l) (one-more n line before) ∙ t.goes (line ∷ before) l is;
+      stops = λ before l c is. ap (λ (k : ℕ). after k (says (line ∷ before)) l) (one-more n line before) ∙ t.stops (line ∷ before) l c is;
     } in
-    let after : HaveNoCause (past line cause_of) front = λ fs back l split. none (line ∷ fs) back l (ap {B = List (List ℕ)} (λ (m : List (List ℕ)). line ∷ m) split) in
-    t.goes n [] line (front ++ rest) (none [] front line refl)
-    ∙ passes (past line cause_of) (λ before. says (line ∷ before)) run later front rest (n + 1) after
-    ∙ ap (λ (k : ℕ). run k (says (line ∷ front)) rest) count
+    let rest_none : HaveNoCause (past line cause_of) front = λ fs back l split. none (line ∷ fs) back l (ap {B = List (List ℕ)} (λ (m : List (List ℕ)). line ∷ m) split) in
+    all-step after n (says []) line (front ++ rest) (Ok (says (line ∷ []))) (ap (λ (k : ℕ). after k (says []) line) same ∙ t.goes [] line (none [] front line refl))
+    ∙ passes (past line cause_of) (λ before. says (line ∷ before)) (n + 1) after later front rest rest_none
+    ∙ ap (λ (k : ℕ). after_all after k (says (line ∷ front)) rest) (one-more n line front)
 
-module _ {S : Type 0} (cause_of : List (List ℕ) → List ℕ → Option LoadCause) (says : List (List ℕ) → S) (run : ℕ → S → List (List ℕ) → Result S LoadFault) (t : IsRun cause_of says run) where
-  run-none : (all : List (List ℕ)) → HaveNoCause cause_of all → run 1 (says []) all ≡ Ok (says all)
-  run-none all none =
-      ap (λ (l : List (List ℕ)). run 1 (says []) l) (sym (append-nil all))
-      ∙ passes cause_of says run t all [] 1 none
-      ∙ t.ends (1 + length all) (says all)
+module _ {S : Type 0} (cause_of : List (List ℕ) → List ℕ → Option LoadCause) (says : List (List ℕ) → S) (after : ℕ → S → List ℕ → Result S LoadCause) (t : AreSteps cause_of says 1 after) where
+  abbrev run : List (List ℕ) → Result S LoadFault
+  run all = after_all after 1 (says []) all
 
-  run-first : (all : List (List ℕ)) (f : LoadFault) → IsFirstFault cause_of all f → run 1 (says []) all ≡ Err f
+  run-none : (all : List (List ℕ)) → HaveNoCause cause_of all → run all ≡ Ok (says all)
+  run-none all none = ap run (sym (append-nil all)) ∙ passes cause_of says 1 after t all [] none
+
+  run-first : (all : List (List ℕ)) (f : LoadFault) → IsFirstFault cause_of all f → run all ≡ Err f
   run-first all f w =
       let number : 1 + length w.front ≡ f.line = omega (arith, w.number) in
-      ap (λ (l : List (List ℕ)). run 1 (says []) l) w.split
-      ∙ passes cause_of says run t w.front (w.faulty ∷ w.back) 1 w.before
-      ∙ t.stops (1 + length w.front) w.front w.faulty w.back f.cause w.first
+      ap run w.split
+      ∙ passes cause_of says 1 after t w.front (w.faulty ∷ w.back) w.before
+      ∙ all-step after (1 + length w.front) (says w.front) w.faulty w.back (Err f.cause) (t.stops w.front w.faulty f.cause w.first)
       ∙ ap {B = Result S LoadFault} (λ (k : ℕ). Err (record { line = k; cause = f.cause })) number
 
   -- the value is that of the lines, if none has a cause
-  pub run-value : (all : List (List ℕ)) (s : S) → (run 1 (says []) all ≡ Ok s) ↔ (HaveNoCause cause_of all × (s ≡ says all))
+  pub run-value : (all : List (List ℕ)) (s : S) → (run all ≡ Ok s) ↔ (HaveNoCause cause_of all × (s ≡ says all))
   run-value all s = (by (looked cause_of all), λ h. run-none all h.0 ∙ ap Ok (sym h.1))
     where
-      by : HaveNoCause cause_of all ⊎ ((f : LoadFault) × IsFirstFault cause_of all f) → run 1 (says []) all ≡ Ok s → HaveNoCause cause_of all × (s ≡ says all)
+      by : HaveNoCause cause_of all ⊎ ((f : LoadFault) × IsFirstFault cause_of all f) → run all ≡ Ok s → HaveNoCause cause_of all × (s ≡ says all)
       by (inl none) is = (none, same-ok s (says all) (sym is ∙ run-none all none))
       by (inr w) is = absurd (ok-err s w.0 (sym is ∙ run-first all w.0 w.1))
 
   -- else the fault is the first
-  pub run-fault : (all : List (List ℕ)) (f : LoadFault) → (run 1 (says []) all ≡ Err f) ↔ IsFirstFault cause_of all f
+  pub run-fault : (all : List (List ℕ)) (f : LoadFault) → (run all ≡ Err f) ↔ IsFirstFault cause_of all f
   run-fault all f = (by (looked cause_of all), run-first all f)
     where
-      by : HaveNoCause cause_of all ⊎ ((e : LoadFault) × IsFirstFault cause_of all e) → run 1 (says []) all ≡ Err f → IsFirstFault cause_of all f
+      by : HaveNoCause cause_of all ⊎ ((e : LoadFault) × IsFirstFault cause_of all e) → run all ≡ Err f → IsFirstFault cause_of all f
       by (inl none) is = absurd (ok-err (says all) f (sym (run-none all none) ∙ is))
       by (inr w) is = subst (λ (e : LoadFault). IsFirstFault cause_of all e) (same-err {X = S} w.0 f (sym (run-first all w.0 w.1) ∙ is)) w.1
 
@@ -144,11 +152,6 @@ kept-not p before line no_line =
     ∙ ap (λ (l : List (List ℕ)). filter p before ++ l) (cond-false (p line) (line ∷ []) [] no_line)
     ∙ append-nil (filter p before)
 
-pub kept : (p : List ℕ → Bool) (before : List (List ℕ)) (line : List ℕ) → p line ≡ true → filter p (before ++ line ∷ []) ≡ filter p before ++ line ∷ []
-kept p before line is =
-    filter-append p before (line ∷ [])
-    ∙ ap (λ (l : List (List ℕ)). filter p before ++ l) (cond-true (p line) (line ∷ []) [] is)
-
 -- ---- genome files
 
 skipped-more : (before : List (List ℕ)) (line : List ℕ) → is_skipped line ≡ true → sequences_of (before ++ line ∷ []) ≡ sequences_of before
@@ -157,7 +160,7 @@ skipped-more before line skipped =
 
 sequence-more : (before : List (List ℕ)) (line : List ℕ) → is_skipped line ≡ false → sequences_of (before ++ line ∷ []) ≡ sequences_of before ++ sequence (columns line) ∷ []
 sequence-more before line read =
-    ap (map (λ (l : List ℕ). sequence (columns l))) (kept (λ l. not (is_skipped l)) before line (not_from_false (is_skipped line) read))
+    ap (map (λ (l : List ℕ). sequence (columns l))) (filter-pushed (λ l. not (is_skipped l)) before line (not_from_false (is_skipped line) read))
     ∙ map-append (λ (l : List ℕ). sequence (columns l)) (filter (λ l. not (is_skipped l)) before) (line ∷ [])
 
 cause-skipped : (before : List (List ℕ)) (line : List ℕ) → is_skipped line ≡ true → sequence_cause before line ≡ None
@@ -182,21 +185,11 @@ line-stops before line c is = by (is_skipped line) refl
     by true skipped = absurd (none-some c (sym (cause-skipped before line skipped) ∙ is))
     by false read = line-refused (sequences_of before) line c read (sym (cause-read before line read) ∙ is)
 
--- the loop's next step, from what one more line gives
-lines-step : (n : ℕ) (g : Sequences) (line : List ℕ) (lines : List (List ℕ)) (r : Result Sequences LoadCause) → after_line g line ≡ r
-    → after_lines n g (line ∷ lines) ≡ elim r as (λ _. Result Sequences LoadFault) [ Ok more ↦ after_lines (n + 1) more lines | Err c ↦ Err (record { line = n; cause = c }) ]
-lines-step n g line lines r is =
-    ap (λ (o : Result Sequences LoadCause). elim o as (λ _. Result Sequences LoadFault) [ Ok more ↦ after_lines (n + 1) more lines | Err c ↦ Err (record { line = n; cause = c }) ]) is
-
-genome-run : IsRun sequence_cause sequences_of after_lines
-genome-run = record {
-  ends = λ n g. refl;
-  goes = λ n before line lines none. lines-step n (sequences_of before) line lines (Ok (sequences_of (before ++ line ∷ []))) (line-goes before line none);
-  stops = λ n before line lines c is. lines-step n (sequences_of before) line lines (Err c) (line-stops before line c is);
-}
+genome-steps : AreSteps sequence_cause sequences_of 1 (λ n. after_line)
+genome-steps = record { goes = line-goes; stops = line-stops }
 
 pub genome-value : (text : List ℕ) (g : Sequences) → (genome_of text ≡ Ok g) ↔ (HaveNoCause sequence_cause (lines text) × (g ≡ sequences_of (lines text)))
-genome-value text g = run-value sequence_cause sequences_of after_lines genome-run (lines text) g
+genome-value text g = run-value sequence_cause sequences_of (λ n. after_line) genome-steps (lines text) g
 
 pub genome-fault : (text : List ℕ) (f : LoadFault) → (genome_of text ≡ Err f) ↔ IsFirstFault sequence_cause (lines text) f
-genome-fault text f = run-fault sequence_cause sequences_of after_lines genome-run (lines text) f
+genome-fault text f = run-fault sequence_cause sequences_of (λ n. after_line) genome-steps (lines text) f

@@ -51,12 +51,6 @@ length_at-other (s ∷ g) zero n (suc k) other = refl
 length_at-other (s ∷ g) (suc rank) n zero other = refl
 length_at-other (s ∷ g) (suc rank) n (suc k) other = length_at-other g rank n k (λ e. other (ap suc e))
 
--- the length that it had makes no difference
-pub with_length-same : (g : Sequences) (rank n : ℕ) → length_at g rank ≡ Some n → with_length g rank n ≡ g
-with_length-same [] rank n at = refl
-with_length-same (s ∷ g) zero n at = let same : s.1 ≡ n = cc at in ap (λ (m : ℕ). (s.0, m) ∷ g) (sym same)
-with_length-same (s ∷ g) (suc rank) n at = ap (λ (rest : Sequences). s ∷ rest) (with_length-same g rank n at)
-
 -- a name that has a rank is within the genome
 pub rank-within : (g : Sequences) (name : List ℕ) (rank : ℕ) → name_index g name ≡ Some rank → rank < length g
 rank-within g name rank at =

@@ -6,6 +6,7 @@ pub mod LengthLemmas
 pub mod ReadLemmas
 pub mod FileLemmas
 pub mod FileMeaningLemmas
+pub mod BlockLemmas
 pub mod DigitLemmas
 pub mod CellLemmas
 pub mod JoinedLemmas

@@ -1,6 +1,6 @@
 -- A line read in one pass from its front.
 use Rattle.std.proofs.Common.{◌≡◌, ℕ, ◌+◌, ◌-◌, ◌*◌, ◌<◌, ◌≤◌, Bool, true, false, ◌&&◌, not, nat_lt, nat_le, List, [], ◌∷◌, ◌++◌, Option, Some, None, Ok, length, find, refl, sym, ap, subst, ◌∙◌, arith, unwrap_or, take, drop, nat_eq, ◌^◌, add-one}
-use Rattle.std.proofs.lemmas.Bool.{cond-true, cond-false, eq-eqb, ne_eqb, false≢true, lt-ltb}
+use Rattle.std.proofs.lemmas.Bool.{and_from, and_parts, cond-true, cond-false, eq-eqb, le-ltb, lt-leb, ne_eqb, false≢true, lt-ltb}
 use Rattle.std.proofs.lemmas.Bool.Decides.{nat_tests}
 use Rattle.std.proofs.lemmas.Grind.{common_steps}
 use Rattle.std.proofs.Math.Nat.{pow-le-pow_right}
@@ -23,10 +23,12 @@ use Rattle.iv_text.specs.declared.fault.Fault.TheVariants as fault
 use Rattle.std.specs.Cmp.Lexicographic.{same_text, pointwise}
 use Rattle.iv_text.specs.Genome.{Sequences, length_at}
 use Rattle.iv_text.specs.Named.{name_index}
-use Rattle.iv_text.specs.Read.{read, feature, column, has_fault, faults, bad_text, number_in, length_of, AreSound}
+use Rattle.iv_text.specs.Read.{read, feature, column, has_fault, faults, bad_text, number_in, length_of, AreSoundColumns}
 use Rattle.iv_text.specs.Chains.{unless_fault}
 use Rattle.iv_text.specs.Inside.Read.{AreColumns}
 use Rattle.iv_text.specs.RecordValue.{RecordValue, IsRecord, strand_of}
+use Rattle.std.proofs.Common.{append-nil}
+use Rattle.std.proofs.lemmas.Option.{none-some}
 use Rattle.std.proofs.lemmas.List.{take-append-drop, get_or_past}
 
 -- ---- digits
@@ -35,24 +37,16 @@ pub decimal-more : (n : ℕ) (xs : List ℕ) (b : ℕ) → decimal_from n (xs ++
 decimal-more n [] b = refl
 decimal-more n (x ∷ xs) b = decimal-more (n * 10 + (x - 48)) xs b
 
-pub and_true : (s t : Bool) → (s && t) ≡ true → (s ≡ true) × (t ≡ true)
-and_true true t h = (refl, h)
-and_true false t h = absurd (false≢true h)
-
-and_both : (s t : Bool) → s ≡ true → t ≡ true → (s && t) ≡ true
-and_both true t p q = q
-and_both false t p q = p
-
 pub digits-more : (xs : List ℕ) (b : ℕ) → all_ascii_digits xs ≡ true → is_ascii_digit b ≡ true → all_ascii_digits (xs ++ b ∷ []) ≡ true
-digits-more [] b all is = and_both (is_ascii_digit b) true is refl
+digits-more [] b all is = and_from (is_ascii_digit b) true is refl
 digits-more (x ∷ xs) b all is =
-    let both = and_true (is_ascii_digit x) (all_ascii_digits xs) all in
-    and_both (is_ascii_digit x) (all_ascii_digits (xs ++ b ∷ [])) both.0 (digits-more xs b both.1 is)
+    let both = and_parts (is_ascii_digit x) (all_ascii_digits xs) all in
+    and_from (is_ascii_digit x) (all_ascii_digits (xs ++ b ∷ [])) both.0 (digits-more xs b both.1 is)
 
 pub number-is : (ds : List ℕ) → 0 < length ds → length ds ≤ 10 → all_ascii_digits ds ≡ true → number ds ≡ Some (decimal_from 0 ds)
 number-is ds some few all =
-    cond-true _ _ _ (and_both (nat_lt 0 (length ds) && nat_lt (length ds) 11) (all_ascii_digits ds)
-    (and_both (nat_lt 0 (length ds)) (nat_lt (length ds) 11) (lt-ltb 0 (length ds) some) (lt-ltb (length ds) 11 (omega arith))) all)
+    cond-true _ _ _ (and_from (nat_lt 0 (length ds) && nat_lt (length ds) 11) (all_ascii_digits ds)
+    (and_from (nat_lt 0 (length ds)) (nat_lt (length ds) 11) (lt-ltb 0 (length ds) some) (lt-ltb (length ds) 11 (omega arith))) all)
 
 digit-plain : (b : ℕ) → is_ascii_digit b ≡ true → is_separator 9 b ≡ false
 digit-plain b is = ne_eqb b 9 (λ e. false≢true (ap is_ascii_digit (sym e) ∙ is))
@@ -60,19 +54,15 @@ digit-plain b is = ne_eqb b 9 (λ e. false≢true (ap is_ascii_digit (sym e) ∙
 digits-plain : (ds : List ℕ) → all_ascii_digits ds ≡ true → HasNoTab ds
 digits-plain [] all = All-nil (λ b. is_separator 9 b ≡ false)
 digits-plain (d ∷ ds) all =
-    let both = and_true (is_ascii_digit d) (all_ascii_digits ds) all in
+    let both = and_parts (is_ascii_digit d) (all_ascii_digits ds) all in
     All-cons (λ b. is_separator 9 b ≡ false) d ds (digit-plain d both.0) (digits-plain ds both.1)
 
 pub number-digits : (ds : List ℕ) (n : ℕ) → number ds ≡ Some n → all_ascii_digits ds ≡ true
 number-digits ds n is = by (nat_lt 0 (length ds) && nat_lt (length ds) 11 && all_ascii_digits ds) refl
   where
-    none_some : (o : Option ℕ) → o ≡ None → o ≡ Some n → ⊥
-    none_some None e h = cc
-    none_some (Some m) e h = cc
-
     by : (t : Bool) → (nat_lt 0 (length ds) && nat_lt (length ds) 11 && all_ascii_digits ds) ≡ t → all_ascii_digits ds ≡ true
-    by true e = (and_true (nat_lt 0 (length ds) && nat_lt (length ds) 11) (all_ascii_digits ds) e).1
-    by false e = absurd (none_some (number ds) (cond-false _ _ _ e) is)
+    by true e = (and_parts (nat_lt 0 (length ds) && nat_lt (length ds) 11) (all_ascii_digits ds) e).1
+    by false e = absurd (none-some n (sym (cond-false _ _ _ e) ∙ is))
 
 number-plain : (ds : List ℕ) (n : ℕ) → number ds ≡ Some n → HasNoTab ds
 number-plain ds n is = digits-plain ds (number-digits ds n is)
@@ -98,9 +88,6 @@ column-more column rest plain = slice_split_at (is_separator 9) column 9 rest pl
 
 pub column-last : (column : List ℕ) → HasNoTab column → columns (column ++ []) ≡ column ∷ []
 column-last column plain = ap columns (append-nil column) ∙ slice_split_none (is_separator 9) column plain
-  where
-    append-nil : (xs : List ℕ) → xs ++ [] ≡ xs
-    append-nil xs = grind (arith, common_steps)
 
 pub empty-is : (xs : List ℕ) → length xs ≤ 0 → xs ≡ []
 empty-is [] none = refl
@@ -139,12 +126,6 @@ place-begins g text name r1 r2 r3 rest rank from to len named starts e2 stops so
 
 -- ---- a line without a fault
 
-not_le : (a b : ℕ) → b < a → nat_le a b ≡ false
-not_le a b low = grind (arith, nat_tests)
-
-not_lt : (a b : ℕ) → b ≤ a → nat_lt a b ≡ false
-not_lt a b low = grind (arith, nat_tests)
-
 guarded : (k w : ℕ) (t : Bool) → (k ≤ w → t ≡ false) → (nat_le k w && t) ≡ false
 guarded k w t good = by (nat_le k w) refl
   where
@@ -166,7 +147,7 @@ record_of rank from to name score strand w = record { seq = rank; start = from; 
 
 sound-line : (g : Sequences) (w : ℕ) (line seq start stop name score sixth : List ℕ) (rank from to len : ℕ) (strand : Option Strand)
     → AreColumns w (columns line) seq start stop name score sixth → name_index g seq ≡ Some rank → length_at g rank ≡ Some len → number start ≡ Some from → number stop ≡ Some to
-    → strand ≡ strand_of sixth → from < to → to ≤ len → AreSound w name score strand
+    → strand ≡ strand_of sixth → from < to → to ≤ len → AreSoundColumns w name score strand
     → read g w line ≡ Ok (record_of rank from to name score strand w)
 sound-line g w line seq start stop name score sixth rank from to len strand cols rank_is length_is start_is stop_is strand_is some within sound =
     let cs = columns line in
@@ -184,8 +165,8 @@ sound-line g w line seq start stop name score sixth rank from to len strand cols
     none-found (has_fault g w cs)
     (ap not (eq-eqb (length cs) w cols.count))
     (ap is_none ranked) (ap is_none starts) (ap is_none stops)
-    (not_le (number_in (column cs 2)) (number_in (column cs 1)) (omega arith))
-    (not_lt (length_of g (column cs 0)) (number_in (column cs 2)) (omega arith))
+    (lt-leb (number_in (column cs 2)) (number_in (column cs 1)) (omega arith))
+    (le-ltb (length_of g (column cs 0)) (number_in (column cs 2)) (omega arith))
     (guarded 4 w (bad_text (column cs 3)) (λ h. ap bad_text cols.name_is ∙ sound.name_good h))
     (guarded 5 w (bad_text (column cs 4)) (λ h. ap bad_text cols.score_is ∙ sound.score_good h))
     (guarded 6 w (is_none (strand_of (column cs 5))) (λ h. ap is_none stranded ∙ is_there strand (sound.strand_good h))) in
@@ -206,7 +187,7 @@ row-of w cs seq start stop name score sixth rank from to strand cols strand_is s
 -- a line that was cut from its front
 pub line-read : (g : Sequences) (w : ℕ) (line rest name score sixth : List ℕ) (others : List (List ℕ)) (rank from to : ℕ) (strand : Option Strand)
     → BeginsWithInterval g line rank from to rest → ArePassed rest others → ((a b c : List ℕ) → AreColumns w (a ∷ b ∷ c ∷ others) a b c name score sixth)
-    → strand ≡ strand_of sixth → AreSound w name score strand
+    → strand ≡ strand_of sixth → AreSoundColumns w name score strand
     → read g w line ≡ Ok (record_of rank from to name score strand w)
 line-read g w line rest name score sixth others rank from to strand place after are strand_is sound =
     let cols = place-columns line place.name place.starts place.stops rest others place.text_is

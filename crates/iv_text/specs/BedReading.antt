@@ -65,7 +65,7 @@ IsProjected projected g width k = (r : RecordValue) × Fits g width r × (k ≡ 
 
 -- what was read is sound: its width is 3 to 6, once there is a record; its records are projections of records of that width on the
 -- genome; and they aren't more than the limit
-pub record AreSound (projected : RecordValue → RecordValue) (g : Sequences) (limit : ℕ) (l : LinesRead) : Type 0 where
+pub record AreSoundLines (projected : RecordValue → RecordValue) (g : Sequences) (limit : ℕ) (l : LinesRead) : Type 0 where
   pub fit : MatchOption l.width (l.records ≡ []) (λ w. (3 ≤ w) × (w ≤ 6) × All (IsProjected projected g w) l.records)
   pub few : length l.records ≤ limit
 
@@ -103,7 +103,7 @@ module _ {K : Type 0} (held_of : RecordValue → ℕ → K) (g : Sequences) wher
   -- all lines of a text were read, whatever lines come after them, and however items are shown
   abbrev pub TakesLines : ℕ → Held K → Held K → List ℕ → Type 0
   TakesLines limit old new text = (projected : RecordValue → RecordValue) (row_of : K → RecordValue) → Shows projected row_of old.at text
-      → (AreSound projected g limit (shown row_of old) → AreSound projected g limit (shown row_of new))
+      → (AreSoundLines projected g limit (shown row_of old) → AreSoundLines projected g limit (shown row_of new))
       × ((rest : List (List ℕ)) → after projected g limit (shown row_of old) (lines text ++ rest) ≡ after projected g limit (shown row_of new) rest)
 
   -- the lines of a text have a fault, and this is the first, whatever comes after them

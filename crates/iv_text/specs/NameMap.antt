@@ -7,4 +7,4 @@ use Rattle.iv_text.specs.contracts.name_map.NameMap.{the_row}
 
 -- the name at this index has the last value written through r
 abbrev pub lends_value : (V A : RattleType) (heap : alloc.Ghosts A.Denot) → MutBor (List (List ℕ × V.Denot)) → ℕ → MutBor V.Denot → Fml
-lends_value V A heap m place r = Lends (the_row V A heap) V m r (set_value_at m.now place)
+lends_value V A heap m index r = Lends (the_row V A heap) V m r (set_value_at m.now index)

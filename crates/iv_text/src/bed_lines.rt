@@ -1,6 +1,6 @@
 //! Lines of a BED file, and what is held of their records.
 ghost use Rattle.std.specs.Prelude.{◌≡◌, ◌<◌, ℕ, IfOk, IfSome, refl, ◌≤◌, ◌+◌, ◌^◌, ◌⊎◌, ◌++◌, ◌∷◌, [], length, Some, IfErr, OnOk, MatchOption};
-ghost use Rattle.iv_text.specs.BedReading.{IsReadAt, AreSound, BeginsAfter, RefusesLines, TakesLines, byte_after, none_held, shown};
+ghost use Rattle.iv_text.specs.BedReading.{IsReadAt, AreSoundLines, BeginsAfter, RefusesLines, TakesLines, byte_after, none_held, shown};
 ghost use Rattle.iv_text.specs.Inside.BedReading.{RefusesLine, TakesLine};
 ghost use Rattle.iv_text.specs.RecordValue.{RecordValue};
 ghost use Rattle.iv_text.specs.declared.fault.LoadCause.TheVariants as cause;
@@ -178,7 +178,7 @@ impl<K: FromRecord<A>, A: Allocator + Copy> BedLines<K, A> {
         limit: u32,
         text: &[u8],
     ) -> Result<Option<usize>, LoadCause>
-        requires sound { AreSound K.projected reader.now limit (shown K.as_record self.old) }
+        requires sound { AreSoundLines K.projected reader.now limit (shown K.as_record self.old) }
         ensures number { self.new.number ≡ self.old.number }
         ensures at { OnOk result (self.new.at ≡ self.old.at) }
         ensures ok { IfOk result (λ taken. MatchOption taken (self.new ≡ self.old)
@@ -211,7 +211,7 @@ impl<K: FromRecord<A>, A: Allocator + Copy> BedLines<K, A> {
         width: u8,
         text: &[u8],
     ) -> Result<Option<usize>, LoadCause>
-        requires sound { AreSound K.projected reader.now limit (shown K.as_record self.old) }
+        requires sound { AreSoundLines K.projected reader.now limit (shown K.as_record self.old) }
         requires known { self.old.width ≡ Some width }
         ensures number { self.new.number ≡ self.old.number }
         ensures at { OnOk result (self.new.at ≡ self.old.at) }
@@ -236,7 +236,7 @@ impl<K: FromRecord<A>, A: Allocator + Copy> BedLines<K, A> {
         limit: u32,
         text: &'t [u8],
     ) -> Result<usize, LoadCause>
-        requires sound { AreSound K.projected reader.old limit (shown K.as_record self.old) }
+        requires sound { AreSoundLines K.projected reader.old limit (shown K.as_record self.old) }
         requires some { 0 < length text.now }
         ensures same { reader.new ≡ reader.old }
         ensures number { self.new.number ≡ self.old.number }
@@ -276,9 +276,9 @@ impl<K: FromRecord<A>, A: Allocator + Copy> BedLines<K, A> {
         limit: u32,
         text: &[u8],
     ) -> Result<(), LoadFault>
-        requires sound { AreSound K.projected genome.now limit (shown K.as_record self.old) }
+        requires sound { AreSoundLines K.projected genome.now limit (shown K.as_record self.old) }
         requires few { self.old.number + length text.now < 2 ^ 64 }
-        ensures sound { OnOk result (AreSound K.projected genome.now limit (shown K.as_record self.new)) }
+        ensures sound { OnOk result (AreSoundLines K.projected genome.now limit (shown K.as_record self.new)) }
         ensures few { OnOk result (self.new.number ≤ self.old.number + length text.now) }
         ensures at { OnOk result (BeginsAfter self.old.at (length text.now) self.new.at) }
         ensures ok { OnOk result (TakesLines K.held_of genome.now limit self.old self.new text.now) }

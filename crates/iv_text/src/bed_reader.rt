@@ -1,7 +1,7 @@
 //! A BED file that comes in pieces.
 ghost use Rattle.std.specs.Prelude.{◌≡◌, ◌<◌, ◌≤◌, ◌+◌, ◌^◌, ◌⊎◌, ◌++◌, ℕ, List, [], length, drop, take, map, Ok, Err, All, IfOk, IfErr, OnOk};
 ghost use Rattle.iv_text.specs.declared.fault.LoadCause.TheVariants as cause;
-ghost use Rattle.iv_text.specs.BedReading.{AreSound, IsProjected, begun, read_on, size_of, finished};
+ghost use Rattle.iv_text.specs.BedReading.{AreSoundLines, IsProjected, begun, read_on, size_of, finished};
 ghost use Rattle.iv_text.specs.Inside.BedReading.{IsEnded, EndsAtFeed};
 ghost use Rattle.iv_text.specs.Widths.{IsWidth};
 
@@ -98,9 +98,9 @@ impl<K: FromRecord<A>, A: Allocator + Copy> BedReader<K, A> {
         limit: u32,
         piece: &[u8],
     ) -> Result<(), LoadFault>
-        requires sound { AreSound K.projected genome.now limit self.old.read }
+        requires sound { AreSoundLines K.projected genome.now limit self.old.read }
         requires few { size_of self.old + length piece.now < 2 ^ 64 }
-        ensures sound { OnOk result (AreSound K.projected genome.now limit self.new.read) }
+        ensures sound { OnOk result (AreSoundLines K.projected genome.now limit self.new.read) }
         ensures few { OnOk result (size_of self.new ≤ size_of self.old + length piece.now) }
         ensures ok { OnOk result ((more : List ℕ) → read_on K.projected genome.now limit self.old (piece.now ++ more) ≡ read_on K.projected genome.now limit self.new more) }
         ensures err { IfErr result (λ f. (f ≡ record { line = 0; cause = cause.Memory }) ⊎ ((more : List ℕ) → read_on K.projected genome.now limit self.old (piece.now ++ more) ≡ Err f)) }
@@ -121,10 +121,10 @@ impl<K: FromRecord<A>, A: Allocator + Copy> BedReader<K, A> {
     /// Takes the line that hasn't ended, if there is one, together with the first of more lines, which ends it. It answers how many
     /// bytes of these it took.
     fn end_line(&mut self, genome: &Genome<A>, limit: u32, lines: &[u8]) -> Result<usize, LoadFault>
-        requires sound { AreSound K.projected genome.now limit self.old.read }
+        requires sound { AreSoundLines K.projected genome.now limit self.old.read }
         requires few { size_of self.old + length lines.now < 2 ^ 64 }
         requires ended { EndsAtFeed lines.now }
-        ensures sound { OnOk result (AreSound K.projected genome.now limit self.new.read) }
+        ensures sound { OnOk result (AreSoundLines K.projected genome.now limit self.new.read) }
         ensures within { IfOk result (λ taken. taken ≤ length lines.now) }
         ensures few { IfOk result (λ taken. self.new.read.number ≤ size_of self.old + taken) }
         ensures tail { OnOk result (self.new.tail ≡ []) }
@@ -156,7 +156,7 @@ impl<K: FromRecord<A>, A: Allocator + Copy> BedReader<K, A> {
         limit: u32,
     ) -> Result<(u8, K::Kept), LoadFault>
         requires width { IsWidth empty_width }
-        requires sound { AreSound K.projected genome.now limit self.read }
+        requires sound { AreSoundLines K.projected genome.now limit self.read }
         requires few { size_of self < 2 ^ 64 }
         ensures ok { IfOk result (λ file. finished empty_width (read_on K.projected genome.now limit self []) ≡ Ok (record { width = file.0; records = map K.as_record (K.Kept.items file.1) })) }
         ensures width { IfOk result (λ file. IsWidth file.0) }

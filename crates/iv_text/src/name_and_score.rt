@@ -1,4 +1,4 @@
-//! A name and a score in one allocation.
+//! A name and a score: short ones in one allocation, long ones in two.
 ghost use Rattle.std.specs.Prelude.{◌≡◌, ◌≤◌, ◌<◌, ◌+◌, ◌^◌, length, IfOk};
 
 use std::alloc::{AllocError, Allocator};

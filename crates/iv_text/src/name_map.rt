@@ -79,29 +79,29 @@ impl<V: Drop, A: Allocator + Copy> NameMap<V, A> {
     /// The index of a name, byte for byte, from 0.
     pub fn index_of(&self, name: &[u8]) -> Option<usize>
         ensures value { result ≡ name_index self.now name.now }
-        ensures within { IfSome result (λ place. place < length self.now) }
+        ensures within { IfSome result (λ index. index < length self.now) }
     {
         self.named.get_index_of(name)
     }
 
     /// The index of a name, with the value under it.
     pub fn find(&self, name: &[u8]) -> Option<(usize, &V)>
-        ensures place { option_map (λ p. p.0) result ≡ name_index self.now name.now }
+        ensures index { option_map (λ p. p.0) result ≡ name_index self.now name.now }
         ensures value { option_map (λ p. p.1.now) result ≡ lookup (bytes_eq name.now) self.now }
         ensures at { IfSome result (λ p. slice_get (values_of self.now) p.0 ≡ Some p.1.now) }
     {
         match self.named.get_full(name) {
-            Some((place, _, value)) => Some((place, value)),
+            Some((index, _, value)) => Some((index, value)),
             None => None,
         }
     }
 
     /// The name at an index, with its value.
-    pub fn at(&self, place: usize) -> Option<(&[u8], &V)>
-        ensures value { option_map (λ p. (p.0.now, p.1.now)) result ≡ slice_get self.now place }
-        ensures small { IfSome result (λ _. place < 2 ^ 63) }
+    pub fn at(&self, index: usize) -> Option<(&[u8], &V)>
+        ensures value { option_map (λ p. (p.0.now, p.1.now)) result ≡ slice_get self.now index }
+        ensures small { IfSome result (λ _. index < 2 ^ 63) }
     {
-        let (name, value) = self.named.as_slice().get_index(place)?;
+        let (name, value) = self.named.as_slice().get_index(index)?;
         Some((name.as_slice(), value))
     }
 
@@ -125,12 +125,12 @@ impl<V: Drop, A: Allocator + Copy> NameMap<V, A> {
 impl<V, A: Allocator> Index<usize> for NameMap<V, A> {
     type Output = V;
 
-    ghost can_index = { λ m place. place < length m };
+    ghost can_index = { λ m index. index < length m };
 
-    ghost index_gives = { λ m place value. slice_get (values_of m) place ≡ Some value };
+    ghost index_gives = { λ m index value. slice_get (values_of m) index ≡ Some value };
 
-    fn index(&self, place: usize) -> &V {
-        &self.named[place]
+    fn index(&self, index: usize) -> &V {
+        &self.named[index]
     }
 }
 
@@ -138,12 +138,12 @@ impl<V, A: Allocator> IndexMut<usize> for NameMap<V, A> {
     ghost use Rattle.std.specs.Borrow.{sem};
     ghost use Rattle.iv_text.specs.NameMap.{lends_value};
 
-    fn index_mut(&mut self, place: usize) -> &mut V
-        requires { place < length self.old }
-        ensures* writes_back { sem 𝓛 (lends_value V.row A.row A.Allocator self.entry place result) }
-        ensures value { slice_get (values_of self.old) place ≡ Some result.now }
+    fn index_mut(&mut self, index: usize) -> &mut V
+        requires { index < length self.old }
+        ensures* writes_back { sem 𝓛 (lends_value V.row A.row A.Allocator self.entry index result) }
+        ensures value { slice_get (values_of self.old) index ≡ Some result.now }
     {
-        &mut self.named[place]
+        &mut self.named[index]
     }
 }
 

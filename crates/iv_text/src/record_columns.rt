@@ -8,14 +8,14 @@ use std::alloc::{AllocError, Allocator};
 
 /// The columns of a record, by how many bytes its name and score have together. Without any it takes no memory.
 ///
-/// A variant begins with its tag, of one byte. Each has strand and width after it, and then the place: these are at the same
+/// A variant begins with its tag, of one byte. Each has strand and width after it, and then the interval: these are at the same
 /// bytes of each, so reading them asks for no tag, and the whole has 24 bytes.
 #[derive(Drop)]
 pub(crate) enum RecordColumns<A: Allocator> {
-    Empty(StrandAndWidth, Place),
-    Short(StrandAndWidth, Place, Box<BoundedTexts<SHORT>, A>),
-    Medium(StrandAndWidth, Place, Box<BoundedTexts<MEDIUM>, A>),
-    Long(StrandAndWidth, Place, Box<LongTexts<A>, A>),
+    Empty(StrandAndWidth, Interval),
+    Short(StrandAndWidth, Interval, Box<BoundedTexts<SHORT>, A>),
+    Medium(StrandAndWidth, Interval, Box<BoundedTexts<MEDIUM>, A>),
+    Long(StrandAndWidth, Interval, Box<LongTexts<A>, A>),
 }
 
 /// The columns of a record that take a byte or two.
@@ -25,9 +25,9 @@ pub(crate) struct StrandAndWidth {
     pub(crate) width: u8,
 }
 
-/// The rank of a record's sequence, and its interval.
+/// The interval of a record, with the rank of its sequence.
 #[derive(Clone, Copy)]
-pub(crate) struct Place {
+pub(crate) struct Interval {
     pub(crate) rank: u32,
     pub(crate) start: u32,
     pub(crate) stop: u32,
@@ -35,16 +35,16 @@ pub(crate) struct Place {
 
 impl<A: Allocator> RecordColumns<A> {
     #[inline(always)]
-    pub(crate) fn place(&self) -> Place
+    pub(crate) fn interval(&self) -> Interval
         ensures seq { result.rank ≡ (record_at self.now).seq }
         ensures start { result.start ≡ (record_at self.now).start }
         ensures stop { result.stop ≡ (record_at self.now).stop }
     {
         match self {
-            RecordColumns::Empty(_, place)
-            | RecordColumns::Short(_, place, _)
-            | RecordColumns::Medium(_, place, _)
-            | RecordColumns::Long(_, place, _) => *place,
+            RecordColumns::Empty(_, interval)
+            | RecordColumns::Short(_, interval, _)
+            | RecordColumns::Medium(_, interval, _)
+            | RecordColumns::Long(_, interval, _) => *interval,
         }
     }
 
@@ -91,26 +91,26 @@ impl<A: Allocator + Copy> RecordColumns<A> {
     pub(crate) fn copy_of(
         alloc: A,
         beside: StrandAndWidth,
-        place: Place,
+        interval: Interval,
         name: &[u8],
         score: &[u8],
     ) -> Result<Self, AllocError>
-        ensures ok { IfOk result (λ columns. record_at columns ≡ record_of beside place (name.now, score.now)) }
+        ensures ok { IfOk result (λ columns. record_at columns ≡ record_of beside interval (name.now, score.now)) }
         ensures free { name.now ≡ [] → score.now ≡ [] → IsOk result }
     {
         let columns = match name.len() + score.len() {
-            0 => RecordColumns::Empty(beside, place),
+            0 => RecordColumns::Empty(beside, interval),
             ..=SHORT => {
                 let texts = Box::new(alloc, BoundedTexts::copy_of(name, score))?;
-                RecordColumns::Short(beside, place, texts)
+                RecordColumns::Short(beside, interval, texts)
             }
             ..=MEDIUM => {
                 let texts = Box::new(alloc, BoundedTexts::copy_of(name, score))?;
-                RecordColumns::Medium(beside, place, texts)
+                RecordColumns::Medium(beside, interval, texts)
             }
             _ => {
                 let texts = Box::new(alloc, LongTexts::copy_of(alloc, name, score)?)?;
-                RecordColumns::Long(beside, place, texts)
+                RecordColumns::Long(beside, interval, texts)
             }
         };
         Ok(columns)

@@ -1,121 +1,116 @@
 -- A list in order, its equal neighbours taken as one entry each.
-use Rattle.std.proofs.Common.{◌≡◌, ℕ, ◌+◌, ◌<◌, ◌^◌, Bool, true, false, not, List, [], ◌∷◌, ◌++◌, length, refl, sym, ap, ◌∙◌, subst, arith, zero, suc}
-use Rattle.std.specs.Prelude.{Option, map, replicate, if◌then◌else◌}
-use Rattle.std.specs.Iterator.{Yields, Drains}
+use Rattle.std.proofs.Common.{◌≡◌, ℕ, ◌+◌, ◌<◌, ◌^◌, Bool, true, false, cond, List, [], ◌∷◌, length, refl, sym, ap, ◌∙◌, subst, arith, suc}
+use Rattle.std.specs.Prelude.{IfOk, IfSome, Ok, Err, Option, Result, map, if◌then◌else◌, unwrap_or}
+use Rattle.std.specs.BTreeMap.{is_at}
+use Rattle.std.specs.Cmp.{IsTotalOrder, Equal-is, alike_right, eq_by_cmp_equiv}
+use Rattle.std.specs.Iterator.{Drains, YieldsFirst}
 use Rattle.std.specs.List.{AllByRecursion}
-use Rattle.std.specs.List.Sorted.{IsStrictlySortedBy}
+use Rattle.std.specs.List.Sorted.{IsPermutation, IsSorted, IsStrictlySortedBy}
+use Rattle.std.specs.Map.{keys_of, values_of}
+use Rattle.std.specs.Ordering.{is_eq, is_le, ordering_reverse}
 use Rattle.std.specs.declared.cmp.Ordering.{Ordering}
 use Rattle.std.specs.declared.cmp.Ordering.TheVariants.{Less, Equal, Greater}
-use Rattle.std.specs.Ordering.{is_eq, is_le, ordering_reverse}
-use Rattle.std.specs.Cmp.{Equal-is}
-use Rattle.std.specs.Map.{keys_of, values_of}
 use Rattle.std.proofs.lemmas.Bool.{cond-true, cond-false}
 use Rattle.std.proofs.lemmas.Iterator.{YieldsList, items_from_drains}
 use Rattle.std.proofs.lemmas.Iterator.Consumers.{YieldsList-from_shown}
 use Rattle.std.proofs.lemmas.List.Elements.{All-from_recursion}
-use Rattle.std.proofs.lemmas.List.Sorted.{IsPermutation-refl}
-use Rattle.iv_text.specs.Ordered.{AreInOrder, ordered}
-use Rattle.iv_text.specs.RecordValue.{RecordValue, IsPlaced, record_cmp, records_total}
-use Rattle.iv_text.proofs.BatchLemmas.{strictly-sorted, strictly-rest, strictly-apart}
-use Rattle.iv_text.proofs.OrderedLemmas.{ordered-in_order, ordered-sorted}
-use Rattle.iv_text.proofs.RecordLemmas.{rows_exact}
+use Rattle.std.proofs.lemmas.List.Sums.{sum_by-cons}
+use Rattle.std.proofs.lemmas.Map.Keys.{IsDistinct-from_sorted}
+use Rattle.std.proofs.lemmas.Map.Views.{All-values_from_lookup, IfSome-lookup_from_All}
+use Rattle.iv_text.specs.Ordered.{InOrder}
+use Rattle.iv_text.specs.Inside.Ordered.{copies_by}
+use Rattle.iv_text.proofs.BatchLemmas.{strictly-apart}
+use Rattle.iv_text.proofs.OrderedLemmas.{copies-permutation, in_order-sorted}
 use Rattle.iv_track.specs.Copies.{expanded}
-use Rattle.iv_track.specs.Inside.Counted.{grouped_from, grouped, AreCounted, AreDistinct, GivesEntry}
-use Rattle.iv_track.specs.Entries.{IsLedger}
+use Rattle.iv_track.specs.Entries.{IsLedger, value_at}
+use Rattle.iv_track.specs.Inside.Counted.{grouped_from, grouped, AreCounted, AreDistinct}
+use Rattle.iv_track.proofs.Counts.{copies-expanded, count-front}
 
 -- what holds on either side of a test
 either_way : {X : Type 0} (P : X → Type 0) (b : Bool) (x y : X) → (b ≡ true → P x) → (b ≡ false → P y) → P (if b then x else y)
 either_way P true x y where_true where_false = where_true refl
 either_way P false x y where_true where_false = where_false refl
 
-replicate-more : {K : Type 0} (n : ℕ) (k : K) (xs : List K) → replicate (n + 1) k ++ xs ≡ replicate n k ++ (k ∷ xs)
-replicate-more zero k xs = refl
-replicate-more (suc n) k xs = let e : suc n + 1 ≡ suc (n + 1) = omega arith in ap (λ m. replicate m k ++ xs) e ∙ ap (λ (ys : List _). k ∷ ys) (replicate-more n k xs)
-
-all-through : {X : Type 0} (P Q : X → Type 0) → ((x : X) → P x → Q x) → (xs : List X) → AllByRecursion P xs → AllByRecursion Q xs
-all-through P Q f [] h = tt
-all-through P Q f (x ∷ xs) h = (f x h.0, all-through P Q f xs h.1)
+one-more : (b : Bool) (n : ℕ) → cond {A = ℕ} b (n + 1) 0 ≡ cond {A = ℕ} b n 0 + cond {A = ℕ} b 1 0
+one-more true n = refl
+one-more false n = omega arith
 
 le_apart : (a b : Ordering) → b ≡ ordering_reverse a → is_le a ≡ true → is_eq b ≡ false → a ≡ Less
 le_apart Less b e h n = refl
 le_apart Equal b e h n = cc
 le_apart Greater b e h n = cc
 
--- the same record, or a later one
-same-row : (q r : RecordValue) → is_eq (record_cmp q r) ≡ true → q ≡ r
-same-row q r e = rows_exact q r ((Equal-is (record_cmp q r)).0 e)
-
-later-row : (q r : RecordValue) → is_le (record_cmp r q) ≡ true → is_eq (record_cmp q r) ≡ false → record_cmp r q ≡ Less
-later-row q r le apart = le_apart (record_cmp r q) (record_cmp q r) (records_total.antisymm q r) le apart
-
--- the entries mean the list
-from-expanded : (r : RecordValue) (n : ℕ) (xs : List RecordValue) → expanded (grouped_from record_cmp r n xs) ≡ replicate n r ++ xs
-from-expanded r n [] = refl
-from-expanded r n (q ∷ qs) =
-    either_way (λ es. expanded es ≡ replicate n r ++ (q ∷ qs)) (is_eq (record_cmp q r)) (grouped_from record_cmp r (n + 1) qs) ((r, n) ∷ grouped_from record_cmp q 1 qs)
-    (λ e. from-expanded r (n + 1) qs ∙ replicate-more n r qs ∙ ap (λ k. replicate n r ++ (k ∷ qs)) (sym (same-row q r e)))
-    (λ _. ap (λ ys. replicate n r ++ ys) (from-expanded q 1 qs))
+-- ---- the entries of keys in order
 
 -- each has a copy
-from-present : (r : RecordValue) (n : ℕ) (xs : List RecordValue) → 0 < n → AllByRecursion (λ m. 0 < m) (values_of (grouped_from record_cmp r n xs))
-from-present r n [] some = (some, tt)
-from-present r n (q ∷ qs) some =
-    either_way (λ (es : List (RecordValue × ℕ)). AllByRecursion (λ m. 0 < m) (values_of es)) (is_eq (record_cmp q r)) (grouped_from record_cmp r (n + 1) qs) ((r, n) ∷ grouped_from record_cmp q 1 qs)
-    (λ _. from-present r (n + 1) qs (omega arith))
-    (λ _. (some, from-present q 1 qs (omega arith)))
+from-present : {K : Type 0} (cmp : K → K → Ordering) (k : K) (n : ℕ) (xs : List K) → 0 < n → AllByRecursion (λ m. 0 < m) (values_of (grouped_from cmp k n xs))
+from-present cmp k n [] some = (some, tt)
+from-present {K} cmp k n (q ∷ qs) some =
+    either_way (λ (es : List (K × ℕ)). AllByRecursion (λ m. 0 < m) (values_of es)) (is_eq (cmp q k)) (grouped_from cmp k (n + 1) qs) ((k, n) ∷ grouped_from cmp q 1 qs)
+    (λ _. from-present cmp k (n + 1) qs (omega arith))
+    (λ _. (some, from-present cmp q 1 qs (omega arith)))
 
--- what comes before the first comes before all
-from-below : (p r : RecordValue) (n : ℕ) (xs : List RecordValue) → record_cmp p r ≡ Less → AreInOrder (r ∷ xs) → AllByRecursion (λ k. record_cmp p k ≡ Less) (keys_of (grouped_from record_cmp r n xs))
-from-below p r n [] less order = (less, tt)
-from-below p r n (q ∷ qs) less order =
-    either_way (λ (es : List (RecordValue × ℕ)). AllByRecursion (λ k. record_cmp p k ≡ Less) (keys_of es)) (is_eq (record_cmp q r)) (grouped_from record_cmp r (n + 1) qs) ((r, n) ∷ grouped_from record_cmp q 1 qs)
-    (λ _. from-below p r (n + 1) qs less (order.0.1, order.1.1))
-    (λ apart. (less, from-below p q 1 qs (records_total.trans p r q less (later-row q r order.0.0 apart)) order.1))
+module _ {K : Type 0} (cmp : K → K → Ordering) (total : IsTotalOrder cmp) where
+  -- they have the copies of the list
+  from-copies : (k : K) (n : ℕ) (xs : List K) (x : K) → copies_by cmp (expanded (grouped_from cmp k n xs)) x ≡ cond (is_eq (cmp x k)) n 0 + copies_by cmp xs x
+  from-copies k n [] x = count-front (λ y. is_eq (cmp x y)) n k []
+  from-copies k n (q ∷ qs) x =
+      either_way (λ (es : List (K × ℕ)). copies_by cmp (expanded es) x ≡ cond (is_eq (cmp x k)) n 0 + copies_by cmp (q ∷ qs) x) (is_eq (cmp q k)) (grouped_from cmp k (n + 1) qs) ((k, n) ∷ grouped_from cmp q 1 qs)
+      (λ alike. omega (
+        arith,
+        from-copies k (n + 1) qs x,
+        one-more (is_eq (cmp x k)) n,
+        sum_by-cons (λ y. cond (is_eq (cmp x y)) 1 0) q qs,
+        ap {B = ℕ} (λ (o : Ordering). cond (is_eq o) 1 0) (alike_right total q k x ((Equal-is (cmp q k)).0 alike)),
+      ))
+      (λ _. omega (
+        arith,
+        count-front (λ y. is_eq (cmp x y)) n k (expanded (grouped_from cmp q 1 qs)),
+        from-copies q 1 qs x,
+        sum_by-cons (λ y. cond (is_eq (cmp x y)) 1 0) q qs,
+      ))
 
--- they ascend
-from-ordered : (r : RecordValue) (n : ℕ) (xs : List RecordValue) → AreInOrder (r ∷ xs) → IsLedger record_cmp (grouped_from record_cmp r n xs)
-unfolding IsStrictlySortedBy
-from-ordered r n [] order = (tt, tt)
-from-ordered r n (q ∷ qs) order =
-    either_way (IsLedger record_cmp) (is_eq (record_cmp q r)) (grouped_from record_cmp r (n + 1) qs) ((r, n) ∷ grouped_from record_cmp q 1 qs)
-    (λ _. from-ordered r (n + 1) qs (order.0.1, order.1.1))
-    (λ apart. (from-below r q 1 qs (later-row q r order.0.0 apart) order.1, from-ordered q 1 qs order.1))
+  grouped-copies : (ks : List K) (x : K) → copies_by cmp (expanded (grouped cmp ks)) x ≡ copies_by cmp ks x
+  grouped-copies [] x = refl
+  grouped-copies (k ∷ ks) x = from-copies k 1 ks x ∙ sym (sum_by-cons (λ y. cond (is_eq (cmp x y)) 1 0) k ks)
 
-nil-ordered : IsStrictlySortedBy record_cmp []
-unfolding IsStrictlySortedBy
-nil-ordered = tt
+  later : (q k : K) → is_le (cmp k q) ≡ true → is_eq (cmp q k) ≡ false → cmp k q ≡ Less
+  later q k le apart = le_apart (cmp k q) (cmp q k) (total.antisymm q k) le apart
 
-pub grouped-ordered : (records : List RecordValue) → AreInOrder records → IsLedger record_cmp (grouped record_cmp records)
-grouped-ordered [] order = nil-ordered
-grouped-ordered (r ∷ rs) order = from-ordered r 1 rs order
+  -- what comes before the first comes before all
+  from-below : (p k : K) (n : ℕ) (xs : List K) → cmp p k ≡ Less → InOrder cmp (k ∷ xs) → AllByRecursion (λ x. cmp p x ≡ Less) (keys_of (grouped_from cmp k n xs))
+  from-below p k n [] less order = (less, tt)
+  from-below p k n (q ∷ qs) less order =
+      either_way (λ (es : List (K × ℕ)). AllByRecursion (λ x. cmp p x ≡ Less) (keys_of es)) (is_eq (cmp q k)) (grouped_from cmp k (n + 1) qs) ((k, n) ∷ grouped_from cmp q 1 qs)
+      (λ _. from-below p k (n + 1) qs less (order.0.1, order.1.1))
+      (λ apart. (less, from-below p q 1 qs (total.trans p k q less (later q k order.0.0 apart)) order.1))
 
-grouped-counted : (records : List RecordValue) → AreInOrder records → AllByRecursion IsPlaced (keys_of (grouped record_cmp records)) → AreCounted (grouped record_cmp records) records
-grouped-counted [] order placed = record { rows_are = refl; ordered = nil-ordered; present = All-from_recursion (λ n. 0 < n) [] tt; placed = All-from_recursion IsPlaced [] placed }
-grouped-counted (r ∷ rs) order placed = record {
-  rows_are = from-expanded r 1 rs;
-  ordered = from-ordered r 1 rs order;
-  present = All-from_recursion (λ n. 0 < n) (values_of (grouped_from record_cmp r 1 rs)) (from-present r 1 rs (omega arith));
-  placed = All-from_recursion IsPlaced (keys_of (grouped_from record_cmp r 1 rs)) placed;
-}
+  -- they ascend
+  from-ordered : (k : K) (n : ℕ) (xs : List K) → InOrder cmp (k ∷ xs) → IsLedger cmp (grouped_from cmp k n xs)
+  unfolding IsStrictlySortedBy
+  from-ordered k n [] order = (tt, tt)
+  from-ordered k n (q ∷ qs) order =
+      either_way (IsLedger cmp) (is_eq (cmp q k)) (grouped_from cmp k (n + 1) qs) ((k, n) ∷ grouped_from cmp q 1 qs)
+      (λ _. from-ordered k (n + 1) qs (order.0.1, order.1.1))
+      (λ apart. (from-below k q 1 qs (later q k order.0.0 apart) order.1, from-ordered q 1 qs order.1))
 
--- ---- records of which no two are equal
+  in_order-ledger : (ks : List K) → InOrder cmp ks → IsLedger cmp (grouped cmp ks)
+  unfolding IsStrictlySortedBy
+  in_order-ledger [] order = tt
+  in_order-ledger (k ∷ ks) order = from-ordered k 1 ks order
 
-pub distinct-ordered : (records : List RecordValue) → AreDistinct records → records ≡ ordered records
-distinct-ordered records up = ordered-sorted records records (IsPermutation-refl records) (strictly-sorted record_cmp records up)
+  grouped-counted : (ks : List K) → IsSorted cmp ks → AreCounted cmp (grouped cmp ks) ks
+  grouped-counted ks up = record {
+    ordered = in_order-ledger ks (in_order-sorted cmp total ks up);
+    present = All-from_recursion (λ n. 0 < n) (values_of (grouped cmp ks)) (present ks);
+    counted = grouped-copies ks;
+  }
+    where
+      present : (ks : List K) → AllByRecursion (λ n. 0 < n) (values_of (grouped cmp ks))
+      present [] = tt
+      present (k ∷ ks) = from-present cmp k 1 ks (omega arith)
 
-pub distinct-rest : (r : RecordValue) (records : List RecordValue) → AreDistinct (r ∷ records) → AreDistinct records
-distinct-rest = strictly-rest record_cmp
-
--- the first is an entry of its own
-pub distinct-first : (r : RecordValue) (records : List RecordValue) → AreDistinct (r ∷ records) → grouped record_cmp (r ∷ records) ≡ (r, 1) ∷ grouped record_cmp records
-distinct-first r [] up = refl
-distinct-first r (q ∷ qs) up =
-    cond-false (is_eq (record_cmp q r)) (grouped_from record_cmp r 2 qs) ((r, 1) ∷ grouped_from record_cmp q 1 qs) (strictly-apart record_cmp r q qs up)
-
--- ---- what the iterator gives
-
-gives-list : (es : List (RecordValue × ℕ)) → YieldsList GivesEntry (λ e. e) es es
-gives-list es = YieldsList-from_shown GivesEntry (λ e. e) (λ l. l) (λ s t h. ap length h.0.0) (λ s x t h. h.0) es
+-- ---- what an iterator gives
 
 map-same : {X : Type 0} (xs : List X) → map (λ y. y) xs ≡ xs
 map-same [] = refl
@@ -125,67 +120,66 @@ map-same (x ∷ xs) = ap (λ ys. x ∷ ys) (map-same xs)
 pub given-items : {S X : Type 0} {gives : S → Option X → S → Type 0} (s : S) (xs all : List X) → Drains gives s xs → YieldsList gives (λ x. x) s all → xs ≡ all
 given-items s xs all run list = sym (map-same xs) ∙ items_from_drains xs (run.1.0, run.1.1, λ _. (run.0, run.1.2)) list
 
-given-entries : (es xs : List (RecordValue × ℕ)) → Drains GivesEntry es xs → xs ≡ es
-given-entries es xs run = given-items es xs es run (gives-list es)
+given-entries : {X : Type 0} (all xs : List X) → Drains (YieldsFirst (λ (es : List X). es)) all xs → xs ≡ all
+given-entries {X} all xs run =
+    given-items all xs all run (YieldsList-from_shown (YieldsFirst (λ (es : List X). es)) (λ e. e) (λ es. es) (λ s t h. ap length h.0) (λ s x t h. h) all)
 
-yielded-placed : (s xs t : List (RecordValue × ℕ)) → Yields GivesEntry s xs t → AllByRecursion IsPlaced (keys_of xs)
-yielded-placed s [] t y = tt
-yielded-placed s (x ∷ xs) t y = (y.1.1, yielded-placed y.0 xs t y.2)
+module _ {K : Type 0} (cmp : K → K → Ordering) (total : IsTotalOrder cmp) where
+  pub given-ordered : (ks : List K) (left xs : List (K × ℕ)) → left ≡ grouped cmp ks → IsSorted cmp ks → Drains (YieldsFirst (λ (es : List (K × ℕ)). es)) left xs → IsLedger cmp xs
+  given-ordered ks left xs is up run = subst (IsLedger cmp) (sym (given-entries left xs run ∙ is)) (grouped-counted cmp total ks up).ordered
 
--- the entries of records in order
-given-counted : (records : List RecordValue) (xs : List (RecordValue × ℕ)) → AreInOrder records → Drains GivesEntry (grouped record_cmp records) xs → AreCounted xs records
-given-counted records xs order run =
-    let same : xs ≡ grouped record_cmp records = given-entries (grouped record_cmp records) xs run in
-    subst (λ es. AreCounted es records) (sym same)
-    (grouped-counted records order (subst (λ (es : List (RecordValue × ℕ)). AllByRecursion IsPlaced (keys_of es)) same (yielded-placed (grouped record_cmp records) xs run.1.0 run.1.1)))
+  -- a map with the values of counted entries
+  built : (gs es : List (K × ℕ)) (ks : List K) → AreCounted cmp es ks → IsLedger cmp gs → ((k : K) → value_at cmp gs k ≡ value_at cmp es k) → AreCounted cmp gs ks
+  built gs es ks c s same = record {
+    ordered = s;
+    present = All-values_from_lookup (eq_by_cmp_equiv total) (λ n. 0 < n) gs (IsDistinct-from_sorted cmp (keys_of gs) s)
+        (λ k. subst (λ o. IfSome o (λ n. 0 < n)) (sym (same k)) (IfSome-lookup_from_All (λ n. 0 < n) (is_at (cmp k)) es c.present));
+    counted = λ k. copies-expanded cmp total gs k s ∙ ap (λ o. unwrap_or o 0) (same k) ∙ sym (copies-expanded cmp total es k c.ordered) ∙ c.counted k;
+  }
 
-pub given-ordered : (records : List RecordValue) (xs : List (RecordValue × ℕ)) → AreInOrder records → Drains GivesEntry (grouped record_cmp records) xs → IsLedger record_cmp xs
-given-ordered records xs order run = subst (IsLedger record_cmp) (sym (given-entries (grouped record_cmp records) xs run)) (grouped-ordered records order)
-
--- the entries of records, in the order of a track
-pub ordered-counted : (records : List RecordValue) (left xs : List (RecordValue × ℕ)) → left ≡ grouped record_cmp (ordered records) → Drains GivesEntry left xs → AreCounted xs (ordered records)
-ordered-counted records left xs is run =
-    given-counted (ordered records) xs (ordered-in_order records) (subst (λ (es : List (RecordValue × ℕ)). Drains GivesEntry es xs) is run)
+  -- the map that was built from the entries of keys that were sorted, if it was
+  pub given-built : {E : Type 0} (keys ks : List K) (left : List (K × ℕ)) → left ≡ grouped cmp ks → IsPermutation keys ks → IsSorted cmp ks → (r : Result (List (K × ℕ)) E)
+      → IfOk r (λ gs. (es : List (K × ℕ)) × Drains (YieldsFirst (λ (l : List (K × ℕ)). l)) left es × ((k : K) → value_at cmp gs k ≡ value_at cmp es k))
+      → IfOk r (λ gs. IsLedger cmp gs) → IfOk r (λ gs. AreCounted cmp gs keys)
+  given-built keys ks left is moved up (Ok gs) values s =
+      let c : AreCounted cmp values.0 ks = subst (λ es. AreCounted cmp es ks) (sym (given-entries left values.0 values.1 ∙ is)) (grouped-counted cmp total ks up) in
+      let b = built gs values.0 ks c s values.2 in
+      record { ordered = s; present = b.present; counted = λ k. b.counted k ∙ copies-permutation cmp keys ks k moved }
+  given-built keys ks left is moved up (Err e) values s = tt
 
 -- ---- one entry
 
--- n neighbours alike `held` were taken, and these records are left: with them, all entries that were left before
-pub record IsCounting (all : List (RecordValue × ℕ)) (held : RecordValue) (n : ℕ) (rest : List RecordValue) : Type 0 where
-  pub all_is : all ≡ grouped_from record_cmp held n rest
-  pub few : n + length rest < 2 ^ 32
+module _ {K : Type 0} (cmp : K → K → Ordering) where
+  -- the first of distinct keys is an entry of its own
+  pub distinct-first : (k : K) (ks : List K) → AreDistinct cmp (k ∷ ks) → grouped cmp (k ∷ ks) ≡ (k, 1) ∷ grouped cmp ks
+  distinct-first k [] up = refl
+  distinct-first k (q ∷ qs) up = cond-false (is_eq (cmp q k)) (grouped_from cmp k 2 qs) ((k, 1) ∷ grouped_from cmp q 1 qs) (strictly-apart cmp k q qs up)
 
-pub counting-begins : (all : List (RecordValue × ℕ)) (records : List RecordValue) (held : RecordValue) (rest : List RecordValue) → grouped record_cmp records ≡ all → length records < 2 ^ 32 → records ≡ held ∷ rest → IsCounting all held 1 rest
-counting-begins all records held rest are few is = record {
-  all_is = sym are ∙ ap (grouped record_cmp) is;
-  few = omega (arith, few, ap length is);
-}
+  -- n neighbours alike `held` were taken, and these keys are left: with them, all entries that were left before
+  pub record IsCounting (all : List (K × ℕ)) (held : K) (n : ℕ) (rest : List K) : Type 0 where
+    pub all_is : all ≡ grouped_from cmp held n rest
+    pub few : n + length rest < 2 ^ 32
 
-pub nil_from_length : {X : Type 0} (xs : List X) → length xs ≡ 0 → xs ≡ []
-nil_from_length [] e = refl
-nil_from_length (x ∷ xs) e = absurd (omega (arith, e))
+  pub counting-begins : (all : List (K × ℕ)) (keys : List K) (held : K) (rest : List K) → grouped cmp keys ≡ all → length keys < 2 ^ 32 → keys ≡ held ∷ rest → IsCounting all held 1 rest
+  counting-begins all keys held rest are few is = record {
+    all_is = sym are ∙ ap (grouped cmp) is;
+    few = omega (arith, few, ap length is);
+  }
 
-true-not_false : (b : Bool) → not b ≡ false → b ≡ true
-true-not_false true e = refl
-true-not_false false e = cc
+  -- one more that is alike
+  pub counting-more : (all : List (K × ℕ)) (held key : K) (n : ℕ) (rest : List K) → is_eq (cmp key held) ≡ true → IsCounting all held n (key ∷ rest) → IsCounting all held (n + 1) rest
+  counting-more all held key n rest alike h =
+      let few : n + suc (length rest) < 2 ^ 32 = h.few in
+      record {
+        all_is = h.all_is ∙ cond-true (is_eq (cmp key held)) (grouped_from cmp held (n + 1) rest) ((held, n) ∷ grouped_from cmp key 1 rest) alike;
+        few = omega (arith, few);
+      }
 
-false-not_true : (b : Bool) → not b ≡ true → b ≡ false
-false-not_true true e = cc
-false-not_true false e = refl
+  -- one that is not
+  pub counting-ends : (all : List (K × ℕ)) (held key : K) (n : ℕ) (rest : List K) → is_eq (cmp key held) ≡ false → IsCounting all held n (key ∷ rest) → all ≡ (held, n) ∷ grouped cmp (key ∷ rest)
+  counting-ends all held key n rest apart h =
+      h.all_is ∙ cond-false (is_eq (cmp key held)) (grouped_from cmp held (n + 1) rest) ((held, n) ∷ grouped_from cmp key 1 rest) apart
 
--- one more that is alike
-pub counting-more : (all : List (RecordValue × ℕ)) (held feature : RecordValue) (n : ℕ) (rest : List RecordValue) → not (is_eq (record_cmp feature held)) ≡ false → IsCounting all held n (feature ∷ rest) → IsCounting all held (n + 1) rest
-counting-more all held feature n rest alike h =
-    let few : n + suc (length rest) < 2 ^ 32 = h.few in
-    record {
-      all_is = h.all_is ∙ cond-true (is_eq (record_cmp feature held)) (grouped_from record_cmp held (n + 1) rest) ((held, n) ∷ grouped_from record_cmp feature 1 rest) (true-not_false _ alike);
-      few = omega (arith, few);
-    }
-
--- one that is not
-pub counting-ends : (all : List (RecordValue × ℕ)) (held feature : RecordValue) (n : ℕ) (rest : List RecordValue) → not (is_eq (record_cmp feature held)) ≡ true → IsCounting all held n (feature ∷ rest) → all ≡ (held, n) ∷ grouped record_cmp (feature ∷ rest)
-counting-ends all held feature n rest apart h =
-    h.all_is ∙ cond-false (is_eq (record_cmp feature held)) (grouped_from record_cmp held (n + 1) rest) ((held, n) ∷ grouped_from record_cmp feature 1 rest) (false-not_true _ apart)
-
--- none
-pub counting-last : (all : List (RecordValue × ℕ)) (held : RecordValue) (n : ℕ) (rest : List RecordValue) → rest ≡ [] → IsCounting all held n rest → all ≡ (held, n) ∷ []
-counting-last all held n rest none h = h.all_is ∙ ap (grouped_from record_cmp held n) none
+  -- none
+  pub counting-last : (all : List (K × ℕ)) (held : K) (n : ℕ) (rest : List K) → rest ≡ [] → IsCounting all held n rest → all ≡ (held, n) ∷ []
+  counting-last all held n rest none h = h.all_is ∙ ap (grouped_from cmp held n) none

@@ -17,11 +17,11 @@ use Rattle.std.proofs.lemmas.List.{length-take-le, length-drop, length-map, get_
 use Rattle.std.proofs.lemmas.List.Sorted.{searchable_from_sorted}
 use Rattle.std.proofs.lemmas.Map.Keys.{Less-from_sorted}
 use Rattle.std.proofs.lemmas.List.Elements.{All-from_recursion, recursion_from_All, All-nil, All-cons, All-append, at_read}
-use Rattle.iv_track.specs.Inside.Chunks.{joined, before, from, AreChunks, IsGap, IsFound, starts_by}
+use Rattle.iv_track.specs.Inside.Chunks.{concatenated, before, from, AreChunks, IsGap, IsFound, starts_by}
 use Rattle.iv_track.specs.Entries.{IsLedger}
 use Rattle.iv_track.specs.declared.entry_index.EntryIndex.{EntryIndex}
 use Rattle.iv_track.proofs.Splits.{IsBelow, IsAbove, all_front, all_back, all_both, weaken, around_below, ledger_head, ledger_tail, ledger_nil, ledger_cons}
-use Rattle.iv_track.proofs.ChunkLemmas.{joined-split, joined-parts, before_at, from_at, from_here, before_next, before-from}
+use Rattle.iv_track.proofs.ChunkLemmas.{concatenated-split, concatenated-parts, before_at, from_at, from_here, before_next, before-from}
 
 -- what is not at or after is before
 less_from_not_ge : (r : Ordering) → is_ge r ≡ false → r ≡ Less
@@ -121,32 +121,32 @@ module _ {K V : Type 0} {cmp : K → K → Ordering} (o : IsTotalOrder cmp) wher
 
     module _ {Z : Type 0} where
       -- the entries of chunks that start above k are above k
-      later_above : (cs : List (Vec (K × V) Z)) → IsLedger cmp (joined cs) → AllByRecursion (λ c. starts_by cmp k (vec_items c) ≡ false) cs → AllByRecursion (IsAbove cmp k) (joined cs)
+      later_above : (cs : List (Vec (K × V) Z)) → IsLedger cmp (concatenated cs) → AllByRecursion (λ c. starts_by cmp k (vec_items c) ≡ false) cs → AllByRecursion (IsAbove cmp k) (concatenated cs)
       later_above [] s h = tt
       later_above (c ∷ cs) s h =
-          all_both (IsAbove cmp k) (vec_items c) (joined cs) (chunk_above (vec_items c) (ledger_front (vec_items c) (joined cs) s) h.0) (later_above cs (ledger_back (vec_items c) (joined cs) s) h.1)
+          all_both (IsAbove cmp k) (vec_items c) (concatenated cs) (chunk_above (vec_items c) (ledger_front (vec_items c) (concatenated cs) s) h.0) (later_above cs (ledger_back (vec_items c) (concatenated cs) s) h.1)
 
       -- the entries of a chunk are some of all
-      chunk_of_all : (P : K × V → Type 0) (cs : List (Vec (K × V) Z)) (j : ℕ) (d : Vec (K × V) Z) → j < length cs → AllByRecursion P (joined cs) → AllByRecursion P (vec_items (get_or cs j d))
+      chunk_of_all : (P : K × V → Type 0) (cs : List (Vec (K × V) Z)) (j : ℕ) (d : Vec (K × V) Z) → j < length cs → AllByRecursion P (concatenated cs) → AllByRecursion P (vec_items (get_or cs j d))
       chunk_of_all P [] j d lt h = absurd (omega arith)
-      chunk_of_all P (c ∷ cs) zero d lt h = all_front P (vec_items c) (joined cs) h
-      chunk_of_all P (c ∷ cs) (suc j) d lt h = chunk_of_all P cs j d (omega arith) (all_back P (vec_items c) (joined cs) h)
+      chunk_of_all P (c ∷ cs) zero d lt h = all_front P (vec_items c) (concatenated cs) h
+      chunk_of_all P (c ∷ cs) (suc j) d lt h = chunk_of_all P cs j d (omega arith) (all_back P (vec_items c) (concatenated cs) h)
 
       -- an entry before a chunk that starts by k is before k
-      first_before : (xs : List (K × V)) (cs : List (Vec (K × V) Z)) (j : ℕ) (d : Vec (K × V) Z) → j < length cs → 0 < length (vec_items (get_or cs j d)) → IsLedger cmp (xs ++ joined cs) → starts_by cmp k (vec_items (get_or cs j d)) ≡ true → starts_by cmp k xs ≡ true
+      first_before : (xs : List (K × V)) (cs : List (Vec (K × V) Z)) (j : ℕ) (d : Vec (K × V) Z) → j < length cs → 0 < length (vec_items (get_or cs j d)) → IsLedger cmp (xs ++ concatenated cs) → starts_by cmp k (vec_items (get_or cs j d)) ≡ true → starts_by cmp k xs ≡ true
       first_before [] cs j d lt some s starts = refl
       first_before (e ∷ xs) cs j d lt some s starts =
-          first_past e (vec_items (get_or cs j d)) some (chunk_of_all (λ f. cmp e.0 f.0 ≡ Less) cs j d lt (all_back (λ f. cmp e.0 f.0 ≡ Less) xs (joined cs) (ledger_head o e (xs ++ joined cs) s))) starts
+          first_past e (vec_items (get_or cs j d)) some (chunk_of_all (λ f. cmp e.0 f.0 ≡ Less) cs j d lt (all_back (λ f. cmp e.0 f.0 ≡ Less) xs (concatenated cs) (ledger_head o e (xs ++ concatenated cs) s))) starts
 
       -- if a chunk starts by k then so do those before it
-      are_split : (cs : List (Vec (K × V) Z)) → IsLedger cmp (joined cs) → ((j : ℕ) (d : Vec (K × V) Z) → j < length cs → 0 < length (vec_items (get_or cs j d)))
+      are_split : (cs : List (Vec (K × V) Z)) → IsLedger cmp (concatenated cs) → ((j : ℕ) (d : Vec (K × V) Z) → j < length cs → 0 < length (vec_items (get_or cs j d)))
           → (i j : ℕ) (d : Vec (K × V) Z) → i ≤ j → j < length cs → starts_by cmp k (vec_items (get_or cs j d)) ≡ true → starts_by cmp k (vec_items (get_or cs i d)) ≡ true
       are_split [] s some i j d le lt starts = absurd (omega arith)
       are_split (c ∷ cs) s some zero zero d le lt starts = starts
       are_split (c ∷ cs) s some zero (suc j) d le lt starts = first_before (vec_items c) cs j d (omega arith) (some (suc j) d lt) s starts
       are_split (c ∷ cs) s some (suc i) zero d le lt starts = absurd (omega arith)
       are_split (c ∷ cs) s some (suc i) (suc j) d le lt starts =
-          are_split cs (ledger_back (vec_items c) (joined cs) s) (λ m e less. some (suc m) e (omega arith)) i j d (omega arith) (omega arith) starts
+          are_split cs (ledger_back (vec_items c) (concatenated cs) s) (λ m e less. some (suc m) e (omega arith)) i j d (omega arith) (omega arith) starts
 
       module _ (cs : List (Vec (K × V) Z)) (ok : AreChunks cmp cs) where
         -- no chunk is empty
@@ -163,14 +163,14 @@ module _ {K V : Type 0} {cmp : K → K → Ordering} (o : IsTotalOrder cmp) wher
           point = by_tests partitioned
 
           -- all entries of the chunks from there on are above k
-          rest_above : All (IsAbove cmp k) (joined (drop n cs))
+          rest_above : All (IsAbove cmp k) (concatenated (drop n cs))
           rest_above =
               let Q : Vec (K × V) Z → Type 0 = λ c. starts_by cmp k (vec_items c) ≡ false in
               let chunks : All Q (drop n cs) = λ j d lt.
               let same = get_or-drop n cs j d in
               subst Q (sym same) (point.1 (n + j) d (omega arith) (omega (arith, length-drop n cs))) in
-              let sorted = ledger_back (joined (take n cs)) (joined (drop n cs)) (subst (IsLedger cmp) (joined-split cs n) ok.ordered) in
-              All-from_recursion (IsAbove cmp k) (joined (drop n cs)) (later_above (drop n cs) sorted (recursion_from_All Q (drop n cs) chunks))
+              let sorted = ledger_back (concatenated (take n cs)) (concatenated (drop n cs)) (subst (IsLedger cmp) (concatenated-split cs n) ok.ordered) in
+              All-from_recursion (IsAbove cmp k) (concatenated (drop n cs)) (later_above (drop n cs) sorted (recursion_from_All Q (drop n cs) chunks))
 
           -- if no chunk starts by k then k would go before all entries
           pub no_chunk : n ≡ 0 → IsGap cmp cs k (record { chunk = 0; index = 0 })
@@ -179,7 +179,7 @@ module _ {K V : Type 0} {cmp : K → K → Ordering} (o : IsTotalOrder cmp) wher
             first_is_first = λ first. refl;
             some_before = λ some. absurd (omega arith);
             below = All-nil (IsBelow cmp k);
-            above = subst (λ m. All (IsAbove cmp k) (joined (drop m cs))) none rest_above;
+            above = subst (λ m. All (IsAbove cmp k) (concatenated (drop m cs))) none rest_above;
           }
 
           -- the last chunk that starts at k or before it
@@ -197,12 +197,12 @@ module _ {K V : Type 0} {cmp : K → K → Ordering} (o : IsTotalOrder cmp) wher
             some = subst (λ y. 0 < length (vec_items y)) (sym read) (some_items c x lt)
 
             -- all entries in order, with its own between others
-            sorted : IsLedger cmp (joined (take c cs) ++ (vec_items x ++ joined (drop (c + 1) cs)))
-            sorted = subst (IsLedger cmp) (joined-parts cs c x lt read) ok.ordered
+            sorted : IsLedger cmp (concatenated (take c cs) ++ (vec_items x ++ concatenated (drop (c + 1) cs)))
+            sorted = subst (IsLedger cmp) (concatenated-parts cs c x lt read) ok.ordered
 
             -- its entries are in order
             sorted_here : IsLedger cmp (vec_items x)
-            sorted_here = ledger_front (vec_items x) (joined (drop (c + 1) cs)) (ledger_back (joined (take c cs)) (vec_items x ++ joined (drop (c + 1) cs)) sorted)
+            sorted_here = ledger_front (vec_items x) (concatenated (drop (c + 1) cs)) (ledger_back (concatenated (take c cs)) (vec_items x ++ concatenated (drop (c + 1) cs)) sorted)
 
             -- what a search in it answers
             module _ {xs : List (K × V)} (items : xs ≡ vec_items x) (i : ℕ) where
@@ -221,10 +221,10 @@ module _ {K V : Type 0} {cmp : K → K → Ordering} (o : IsTotalOrder cmp) wher
                     first_is_first = λ first. absurd (not_first (vec_items x) some starts (subst (λ m. AllWithin (λ e. cmp e.0 k ≡ Greater) (vec_items x) m (length (vec_items x))) first halves.1));
                     some_before = λ _. lt;
                     below = subst (All (IsBelow cmp k)) (sym (before_at cs c x lt read i within)) (
-                        All-append (IsBelow cmp k) (joined (take c cs)) (take i (vec_items x)) (earlier_below (joined (take c cs)) (vec_items x) (joined (drop (c + 1) cs)) some starts sorted) (front_below (vec_items x) i within halves.0)
+                        All-append (IsBelow cmp k) (concatenated (take c cs)) (take i (vec_items x)) (earlier_below (concatenated (take c cs)) (vec_items x) (concatenated (drop (c + 1) cs)) some starts sorted) (front_below (vec_items x) i within halves.0)
                         );
                     above = subst (All (IsAbove cmp k)) (sym (from_at cs c x lt read i within)) (
-                        All-append (IsAbove cmp k) (drop i (vec_items x)) (joined (drop (c + 1) cs)) (back_above (vec_items x) i within halves.1) (subst (λ m. All (IsAbove cmp k) (joined (drop m cs))) is rest_above)
+                        All-append (IsAbove cmp k) (drop i (vec_items x)) (concatenated (drop (c + 1) cs)) (back_above (vec_items x) i within halves.1) (subst (λ m. All (IsAbove cmp k) (concatenated (drop m cs))) is rest_above)
                         );
                   }
 

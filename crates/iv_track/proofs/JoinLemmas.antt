@@ -6,9 +6,9 @@ use Rattle.std.specs.declared.vec.Vec.{Vec}
 use Rattle.std.proofs.lemmas.List.{take-append-drop, take-append-le, take_at, drop_at, take_more, drop_more, take-take, set_split, append-nil, get_or_append_left, get_or-take, length-append, length-take-le}
 use Rattle.std.proofs.lemmas.List.Concat.{flat_map-append}
 use Rattle.std.proofs.lemmas.List.Elements.{All-append, All-take, All-drop}
-use Rattle.iv_track.specs.Inside.Chunks.{joined, AreFilled, AreSmall, IsFilled, most_in_chunk}
+use Rattle.iv_track.specs.Inside.Chunks.{concatenated, AreFilled, AreSmall, IsFilled, most_in_chunk}
 use Rattle.iv_track.specs.Inside.Replaced.{IsReplaced}
-use Rattle.iv_track.proofs.ChunkLemmas.{joined-set, filled-set}
+use Rattle.iv_track.proofs.ChunkLemmas.{concatenated-set, filled-set}
 
 -- the chunk after the chunk c was taken out
 module _ {X Z : Type 0} {old : List (Vec X Z)} {c : ℕ} (small : AreSmall old c) where
@@ -56,20 +56,20 @@ module _ {X Z : Type 0} {old : List (Vec X Z)} {c : ℕ} (small : AreSmall old c
 
     module _ (z : Vec X Z) (has : vec_items z ≡ vec_items x ++ vec_items y) where
       -- no entry is lost, and none moves past another
-      pub join_same : joined (set (remove old (c + 1)) c z) ≡ joined old
+      pub join_same : concatenated (set (remove old (c + 1)) c z) ≡ concatenated old
       join_same =
           let cs = remove old (c + 1) in
-          let rest = joined (drop (c + 1) cs) in
-          joined-set cs c x left is_x z
-          ∙ ap (λ es. joined (take c cs) ++ (es ++ rest)) has
-          ∙ ap (λ es. joined (take c cs) ++ es) (append_assoc (vec_items x) (vec_items y) rest)
-          ∙ sym (append_assoc (joined (take c cs)) (vec_items x) (vec_items y ++ rest))
-          ∙ ap (λ es. (joined (take c cs) ++ es) ++ (vec_items y ++ rest)) (sym (append-nil (vec_items x)))
+          let rest = concatenated (drop (c + 1) cs) in
+          concatenated-set cs c x left is_x z
+          ∙ ap (λ es. concatenated (take c cs) ++ (es ++ rest)) has
+          ∙ ap (λ es. concatenated (take c cs) ++ es) (append_assoc (vec_items x) (vec_items y) rest)
+          ∙ sym (append_assoc (concatenated (take c cs)) (vec_items x) (vec_items y ++ rest))
+          ∙ ap (λ es. (concatenated (take c cs) ++ es) ++ (vec_items y ++ rest)) (sym (append-nil (vec_items x)))
           ∙ ap (λ es. es ++ (vec_items y ++ rest)) (sym (flat_map-append vec_items (take c cs) (x ∷ [])))
-          ∙ ap (λ v. joined (take c cs ++ v ∷ []) ++ (vec_items y ++ rest)) is_x
-          ∙ ap (λ ds. joined ds ++ (vec_items y ++ rest)) (sym (take_more cs c x left))
+          ∙ ap (λ v. concatenated (take c cs ++ v ∷ []) ++ (vec_items y ++ rest)) is_x
+          ∙ ap (λ ds. concatenated ds ++ (vec_items y ++ rest)) (sym (take_more cs c x left))
           ∙ sym (flat_map-append vec_items (take (c + 1) cs) (y ∷ drop (c + 1) cs))
-          ∙ ap joined (sym whole)
+          ∙ ap concatenated (sym whole)
 
       -- no chunk is empty or too full
       pub join_filled : AreFilled old → AreFilled (set (remove old (c + 1)) c z)

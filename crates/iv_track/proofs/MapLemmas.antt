@@ -12,15 +12,15 @@ use Rattle.std.specs.declared.cmp.Ordering.TheVariants.{Less, Equal, Greater}
 use Rattle.std.specs.declared.vec.Vec.{Vec}
 use Rattle.std.proofs.lemmas.List.{length-append, length_push, get_or_push, get_or_default, drop-drop}
 use Rattle.std.proofs.lemmas.List.Elements.{All-nil, All-cons, All-append, All-weaker}
-use Rattle.iv_track.specs.Inside.Chunks.{joined, before, from, IsFilled, AreFilled, AreChunks, IsWhole, IsInside, IsGap, IsFound, most_in_chunk}
+use Rattle.iv_track.specs.Inside.Chunks.{concatenated, before, from, IsFilled, AreFilled, AreChunks, IsWhole, IsInside, IsGap, IsFound, most_in_chunk}
 use Rattle.iv_track.specs.Entries.{IsLedger, value_at, last_until}
 use Rattle.iv_track.specs.declared.entry_index.EntryIndex.{EntryIndex}
 use Rattle.iv_track.proofs.Nearest.{find-filter}
 use Rattle.iv_track.proofs.Splits.{IsBelow, IsAbove, filter_from, find_last, find_no_last, value_absent, remove_absent, insert_absent, value_present, set_present, remove_present, insert_present, below_present, above_present, sorted_insert, sorted_remove, sorted_set, ledger_nil}
-use Rattle.iv_track.proofs.ChunkLemmas.{before-from, before_next, from_here, joined-set_written, filled-set}
+use Rattle.iv_track.proofs.ChunkLemmas.{before-from, before_next, from_here, concatenated-set_written, filled-set}
 
 -- the entries of the chunks are these, in order, and there are so many
-pub whole_gathered : {K V Z : Type 0} {cmp : K → K → Ordering} (cs : List (Vec (K × V) Z)) (es : List (K × V)) (len : ℕ) → joined cs ≡ es → IsLedger cmp es → AreFilled cs → len ≡ length es → len < 2 ^ 63 → IsWhole cmp cs len
+pub whole_gathered : {K V Z : Type 0} {cmp : K → K → Ordering} (cs : List (Vec (K × V) Z)) (es : List (K × V)) (len : ℕ) → concatenated cs ≡ es → IsLedger cmp es → AreFilled cs → len ≡ length es → len < 2 ^ 63 → IsWhole cmp cs len
 whole_gathered {cmp = cmp} cs es len all sorted filled counted small = record {
   in_chunks = record { ordered = subst (IsLedger cmp) (sym all) sorted; filled = filled };
   counted = counted ∙ sym (ap length all);
@@ -29,7 +29,7 @@ whole_gathered {cmp = cmp} cs es len all sorted filled counted small = record {
 
 -- no entry
 pub whole_none : {K V Z : Type 0} {cmp : K → K → Ordering} (cs : List (Vec (K × V) Z)) → cs ≡ [] → IsWhole cmp cs 0
-whole_none {K = K} {V = V} {cmp = cmp} cs none = whole_gathered cs [] 0 (ap joined none) (ledger_nil K V cmp) (subst AreFilled (sym none) (All-nil IsFilled)) refl (omega arith)
+whole_none {K = K} {V = V} {cmp = cmp} cs none = whole_gathered cs [] 0 (ap concatenated none) (ledger_nil K V cmp) (subst AreFilled (sym none) (All-nil IsFilled)) refl (omega arith)
 
 -- an index in a chunk is small
 pub small_index : {X Z : Type 0} (cs : List (Vec X Z)) (p : EntryIndex) → AreFilled cs → IsInside cs p → p.index < most_in_chunk
@@ -37,11 +37,11 @@ small_index [] p filled inside = absurd (omega (arith, inside.chunk_in_range))
 small_index (c ∷ cs) p filled inside = omega (arith, filled p.chunk c inside.chunk_in_range, inside.index_in_range c)
 
 -- the first entry from an index on is the first that passes a test, if those from there on are all that pass
-pub first_found : {X Z : Type 0} {cs ds fs : List (Vec X Z)} {es : List X} {r : Option X} → fs ≡ cs → ds ≡ cs → joined cs ≡ es → (t : X → Bool) (p : EntryIndex) → from ds p ≡ filter t (joined ds) → r ≡ slice_get (from fs p) 0 → r ≡ find t es
+pub first_found : {X Z : Type 0} {cs ds fs : List (Vec X Z)} {es : List X} {r : Option X} → fs ≡ cs → ds ≡ cs → concatenated cs ≡ es → (t : X → Bool) (p : EntryIndex) → from ds p ≡ filter t (concatenated ds) → r ≡ slice_get (from fs p) 0 → r ≡ find t es
 first_found again same all t p passing first =
     first
     ∙ ap (λ hs. slice_get (from hs p) 0) (again ∙ sym same)
-    ∙ ap (λ xs. slice_get xs 0) (passing ∙ ap (λ hs. filter t (joined hs)) same ∙ ap (filter t) all)
+    ∙ ap (λ xs. slice_get xs 0) (passing ∙ ap (λ hs. filter t (concatenated hs)) same ∙ ap (filter t) all)
     ∙ sym (find-filter t _)
 
 -- what holds of all holds of the last one
@@ -59,7 +59,7 @@ head_or d (x ∷ xs) = x
 pub record IsEntry {K V Z : Type 0} (cmp : K → K → Ordering) (k : K) (cs : List (Vec (K × V) Z)) (es : List (K × V)) (p : EntryIndex) (e : K × V) : Type 0 where
   pub total : IsTotalOrder cmp
   pub sorted : IsLedger cmp es
-  pub all : joined cs ≡ es
+  pub all : concatenated cs ≡ es
   pub first : from cs p ≡ e ∷ drop 1 (from cs p)
   pub here : cmp k e.0 ≡ Equal
 
@@ -131,14 +131,14 @@ module _ {K V Z : Type 0} {cmp : K → K → Ordering} {k : K} {cs : List (Vec (
     some_entry = omega (arith, counted_found)
 
     -- without the entry
-    pub whole_removed : {new : List (Vec (K × V) Z)} → joined new ≡ before cs p ++ drop 1 (from cs p) → AreFilled new → IsWhole cmp new (len - 1)
+    pub whole_removed : {new : List (Vec (K × V) Z)} → concatenated new ≡ before cs p ++ drop 1 (from cs p) → AreFilled new → IsWhole cmp new (len - 1)
     whole_removed {new = new} all filled =
         whole_gathered new (before cs p ++ drop 1 (from cs p)) (len - 1) all (sorted_remove entry.total (before cs p) e (drop 1 (from cs p)) in_order) filled
         (omega (arith, counted_found, length-append (before cs p) (drop 1 (from cs p)))) (omega (arith, whole.small))
 
 -- if a search found a key there is an entry with it
 module _ {K V Z : Type 0} {cmp : K → K → Ordering} (o : IsTotalOrder cmp) {k : K} {cs ds : List (Vec (K × V) Z)} {es : List (K × V)} {p : EntryIndex}
-    (found : IsFound cmp ds k p) (same : ds ≡ cs) (ok : AreChunks cmp cs) (all : joined cs ≡ es) where
+    (found : IsFound cmp ds k p) (same : ds ≡ cs) (ok : AreChunks cmp cs) (all : concatenated cs ≡ es) where
   -- so the search says of the chunks themselves
   there : IsFound cmp cs k p
   there = subst (λ ys. IsFound cmp ys k p) same found
@@ -161,17 +161,17 @@ module _ {K V Z : Type 0} {cmp : K → K → Ordering} (o : IsTotalOrder cmp) {k
     -- ---- another value is written
     module _ {w v : V} (writes : w ≡ v) where
       -- all entries then
-      written_all : joined (set cs p.chunk (with_item x p.index (e.0, w))) ≡ before cs p ++ (e.0, v) ∷ drop 1 (from cs p)
+      written_all : concatenated (set cs p.chunk (with_item x p.index (e.0, w))) ≡ before cs p ++ (e.0, v) ∷ drop 1 (from cs p)
       written_all =
-          joined-set_written cs p.chunk x there.inside.chunk_in_range is (with_item x p.index (e.0, w)) p.index (e.0, w) (in_chunk x is) refl
+          concatenated-set_written cs p.chunk x there.inside.chunk_in_range is (with_item x p.index (e.0, w)) p.index (e.0, w) (in_chunk x is) refl
           ∙ ap (λ u. before cs p ++ (e.0, u) ∷ drop 1 (from cs p)) writes
 
       -- they are those after an insertion of the key
-      pub written_insert : joined (set cs p.chunk (with_item x p.index (e.0, w))) ≡ insert_entry cmp es k v
+      pub written_insert : concatenated (set cs p.chunk (with_item x p.index (e.0, w))) ≡ insert_entry cmp es k v
       written_insert = written_all ∙ sym (found_insert entry_read v)
 
       -- and those after a set of the key
-      pub written_set : joined (set cs p.chunk (with_item x p.index (e.0, w))) ≡ set_value (is_at (cmp k)) es v
+      pub written_set : concatenated (set cs p.chunk (with_item x p.index (e.0, w))) ≡ set_value (is_at (cmp k)) es v
       written_set = written_all ∙ sym (found_set entry_read v)
 
       -- the chunks are whole as before
@@ -206,10 +206,10 @@ module _ {K V Z : Type 0} {cmp : K → K → Ordering} (o : IsTotalOrder cmp) {k
 
   -- and the next index is where those after the key begin
   pub found_after : filter (λ f. is_lt (cmp k f.0)) es ≡ from cs (record { chunk = p.chunk; index = p.index + 1 })
-  found_after = after_entry (entry_there cs refl).1 ∙ drop-drop 1 p.index (joined (drop p.chunk cs))
+  found_after = after_entry (entry_there cs refl).1 ∙ drop-drop 1 p.index (concatenated (drop p.chunk cs))
 
 -- ---- the key is not there
-module _ {K V Z : Type 0} {cmp : K → K → Ordering} {k : K} {cs ds : List (Vec (K × V) Z)} {es : List (K × V)} {p : EntryIndex} (missing : IsGap cmp ds k p) (same : ds ≡ cs) (all : joined cs ≡ es) where
+module _ {K V Z : Type 0} {cmp : K → K → Ordering} {k : K} {cs ds : List (Vec (K × V) Z)} {es : List (K × V)} {p : EntryIndex} (missing : IsGap cmp ds k p) (same : ds ≡ cs) (all : concatenated cs ≡ es) where
   -- so the search says of the chunks themselves
   gap : IsGap cmp cs k p
   gap = subst (λ ys. IsGap cmp ys k p) same missing
@@ -244,7 +244,7 @@ module _ {K V Z : Type 0} {cmp : K → K → Ordering} {k : K} {cs ds : List (Ve
   -- before the first index there is nothing
   pub gap_no_last : p.index ≡ 0 → last_until cmp es k ≡ None
   gap_no_last first =
-      let none : before cs p ≡ [] = ap (λ i. joined (take p.chunk cs) ++ take i (joined (drop p.chunk cs))) first ∙ ap (λ c. joined (take c cs) ++ []) (gap.first_is_first first) in
+      let none : before cs p ≡ [] = ap (λ i. concatenated (take p.chunk cs) ++ take i (concatenated (drop p.chunk cs))) first ∙ ap (λ c. concatenated (take c cs) ++ []) (gap.first_is_first first) in
       ap (λ xs. last_until cmp xs k) (sym around ∙ ap (λ xs. xs ++ from cs p) none)
       ∙ find_no_last (λ f. is_ge (cmp k f.0)) (from cs p) not_above
 
@@ -265,7 +265,7 @@ module _ {K V Z : Type 0} {cmp : K → K → Ordering} {k : K} {cs ds : List (Ve
         ∙ find_last (λ f. is_ge (cmp k f.0)) front e (from cs p) (ap is_ge here) not_above
 
   -- with a new entry
-  pub whole_inserted : (o : IsTotalOrder cmp) (v : V) {new : List (Vec (K × V) Z)} {len : ℕ} → IsWhole cmp cs len → len + 1 < 2 ^ 63 → joined new ≡ before cs p ++ (k, v) ∷ from cs p → AreFilled new → IsWhole cmp new (len + 1)
+  pub whole_inserted : (o : IsTotalOrder cmp) (v : V) {new : List (Vec (K × V) Z)} {len : ℕ} → IsWhole cmp cs len → len + 1 < 2 ^ 63 → concatenated new ≡ before cs p ++ (k, v) ∷ from cs p → AreFilled new → IsWhole cmp new (len + 1)
   whole_inserted o v {new = new} {len = len} whole room written filled =
       whole_gathered new (before cs p ++ (k, v) ∷ from cs p) (len + 1) written
       (sorted_insert o k v (before cs p) (from cs p) gap.below gap.above (subst (IsLedger cmp) (sym (before-from cs p)) whole.in_chunks.ordered)) filled

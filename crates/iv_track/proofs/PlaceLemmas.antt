@@ -58,12 +58,6 @@ filter-implied p t xs h = filter-filter p t xs ∙ filter-agree (λ q. t q && p 
     agree false true h = refl
     agree false false h = refl
 
--- from an earlier start on there are all from a later one on
-pub from-on : (seq at from : ℕ) (records : List RecordValue) → at ≤ from → filter (is_from seq from) (filter (is_from seq at) records) ≡ filter (is_from seq from) records
-from-on seq at from records low = filter-implied (is_from seq from) (is_from seq at) records (λ q m is.
-    let place = le_pair seq q.seq from q.start is in
-    pair_le seq q.seq at q.start place.0 (λ e. let r : from ≤ q.start = place.1 e in omega arith))
-
 -- a record that is not from there on is on an earlier sequence, or starts before
 pub not_from : (seq start : ℕ) (q : RecordValue) → not (is_from seq start q) ≡ true → (q.seq ≤ seq) × (q.seq ≡ seq → q.start < start)
 not_from seq start q h = (go (nat_lt seq q.seq) refl, λ same. stay (nat_lt q.start start) refl same)

@@ -47,32 +47,8 @@ none_from seq start stop (q ∷ records) all =
 pub hits_beyond : (seq start stop : ℕ) (r : RecordValue) (records : List RecordValue) → AreInOrder (r ∷ records) → is_from seq stop r ≡ true → hits records seq start stop ≡ []
 hits_beyond seq start stop r records o h = none_from seq start stop records (λ q m. from_all seq stop r records o h q (inr m))
 
-pub hit_first : (records rest : List RecordValue) (r : RecordValue) (seq start stop : ℕ) → records ≡ r ∷ rest → overlaps seq start stop r ≡ true → hits records seq start stop ≡ r ∷ hits rest seq start stop
-hit_first records rest r seq start stop e is = ap (λ xs. hits xs seq start stop) e ∙ ap (λ b. cond b (r ∷ hits rest seq start stop) (hits rest seq start stop)) is
-
 pub hit_not : (records rest : List RecordValue) (r : RecordValue) (seq start stop : ℕ) → records ≡ r ∷ rest → overlaps seq start stop r ≡ false → hits records seq start stop ≡ hits rest seq start stop
 hit_not records rest r seq start stop e is = ap (λ xs. hits xs seq start stop) e ∙ ap (λ b. cond b (r ∷ hits rest seq start stop) (hits rest seq start stop)) is
-
--- ---- what a walk may still pass
-
-test_not : (at : Region) (r : RecordValue) (b : Bool) → is_from at.seq at.stop r ≡ b → (rest : List RecordValue) → starting_before at (r ∷ rest) ≡ cond (not b) (r ∷ starting_before at rest) (starting_before at rest)
-test_not at r b e rest = ap (λ c. cond (not c) (r ∷ starting_before at rest) (starting_before at rest)) e
-
--- a record before the end is passed
-pub passes-before : (at : Region) (records rest : List RecordValue) (r : RecordValue) → records ≡ r ∷ rest → is_from at.seq at.stop r ≡ false → length (starting_before at records) ≡ length (starting_before at rest) + 1
-passes-before at records rest r e is = ap {B = ℕ} (λ l. length (starting_before at l)) e ∙ ap {B = ℕ} length (test_not at r false is rest) ∙ omega arith
-
--- the one that ends the walk counts no more
-pub passes-from : (at : Region) (records rest : List RecordValue) (r : RecordValue) → records ≡ r ∷ rest → is_from at.seq at.stop r ≡ true → length (starting_before at records) ≡ length (starting_before at rest)
-passes-from at records rest r e is = ap {B = ℕ} (λ l. length (starting_before at l)) e ∙ ap {B = ℕ} length (test_not at r true is rest)
-
--- a hit is before the end
-pub hit-before : (at : Region) (r : RecordValue) → overlaps at.seq at.start at.stop r ≡ true → is_from at.seq at.stop r ≡ false
-hit-before at r hit = go (is_from at.seq at.stop r) refl
-  where
-    go : (b : Bool) → is_from at.seq at.stop r ≡ b → b ≡ false
-    go false e = refl
-    go true e = let not_hit = from_apart at.seq at.start at.stop r e in absurd cc
 
 -- ---- how long records are
 

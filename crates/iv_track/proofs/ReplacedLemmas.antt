@@ -1,10 +1,10 @@
 -- A list of which a few items were replaced.
 use Rattle.std.proofs.Common.{◌≡◌, ℕ, zero, suc, ◌+◌, ◌-◌, ◌<◌, ◌≤◌, Bool, true, false, nat_lt, List, [], ◌∷◌, ◌++◌, length, take, drop, set, refl, sym, ap, ◌∙◌, append_assoc, arith}
-use Rattle.std.specs.List.{insert, remove}
+use Rattle.std.specs.List.{insert}
 use Rattle.std.proofs.Math.Seq.{take-length, take-append-add, drop-append-add}
 use Rattle.std.proofs.Math.ListN.{drop_of_length-le}
 use Rattle.std.proofs.lemmas.Bool.{ltb-true, ltb-false}
-use Rattle.std.proofs.lemmas.List.{take-append-drop, take-append-le, drop_at, drop-drop, take-take, set_split, set-append_left, set-append_right, take-set, drop-set-lt, length-take-le, length-drop, length-append, length-set, append-nil}
+use Rattle.std.proofs.lemmas.List.{take-append-drop, take-append-le, drop_at, drop-drop, take-take, set_split, set-append_left, set-append_right, length-take-le, length-drop, length-append, length-set, append-nil}
 use Rattle.iv_track.specs.Inside.Replaced.{IsReplaced, IsAmong}
 
 few_taken : {X : Type 0} (n : ℕ) (xs : List X) → length (take n xs) ≤ n
@@ -38,22 +38,6 @@ module _ {X : Type 0} (xs : List X) (p : ℕ) where
   replaced_inserted y =
       let here : p ≡ p + 0 = omega arith in
       record { others = y ∷ []; few = omega arith; are = ap (λ n. take p xs ++ y ∷ drop n xs) here }
-
-  -- an item is removed
-  pub replaced_removed : (m : ℕ) → IsReplaced xs p 1 m (remove xs p)
-  replaced_removed m =
-      let next : suc p ≡ p + 1 = omega arith in
-      record { others = []; few = omega arith; are = ap (λ n. take p xs ++ drop n xs) next }
-
-  -- an item is written and then removed
-  pub replaced_dropped : (y : X) (m : ℕ) → IsReplaced xs p 1 m (remove (set xs p y) p)
-  replaced_dropped y m =
-      let next : suc p ≡ p + 1 = omega arith in
-      record {
-        others = [];
-        few = omega arith;
-        are = ap (λ ys. ys ++ drop (suc p) (set xs p y)) (take-set xs p y) ∙ ap (λ ys. take p xs ++ ys) (drop-set-lt (suc p) xs p y (omega arith) ∙ ap (λ n. drop n xs) next);
-      }
 
 -- the list is the same, and the index is of one of its items
 pub among_same : {X : Type 0} (xs : List X) (p : ℕ) → p < length xs → IsAmong xs p 1 2 xs p

@@ -6,22 +6,22 @@ use Rattle.std.specs.declared.vec.Vec.{Vec}
 use Rattle.std.proofs.Math.Seq.{take-add}
 use Rattle.std.proofs.lemmas.List.{take-append-drop, take-append-le, drop-append-le, take_at, drop_at, get_or_at, take_more_set, drop-set-lt, take-take, drop-drop, append-nil, length-append, length-take-le, length-drop, length_push}
 use Rattle.std.proofs.lemmas.List.Concat.{flat_map-append}
-use Rattle.iv_track.specs.Inside.Chunks.{joined, before, from, IsFilled, AreFilled, IsSplit, IsWithin, IsIndexWithRoom, most_in_chunk}
+use Rattle.iv_track.specs.Inside.Chunks.{concatenated, before, from, IsFilled, AreFilled, IsSplit, IsWithin, IsIndexWithRoom, most_in_chunk}
 use Rattle.iv_track.specs.Inside.Replaced.{IsAmong}
 use Rattle.iv_track.proofs.ChunkLemmas.{before_at, from_at, filled-insert, filled-set}
 
 -- an index in a chunk between others
 module _ {X Z : Type 0} (p : List (Vec X Z)) (y : Vec X Z) (q : List (Vec X Z)) (m i : ℕ) (at : length p ≡ m) (within : i ≤ length (vec_items y)) where
   -- the entries before it
-  before_part : before (p ++ y ∷ q) (record { chunk = m; index = i }) ≡ joined p ++ take i (vec_items y)
+  before_part : before (p ++ y ∷ q) (record { chunk = m; index = i }) ≡ concatenated p ++ take i (vec_items y)
   before_part =
-      ap (λ cs. joined cs ++ take i (joined (drop m (p ++ y ∷ q)))) (take_at p (y ∷ q) m at)
-      ∙ ap (λ cs. joined p ++ take i (joined cs)) (drop_at p (y ∷ q) m at)
-      ∙ ap (λ xs. joined p ++ xs) (take-append-le i (vec_items y) (joined q) within)
+      ap (λ cs. concatenated cs ++ take i (concatenated (drop m (p ++ y ∷ q)))) (take_at p (y ∷ q) m at)
+      ∙ ap (λ cs. concatenated p ++ take i (concatenated cs)) (drop_at p (y ∷ q) m at)
+      ∙ ap (λ xs. concatenated p ++ xs) (take-append-le i (vec_items y) (concatenated q) within)
 
   -- and those from it on
-  from_part : from (p ++ y ∷ q) (record { chunk = m; index = i }) ≡ drop i (vec_items y) ++ joined q
-  from_part = ap (λ cs. drop i (joined cs)) (drop_at p (y ∷ q) m at) ∙ drop-append-le i (vec_items y) (joined q) within
+  from_part : from (p ++ y ∷ q) (record { chunk = m; index = i }) ≡ drop i (vec_items y) ++ concatenated q
+  from_part = ap (λ cs. drop i (concatenated cs)) (drop_at p (y ∷ q) m at) ∙ drop-append-le i (vec_items y) (concatenated q) within
 
 -- a chunk that is full is split in its middle
 module _ {X Z : Type 0} {old : List (Vec X Z)} {c n size : ℕ} {new : List (Vec X Z)} {x : Vec X Z} (split : IsSplit old c n new)
@@ -99,7 +99,7 @@ module _ {X Z : Type 0} {old : List (Vec X Z)} {c n size : ℕ} {new : List (Vec
   -- an index in the first part
   pub room_left : (i : ℕ) → i ≤ n → IsIndexWithRoom old (record { chunk = c; index = i }) new (record { chunk = c; index = i })
   room_left i le =
-      let rest_items = joined (drop (c + 1) old) in
+      let rest_items = concatenated (drop (c + 1) old) in
       record {
         chunk_in_range = omega (arith, sizes, new_len);
         index_in_range = λ d. subst (λ y. i ≤ vec_len y) (sym (left_at d)) (omega (arith, sizes, left_len, split.left.ok.0));
@@ -107,8 +107,8 @@ module _ {X Z : Type 0} {old : List (Vec X Z)} {c n size : ℕ} {new : List (Vec
         same_before =
             ap (λ cs. before cs (record { chunk = c; index = i })) parts_left
             ∙ before_part (take c old) split.left (split.right ∷ drop (c + 1) old) c i front_len (omega (arith, sizes, left_len))
-            ∙ ap (λ ys. joined (take c old) ++ take i ys) first
-            ∙ ap (λ ys. joined (take c old) ++ ys) (take-take i n (vec_items x) le)
+            ∙ ap (λ ys. concatenated (take c old) ++ take i ys) first
+            ∙ ap (λ ys. concatenated (take c old) ++ ys) (take-take i n (vec_items x) le)
             ∙ sym (before_at old c x lt is i (omega (arith, sizes, len)));
         same_from =
             ap (λ cs. from cs (record { chunk = c; index = i })) parts_left
@@ -126,7 +126,7 @@ module _ {X Z : Type 0} {old : List (Vec X Z)} {c n size : ℕ} {new : List (Vec
   -- an index in the second
   room_after : (j : ℕ) → n + j ≤ vec_len x → IsIndexWithRoom old (record { chunk = c; index = n + j }) new (record { chunk = c + 1; index = j })
   room_after j le =
-      let rest_items = joined (drop (c + 1) old) in
+      let rest_items = concatenated (drop (c + 1) old) in
       record {
         chunk_in_range = omega (arith, sizes, new_len);
         index_in_range = λ d. subst (λ y. j ≤ vec_len y) (sym (right_at d)) (omega (arith, sizes, right_len, split.right.ok.0, len));
@@ -134,11 +134,11 @@ module _ {X Z : Type 0} {old : List (Vec X Z)} {c n size : ℕ} {new : List (Vec
         same_before =
             ap (λ cs. before cs (record { chunk = c + 1; index = j })) parts
             ∙ before_part (take c old ++ split.left ∷ []) split.right (drop (c + 1) old) (c + 1) j both_len (omega (arith, sizes, right_len, len))
-            ∙ ap (λ ys. ys ++ take j (vec_items split.right)) (flat_map-append vec_items (take c old) (split.left ∷ []) ∙ ap (λ ys. joined (take c old) ++ ys) (append-nil (vec_items split.left)))
-            ∙ append_assoc (joined (take c old)) (vec_items split.left) (take j (vec_items split.right))
-            ∙ ap (λ ys. joined (take c old) ++ (ys ++ take j (vec_items split.right))) first
-            ∙ ap (λ ys. joined (take c old) ++ (take n (vec_items x) ++ take j ys)) others
-            ∙ ap (λ ys. joined (take c old) ++ ys) (sym (take-add n j (vec_items x)))
+            ∙ ap (λ ys. ys ++ take j (vec_items split.right)) (flat_map-append vec_items (take c old) (split.left ∷ []) ∙ ap (λ ys. concatenated (take c old) ++ ys) (append-nil (vec_items split.left)))
+            ∙ append_assoc (concatenated (take c old)) (vec_items split.left) (take j (vec_items split.right))
+            ∙ ap (λ ys. concatenated (take c old) ++ (ys ++ take j (vec_items split.right))) first
+            ∙ ap (λ ys. concatenated (take c old) ++ (take n (vec_items x) ++ take j ys)) others
+            ∙ ap (λ ys. concatenated (take c old) ++ ys) (sym (take-add n j (vec_items x)))
             ∙ sym (before_at old c x lt is (n + j) (omega (arith, sizes, len)));
         same_from =
             ap (λ cs. from cs (record { chunk = c + 1; index = j })) parts

@@ -1,5 +1,5 @@
 //! The entries of a track: its different records, each with the number of its copies.
-ghost use Rattle.std.specs.Prelude.{◌≡◌, ◌≢◌, ◌<◌, ◌-◌, ◌^◌, [], None, All, IfErr, IfOk, MatchOption, OnErr, OnOk, Some};
+ghost use Rattle.std.specs.Prelude.{◌≡◌, ◌≢◌, ◌<◌, ◌-◌, ◌^◌, [], None, All, length, IfOk, IfErr, MatchOption, OnErr, OnOk, Some};
 ghost use Rattle.std.specs.BTreeMap.{insert_entry, is_at};
 ghost use Rattle.std.specs.List.{filter, find};
 ghost use Rattle.std.specs.Map.{keys_of, remove_entry, set_value};
@@ -8,16 +8,19 @@ ghost use Rattle.std.specs.Option.{option_map};
 ghost use Rattle.std.specs.Ordering.{is_le, is_lt};
 ghost use Rattle.iv_text.specs.RecordValue.{IsPlaced, record_cmp};
 ghost use Rattle.iv_track.specs.Entries.{IsLedger, first_after, first_from, value_at};
+ghost use Rattle.iv_track.specs.Inside.Counted.{AreCounted};
 ghost use Rattle.iv_track.specs.Inside.Lent.{lent_entry};
 ghost use Rattle.iv_track.specs.Inside.Stored.{HasThreeColumns};
 ghost use Rattle.iv_track.specs.Steps.{ticked};
 ghost use Rattle.iv_track.specs.Tracked.{is_from};
 
+use crate::counted::count_copies;
 use crate::ledger::{Ledger, Walk};
 use crate::meter::Meter;
+use crate::short_records::short_records;
 use crate::starts::Abbreviated;
 use crate::track_record::Lent;
-use iv_text::{Bed3Record, Record};
+use iv_text::{Bed3Record, Record, RecordBatches};
 use std::alloc::{AllocError, Allocator};
 use std::marker::Model;
 
@@ -61,25 +64,27 @@ impl<A: Allocator + Copy> Entries<A> {
         }
     }
 
-    /// The entries of records of three columns.
-    pub(crate) fn of_bed3(alloc: A, ledger: Ledger<Bed3Record, u32, A>) -> Self
-        requires { All HasThreeColumns (keys_of ledger) }
-        ensures { result ≡ ledger }
+    /// The entries of these records of this width, and how many records there are, which is below 2^32.
+    pub(crate) fn of(
+        alloc: A,
+        width: u8,
+        records: RecordBatches<A>,
+    ) -> Result<(Self, u32), AllocError>
+        requires few { length records < 2 ^ 32 }
+        requires widths { All (λ q. q.width ≡ width) records }
+        ensures counted { IfOk result (λ p. AreCounted record_cmp p.0 records) }
+        ensures len { IfOk result (λ p. p.1 ≡ length records) }
     {
-        Entries {
-            storage: Storage::Bed3(ledger),
-            alloc,
+        if width == 3 {
+            let short = short_records(alloc, records)?;
+            let len = short.len() as u32;
+            let storage = Storage::Bed3(count_copies(alloc, short)?);
+            return Ok((Entries { storage, alloc }, len));
         }
-    }
-
-    /// The entries of records of one width.
-    pub(crate) fn of_full(alloc: A, ledger: Ledger<Record<A>, u32, A>) -> Self
-        ensures { result ≡ ledger }
-    {
-        Entries {
-            storage: Storage::Full(ledger),
-            alloc,
-        }
+        let full = records.into_records()?;
+        let len = full.len() as u32;
+        let storage = Storage::Full(count_copies(alloc, full)?);
+        Ok((Entries { storage, alloc }, len))
     }
 
     /// How many copies of a record there are, `None` if there is none.

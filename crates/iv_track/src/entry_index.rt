@@ -3,7 +3,7 @@ ghost use Rattle.std.specs.Prelude.{◌≡◌, ◌+◌, ◌-◌, ◌<◌, ◌≤
 ghost use Rattle.std.specs.List.{filter, slice_get, HoldsAt};
 ghost use Rattle.std.specs.Ordering.{is_le, is_lt};
 ghost use Rattle.std.specs.Option.{option_copied};
-ghost use Rattle.iv_track.specs.Inside.Chunks.{AreChunks, AreFilled, AreSmall, IsFound, IsGap, IsInside, IsWithin, IsSplit, IsIndexWithRoom, before, from, joined, most_at_once, most_in_chunk, starts_by};
+ghost use Rattle.iv_track.specs.Inside.Chunks.{AreChunks, AreFilled, AreSmall, IsFound, IsGap, IsInside, IsWithin, IsSplit, IsIndexWithRoom, before, from, concatenated, most_at_once, most_in_chunk, starts_by};
 ghost use Rattle.iv_track.specs.Inside.Replaced.{IsAmong, IsReplaced};
 
 use crate::starts::Abbreviated;
@@ -222,7 +222,7 @@ pub(crate) fn index_from<K: Ord + Abbreviated, V, A: Allocator>(
 ) -> EntryIndex
     requires { AreChunks K.cmp chunks.now }
     ensures within { IsWithin chunks.now result }
-    ensures entries { from chunks.now result ≡ filter (λ e. is_le (K.cmp key.now e.0)) (joined chunks.now) }
+    ensures entries { from chunks.now result ≡ filter (λ e. is_le (K.cmp key.now e.0)) (concatenated chunks.now) }
 {
     match find(chunks, starts, key) {
         Ok(at) => at,
@@ -238,7 +238,7 @@ pub(crate) fn index_after<K: Ord + Abbreviated, V, A: Allocator>(
 ) -> EntryIndex
     requires { AreChunks K.cmp chunks.now }
     ensures within { IsWithin chunks.now result }
-    ensures entries { from chunks.now result ≡ filter (λ e. is_lt (K.cmp key.now e.0)) (joined chunks.now) }
+    ensures entries { from chunks.now result ≡ filter (λ e. is_lt (K.cmp key.now e.0)) (concatenated chunks.now) }
 {
     match find(chunks, starts, key) {
         Ok(at) => EntryIndex {
@@ -273,8 +273,8 @@ pub(crate) fn insert_at<T: Drop, A: Allocator + Clone + Drop>(
 ) -> Result<(), AllocError>
     requires within { IsWithin chunks.old.items at }
     requires filled { AreFilled chunks.old.items }
-    ensures ok { OnOk result (joined chunks.new.items ≡ before chunks.old.items at ++ entry ∷ from chunks.old.items at) }
-    ensures err { OnErr result (joined chunks.new.items ≡ joined chunks.old.items) }
+    ensures ok { OnOk result (concatenated chunks.new.items ≡ before chunks.old.items at ++ entry ∷ from chunks.old.items at) }
+    ensures err { OnErr result (concatenated chunks.new.items ≡ concatenated chunks.old.items) }
     ensures filled { AreFilled chunks.new.items }
     ensures others { IsReplaced chunks.old.items at.chunk 1 2 chunks.new.items }
 {
@@ -284,8 +284,8 @@ pub(crate) fn insert_at<T: Drop, A: Allocator + Clone + Drop>(
         chunks.push(first)?;
         return Ok(());
     }
-    let place = with_room(chunks, at)?;
-    chunks[place.chunk].insert(place.index, entry)?;
+    let index = with_room(chunks, at)?;
+    chunks[index.chunk].insert(index.index, entry)?;
     Ok(())
 }
 
@@ -298,7 +298,7 @@ pub(crate) fn append<T: Drop, A: Allocator + Clone + Drop>(
 ) -> Result<(), AllocError>
     requires filled { AreFilled chunks.old.items }
     requires last { vec_len last.old ≤ most_at_once }
-    ensures all { OnOk result (joined chunks.new.items ++ last.new.items ≡ (joined chunks.old.items ++ last.old.items) ++ entry ∷ []) }
+    ensures all { OnOk result (concatenated chunks.new.items ++ last.new.items ≡ (concatenated chunks.old.items ++ last.old.items) ++ entry ∷ []) }
     ensures filled { OnOk result (AreFilled chunks.new.items) }
     ensures last { OnOk result (vec_len last.new ≤ most_at_once) }
 {
@@ -322,7 +322,7 @@ pub(crate) fn with_last<T: Drop, A: Allocator + Drop>(
 ) -> Result<Vec<Vec<T, A>, A>, AllocError>
     requires filled { AreFilled chunks.items }
     requires last { vec_len last ≤ most_at_once }
-    ensures all { IfOk result (λ all. joined all.items ≡ joined chunks.items ++ last.items) }
+    ensures all { IfOk result (λ all. concatenated all.items ≡ concatenated chunks.items ++ last.items) }
     ensures filled { IfOk result (λ all. AreFilled all.items) }
 {
     if last.is_empty() {
@@ -411,7 +411,7 @@ pub(crate) fn remove_at<T: Drop, A: Allocator + Drop>(
     requires inside { IsInside chunks.old.items at }
     requires filled { AreFilled chunks.old.items }
     ensures value { from chunks.old.items at ≡ result ∷ drop 1 (from chunks.old.items at) }
-    ensures rest { joined chunks.new.items ≡ before chunks.old.items at ++ drop 1 (from chunks.old.items at) }
+    ensures rest { concatenated chunks.new.items ≡ before chunks.old.items at ++ drop 1 (from chunks.old.items at) }
     ensures filled { AreFilled chunks.new.items }
     ensures others { IsReplaced chunks.old.items at.chunk 1 1 chunks.new.items }
 {
@@ -432,7 +432,7 @@ pub(crate) fn join_small<T: Drop, A: Allocator + Drop>(
     chunk: usize,
 ) -> Option<usize>
     requires filled { AreFilled chunks.old.items }
-    ensures same { joined chunks.new.items ≡ joined chunks.old.items }
+    ensures same { concatenated chunks.new.items ≡ concatenated chunks.old.items }
     ensures filled { AreFilled chunks.new.items }
     ensures others { IfSome result (λ c. IsReplaced chunks.old.items c 2 1 chunks.new.items) }
     ensures near { IfSome result (λ c. (c ≤ chunk) × (chunk ≤ c + 1)) }
@@ -451,7 +451,7 @@ pub(crate) fn join_small<T: Drop, A: Allocator + Drop>(
 /// Moves the entries of the next chunk into this one if both have few, and gives whether they have.
 fn join_next<T: Drop, A: Allocator + Drop>(chunks: &mut Vec<Vec<T, A>, A>, chunk: usize) -> bool
     requires filled { AreFilled chunks.old.items }
-    ensures same { joined chunks.new.items ≡ joined chunks.old.items }
+    ensures same { concatenated chunks.new.items ≡ concatenated chunks.old.items }
     ensures filled { AreFilled chunks.new.items }
     ensures others { result ≡ true → IsReplaced chunks.old.items chunk 2 1 chunks.new.items }
     ensures none { result ≡ false → chunks.new.items ≡ chunks.old.items }

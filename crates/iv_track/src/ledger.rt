@@ -41,11 +41,11 @@ pub struct Ledger<K: Ord, V, A: Allocator = Global> {
 
 impl<K: Ord, V, A: Allocator> Model for Ledger<K, V, A> {
     ghost use Rattle.std.specs.Prelude.{◌≡◌, List};
-    ghost use Rattle.iv_track.specs.Inside.Chunks.{IsWhole, joined};
+    ghost use Rattle.iv_track.specs.Inside.Chunks.{IsWhole, concatenated};
 
     ghost Value = { List (K × V) };
 
-    ghost view = { λ s. joined s.chunks.items };
+    ghost view = { λ s. concatenated s.chunks.items };
 
     ghost invariant = { λ s. IsWhole K.cmp s.chunks.items s.len };
 }
@@ -266,11 +266,11 @@ pub struct Walk<'a, K, V, A: Allocator = Global> {
 
 impl<'a, K, V, A: Allocator> Model for Walk<'a, K, V, A> {
     ghost use Rattle.std.specs.Prelude.{List, ◌++◌};
-    ghost use Rattle.iv_track.specs.Inside.Chunks.{AreFilled, joined};
+    ghost use Rattle.iv_track.specs.Inside.Chunks.{AreFilled, concatenated};
 
     ghost Value = { List (K × V) };
 
-    ghost view = { λ w. w.rest.now ++ joined w.later.now };
+    ghost view = { λ w. w.rest.now ++ concatenated w.later.now };
 
     ghost invariant = { λ w. AreFilled w.later.now };
 }

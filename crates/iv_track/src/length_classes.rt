@@ -1,5 +1,7 @@
 //! About how long the records of a track are.
-ghost use Rattle.std.specs.Prelude.{◌≡◌, ◌+◌, ◌-◌, ◌^◌, ◌<◌, ◌≤◌, ℕ, [], length, slice_index_or, slice_set};
+ghost use Rattle.std.specs.Prelude.{◌≡◌, ◌+◌, ◌-◌, ◌^◌, ◌<◌, ◌≤◌, ℕ, [], All, length, slice_index_or, slice_set};
+ghost use Rattle.std.specs.Map.{keys_of};
+ghost use Rattle.iv_text.specs.RecordValue.{IsPlaced};
 ghost use Rattle.iv_track.specs.Copies.{expanded};
 ghost use Rattle.iv_track.specs.Inside.LengthClasses.{AreClasses, length_class};
 ghost use Rattle.iv_track.specs.Lent.{value_of};
@@ -22,6 +24,7 @@ pub(crate) fn length_class<A: Allocator + Copy>(feature: &Record<A>) -> usize
 fn lent_class<A: Allocator + Copy>(lent: Lent<'_, A>) -> usize
     ensures is { result ≡ length_class (value_of lent.entry) }
     ensures within { result < 33 }
+    ensures placed { IsPlaced (value_of lent.entry) }
 {
     let feature = TrackRecord::of(lent);
     feature.lemma_of_interval();
@@ -56,7 +59,8 @@ impl LengthClasses {
     /// The classes of the records of a map, each with the number of its copies.
     pub(crate) fn of<A: Allocator + Copy>(entries: EntriesWalk<'_, A>) -> Self
         requires { length (expanded entries) < 2 ^ 32 }
-        ensures { AreClasses result (expanded entries.entry) }
+        ensures classes { AreClasses result (expanded entries.entry) }
+        ensures placed { All IsPlaced (keys_of entries.entry) }
     {
         let mut classes = LengthClasses::new();
         let mut entries = entries;

@@ -1,16 +1,15 @@
-//! The track: records in order with their copies, in an ordered map whose every call is counted.
+//! The track: records in order with their copies, in an ordered map that counts its searches, changes and walks.
 #![tactic(auto)]
 
 mod counted;
-mod counted_bed3;
 mod entries;
 mod entry_index;
-mod kept_track;
 mod ledger;
 mod lemmas;
 mod length_classes;
 mod meter;
 mod region;
+mod short_records;
 mod starts;
 mod track;
 mod track_entries;

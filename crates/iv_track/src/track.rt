@@ -12,8 +12,6 @@ ghost use Rattle.iv_track.specs.Copies.{expanded};
 ghost use Rattle.iv_track.specs.Tracked.{different_records, most_records};
 ghost use Rattle.iv_track.specs.Inside.Tracked.{BeginsFrom};
 
-use crate::counted::count_copies;
-use crate::counted_bed3::{count_bed3, short_records};
 use crate::entries::Entries;
 use crate::length_classes::{LengthClasses, length_class};
 use crate::meter::Meter;
@@ -22,7 +20,7 @@ use crate::track_entries::TrackEntries;
 use crate::track_hits::TrackHits;
 use crate::track_record::TrackRecord;
 use crate::track_records::TrackRecords;
-use iv_text::{Batches, Bed3Record, Fault, Record};
+use iv_text::{Batches, Fault, Record, RecordBatches};
 use std::alloc::{AllocError, Allocator, Global};
 use std::marker::Model;
 
@@ -88,77 +86,31 @@ impl<A: Allocator + Copy> Track<A> {
         requires width { All (λ r. r.width ≡ width) records.items }
         ensures { IfOk result (λ t. t ≡ record { records = ordered records.items; width = width; limit = limit }) }
     {
-        Track::from_batches(alloc, width, limit, Batches::of(records))
+        Track::from_kept(alloc, width, limit, RecordBatches::of(Batches::of(records)))
     }
 
     /// The track of these records, as [`Track::from_records`] makes it. If they are in order, each of their vectors is freed as
     /// soon as its records are in the map.
     ///
     /// The limit is at most 100,000,000 records. There are no more records than the limit, and each has the width.
-    pub fn from_batches(
+    pub fn from_kept(
         alloc: A,
         width: u8,
         limit: u32,
-        records: Batches<Record<A>, A>,
+        records: RecordBatches<A>,
     ) -> Result<Self, AllocError>
         requires limit { limit ≤ most_records }
         requires few { length records ≤ limit }
         requires width { All (λ r. r.width ≡ width) records }
         ensures { IfOk result (λ t. t ≡ record { records = ordered records; width = width; limit = limit }) }
     {
-        if width == 3 {
-            return Track::from_bed3(alloc, limit, short_records(alloc, records)?);
-        }
-        Track::from_full(alloc, width, limit, records)
-    }
-
-    /// The track of these records, held whole.
-    fn from_full(
-        alloc: A,
-        width: u8,
-        limit: u32,
-        records: Batches<Record<A>, A>,
-    ) -> Result<Self, AllocError>
-        requires limit { limit ≤ most_records }
-        requires few { length records ≤ limit }
-        requires width { All (λ r. r.width ≡ width) records }
-        ensures { IfOk result (λ t. t ≡ record { records = ordered records; width = width; limit = limit }) }
-    {
-        let len = records.len() as u32;
-        let counted = count_copies(alloc, records)?;
-        let ledger = Entries::of_full(alloc, counted);
+        let (ledger, len) = Entries::of(alloc, width, records)?;
         let lengths = LengthClasses::of(ledger.all());
         Ok(Track {
             ledger,
             len,
             limit,
             width,
-            lengths,
-        })
-    }
-
-    /// The track of these records of three columns, as [`Track::from_batches`] makes it.
-    ///
-    /// The limit is at most 100,000,000 records. There are no more records than the limit, and each has the width.
-    pub fn from_bed3(
-        alloc: A,
-        limit: u32,
-        records: Batches<Bed3Record, A>,
-    ) -> Result<Self, AllocError>
-        requires limit { limit ≤ most_records }
-        requires few { length records ≤ limit }
-        requires width { All (λ r. r.width ≡ 3) records }
-        ensures { IfOk result (λ t. t ≡ record { records = ordered records; width = 3; limit = limit }) }
-    {
-        let len = records.len() as u32;
-        let counted = count_bed3(alloc, records)?;
-        let ledger = Entries::of_bed3(alloc, counted);
-        let lengths = LengthClasses::of(ledger.all());
-        Ok(Track {
-            ledger,
-            len,
-            limit,
-            width: 3,
             lengths,
         })
     }

@@ -4,6 +4,7 @@ use Rattle.std.specs.Prelude.{◌==◌, IsTrue, IfOk, Result, Ok, Err, ◌&&◌,
 use Rattle.std.specs.Str.{bytes_eq}
 use Rattle.std.proofs.lemmas.List.{take_all, length-take-le}
 use Rattle.std.proofs.lemmas.Bool.{cases_lt, ne_eqb}
+use Rattle.std.proofs.lemmas.Option.{none-some, same_Some}
 use Rattle.iv_text.specs.declared.fault.Fault.{Fault}
 use Rattle.iv_view.specs.Merge.{MergeArgs, said_by, with_flag, with_option, unless_given, nothing_said}
 use Rattle.iv_view.specs.Flags.{only_flag, beside_flag, genomecov_rows, intersect_said, fasta_said}
@@ -18,12 +19,6 @@ use Rattle.iv_view.specs.declared.written_view.WrittenView.TheVariants as writte
 use Rattle.iv_view.specs.declared.view.KeptView.{KeptView}
 use Rattle.iv_view.proofs.FlagLemmas.{flag-cut}
 use Rattle.iv_view.proofs.RowLemmas.{intersect_others, getfasta_others}
-
-some-same : (a b : MergeArgs) → Some a ≡ Some b → a ≡ b
-some-same a b is = cc
-
-none-some : (a : MergeArgs) → ◌≡◌ {A = Option MergeArgs} None (Some a) → ⊥
-none-some a is = cc
 
 -- how many arguments may follow: an option and its value for each that has none, and a flag
 abbrev pub room : Option (List ℕ) → ℕ
@@ -42,15 +37,15 @@ value-room : (argument value : List ℕ) (said next : MergeArgs) → with_option
 value-room argument value said next is = by (bytes_eq argument (codes "-d")) (bytes_eq argument (codes "-c")) (bytes_eq argument (codes "-o")) is
   where
     distance : (d : Option (List ℕ)) → said.distance ≡ d → unless_given d (record said { distance = Some value }) ≡ Some next → rooms next + 2 ≤ rooms said
-    distance None at is = let same = some-same _ _ is in omega (arith, ap room at, ap rooms same)
+    distance None at is = let same = same_Some _ _ is in omega (arith, ap room at, ap rooms same)
     distance (Some v) at is = absurd (none-some next is)
 
     columns : (d : Option (List ℕ)) → said.columns ≡ d → unless_given d (record said { columns = Some value }) ≡ Some next → rooms next + 2 ≤ rooms said
-    columns None at is = let same = some-same _ _ is in omega (arith, ap room at, ap rooms same)
+    columns None at is = let same = same_Some _ _ is in omega (arith, ap room at, ap rooms same)
     columns (Some v) at is = absurd (none-some next is)
 
     ops : (d : Option (List ℕ)) → said.ops ≡ d → unless_given d (record said { ops = Some value }) ≡ Some next → rooms next + 2 ≤ rooms said
-    ops None at is = let same = some-same _ _ is in omega (arith, ap room at, ap rooms same)
+    ops None at is = let same = same_Some _ _ is in omega (arith, ap room at, ap rooms same)
     ops (Some v) at is = absurd (none-some next is)
 
     by : (b c d : Bool)
@@ -69,7 +64,7 @@ flag-takes said next is = go said.stranded refl is
   where
     go : (b : Bool) → said.stranded ≡ b → (if b then None else Some (record said { stranded = true })) ≡ Some next → rooms next + 1 ≤ rooms said
     go true at is = absurd (none-some next is)
-    go false at is = let same = some-same _ _ is in omega (arith, ap flag_room at, ap rooms same)
+    go false at is = let same = same_Some _ _ is in omega (arith, ap flag_room at, ap rooms same)
 
 -- more arguments than there is room for mean nothing
 too-many : (n : ℕ) (arguments : List (List ℕ)) (said : MergeArgs) → length arguments ≤ n → rooms said < length arguments → said_by arguments said ≡ None
@@ -104,14 +99,12 @@ options-cut arguments = elim (cases_lt 8 (length arguments)) [
 ]
 
 only-cut : (flag : List ℕ) (arguments : List (List ℕ)) → only_flag flag (take 8 arguments) ≡ only_flag flag arguments
-only-cut flag [] = refl
-only-cut flag (argument ∷ []) = refl
 only-cut flag (argument ∷ next ∷ arguments) = refl
+only-cut flag arguments = refl
 
 rows-cut : (arguments : List (List ℕ)) → genomecov_rows (take 8 arguments) ≡ genomecov_rows arguments
-rows-cut [] = refl
-rows-cut (argument ∷ []) = refl
 rows-cut (argument ∷ next ∷ arguments) = refl
+rows-cut arguments = refl
 
 intersect-cut : (arguments : List (List ℕ)) → beside_flag (codes "-wa") intersect_said (take 8 arguments) ≡ beside_flag (codes "-wa") intersect_said arguments
 intersect-cut arguments = flag-cut (codes "-wa") intersect_said intersect_others arguments

@@ -6,10 +6,6 @@ use Rattle.std.specs.Option.{option_map}
 abbrev pub with_rest : {A : Type 0} → List A → Option (List A) → Option (List A)
 with_rest done rest = option_map (λ later. done ++ later) rest
 
-pub rest-begins : {A : Type 0} (rest : Option (List A)) → with_rest [] rest ≡ rest
-rest-begins None = refl
-rest-begins (Some later) = refl
-
 pub rest-more : {A : Type 0} (done : List A) (item : A) (rest : Option (List A)) → with_rest done (option_map (λ later. item ∷ later) rest) ≡ with_rest (done ++ item ∷ []) rest
 rest-more done item None = refl
 rest-more done item (Some later) = ap (λ l. Some l) (sym (append_assoc done (item ∷ []) later))

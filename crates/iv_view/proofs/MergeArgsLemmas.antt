@@ -23,14 +23,6 @@ said-flag argument (next ∷ arguments) said is free =
     cond-true (bytes_eq argument (codes "-s")) (option_and_then (said_by (next ∷ arguments)) (with_flag said)) (option_and_then (said_by arguments) (with_option argument next said)) is
     ∙ ap (option_and_then (said_by (next ∷ arguments))) (cond-false said.stranded None (Some (record said { stranded = true })) free)
 
--- a flag that was there before
-pub said-twice : (argument : List ℕ) (arguments : List (List ℕ)) (said : MergeArgs) → bytes_eq argument (codes "-s") ≡ true → said.stranded ≡ true → said_by (argument ∷ arguments) said ≡ None
-said-twice argument [] said is there =
-    cond-true (bytes_eq argument (codes "-s")) (with_flag said) None is ∙ cond-true said.stranded None (Some (record said { stranded = true })) there
-said-twice argument (next ∷ arguments) said is there =
-    cond-true (bytes_eq argument (codes "-s")) (option_and_then (said_by (next ∷ arguments)) (with_flag said)) (option_and_then (said_by arguments) (with_option argument next said)) is
-    ∙ ap (option_and_then (said_by (next ∷ arguments))) (cond-true said.stranded None (Some (record said { stranded = true })) there)
-
 -- an option and its value
 pub said-value : (argument value : List ℕ) (arguments : List (List ℕ)) (said : MergeArgs) → bytes_eq argument (codes "-s") ≡ false
     → said_by (argument ∷ value ∷ arguments) said ≡ option_and_then (said_by arguments) (with_option argument value said)

@@ -15,7 +15,6 @@ use Rattle.iv_blocks.specs.Groups.{filled, listed}
 use Rattle.iv_blocks.specs.Inside.Groups.{unused}
 use Rattle.iv_blocks.specs.declared.options.BlockOptions.{BlockOptions}
 use Rattle.iv_blocks.specs.declared.options.Summaries.{Summaries}
-use Rattle.iv_depth.specs.declared.depth_rows.DepthOutput.{DepthOutput}
 use Rattle.iv_fasta.specs.declared.rows.FastaOutput.{FastaOutput}
 use Rattle.iv_pair.specs.declared.pair_rows.PairOutput.{PairOutput}
 use Rattle.iv_pair.specs.declared.pair_rows.PairOutput.TheVariants as pair
@@ -27,6 +26,7 @@ use Rattle.iv_view.specs.NarrowedViews.{number_of, has_columns, narrowed_options
 use Rattle.iv_view.specs.Views.{read_arguments, or_bad_arguments, beside_second, beside_fasta}
 use Rattle.iv_view.specs.declared.view.View.{View}
 use Rattle.iv_view.specs.declared.view.View.TheVariants as view
+use Rattle.iv_view.specs.declared.view.KeptView.{KeptView}
 use Rattle.iv_view.specs.declared.view.KeptView.TheVariants as kept
 use Rattle.iv_view.specs.declared.written_view.WrittenView.TheVariants as written
 
@@ -66,16 +66,11 @@ six-columns n = elim (cases_lt 6 n) [
 
 column-narrowed : (width n : ℕ) → column_within width n ≡ option_and_then (column_there width) (column_within 6 n)
 column-narrowed width zero = nothing-either (nat_le 0 width)
-column-narrowed width (suc zero) = refl
-column-narrowed width (suc (suc zero)) = refl
-column-narrowed width (suc (suc (suc zero))) = refl
-column-narrowed width (suc (suc (suc (suc zero)))) = refl
-column-narrowed width (suc (suc (suc (suc (suc zero))))) = refl
-column-narrowed width (suc (suc (suc (suc (suc (suc zero)))))) = refl
 column-narrowed width (suc (suc (suc (suc (suc (suc (suc n))))))) = neither (suc (suc (suc (suc (suc (suc (suc n))))))) (omega arith)
   where
     neither : (n : ℕ) → 6 < n → column_within width n ≡ option_and_then (column_there width) (column_within 6 n)
     neither n far = column-far width n far ∙ sym (ap (option_and_then (column_there width)) (column-far 6 n far))
+column-narrowed width n = refl
 
 -- ---- summaries
 
@@ -255,17 +250,10 @@ module _ (width : ℕ) (has_second has_bases : Bool) where
       by (Err why) = refl
       by (Ok options) = refl
 
-  narrowed-cluster : (asked : Option ℕ) → or_bad_arguments (option_map kept.Cluster asked) ≡ here (or_bad_arguments (option_map kept.Cluster asked))
-  narrowed-cluster None = refl
-  narrowed-cluster (Some distance) = refl
-
-  narrowed-complement : (asked : Option Bool) → or_bad_arguments (option_map kept.Complement asked) ≡ here (or_bad_arguments (option_map kept.Complement asked))
-  narrowed-complement None = refl
-  narrowed-complement (Some limited) = refl
-
-  narrowed-genomecov : (asked : Option DepthOutput) → or_bad_arguments (option_map kept.Genomecov asked) ≡ here (or_bad_arguments (option_map kept.Genomecov asked))
-  narrowed-genomecov None = refl
-  narrowed-genomecov (Some shown) = refl
+  narrowed-kept : {X : Type 0} (asks : X → KeptView) → ((x : X) → narrowed width has_second has_bases (view.Kept (asks x)) ≡ Ok (view.Kept (asks x)))
+      → (asked : Option X) → or_bad_arguments (option_map asks asked) ≡ here (or_bad_arguments (option_map asks asked))
+  narrowed-kept asks stays None = refl
+  narrowed-kept asks stays (Some x) = sym (stays x)
 
   narrowed-paired : (asked : Option PairOutput) → beside_second has_second asked ≡ here (beside_second true asked)
   narrowed-paired None = refl
@@ -280,9 +268,9 @@ module _ (width : ℕ) (has_second has_bases : Bool) where
   words-narrowed [] = refl
   words-narrowed (argument ∷ arguments) =
       either (bytes_eq argument (codes "merge")) _ _ _ _ (narrowed-merge (said_by arguments nothing_said))
-      (either (bytes_eq argument (codes "cluster")) _ _ _ _ (narrowed-cluster (cluster_distance (said_by arguments nothing_said)))
-      (either (bytes_eq argument (codes "complement")) _ _ _ _ (narrowed-complement (only_flag (codes "-L") arguments))
-      (either (bytes_eq argument (codes "genomecov")) _ _ _ _ (narrowed-genomecov (genomecov_rows arguments))
+      (either (bytes_eq argument (codes "cluster")) _ _ _ _ (narrowed-kept kept.Cluster (λ x. refl) (cluster_distance (said_by arguments nothing_said)))
+      (either (bytes_eq argument (codes "complement")) _ _ _ _ (narrowed-kept kept.Complement (λ x. refl) (only_flag (codes "-L") arguments))
+      (either (bytes_eq argument (codes "genomecov")) _ _ _ _ (narrowed-kept kept.Genomecov (λ x. refl) (genomecov_rows arguments))
       (either (bytes_eq argument (codes "intersect")) _ _ _ _ (narrowed-paired (option_map pair.Intersect (beside_flag (codes "-wa") intersect_said arguments)))
       (either (bytes_eq argument (codes "subtract")) _ _ _ _ (narrowed-paired (option_map pair.Subtract (only_flag (codes "-A") arguments)))
       (either (bytes_eq argument (codes "getfasta")) _ _ _ _ (narrowed-fasta (beside_flag (codes "-s") fasta_said arguments))

@@ -3,16 +3,11 @@ use Rattle.std.proofs.Common.{◌≡◌, ◌∙◌, ◌↔◌, ◌⊎◌, inl, i
 use Rattle.std.specs.Prelude.{if◌then◌else◌, option_and_then, codes, slice_get}
 use Rattle.std.specs.Option.{is_some, option_to_list}
 use Rattle.std.specs.Str.{bytes_eq}
+use Rattle.std.proofs.lemmas.Option.{none-some, same_Some}
 use Rattle.std.proofs.lemmas.Slice.Eq.{bytes_eq-Decides}
 use Rattle.std.proofs.lemmas.List.Sorted.{IsPermutation-refl, IsPermutation-sym, IsPermutation-trans, IsPermutation-keeps, IsPermutation-middle, IsPermutation-to_front, IsPermutation-append_left, IsPermutation-append_right}
 use Rattle.iv_view.specs.Merge.{MergeArgs, said_by, with_flag, with_option, unless_given, nothing_said}
 use Rattle.iv_view.specs.Inside.MergeOptions.{MergeOption, Distance, Columns, Ops, Stranded, words_of, option_arguments, options_of}
-
-some-same : {A : Type 0} (a b : A) → Some a ≡ Some b → a ≡ b
-some-same a b is = cc
-
-none≢some : {A : Type 0} (a : A) → None ≡ Some a → ⊥
-none≢some a is = cc
 
 -- ---- one option
 
@@ -78,21 +73,10 @@ AreAlike a b said = (has b (given a said) ≡ true) × (has a (given b said) ≡
 
 cases-of : (a b : MergeOption) (said : MergeArgs) → AreApart a b said ⊎ AreAlike a b said
 cases-of (Distance v) (Distance w) said = inr (refl, refl)
-cases-of (Distance v) (Columns w) said = inl (refl, refl, refl)
-cases-of (Distance v) (Ops w) said = inl (refl, refl, refl)
-cases-of (Distance v) Stranded said = inl (refl, refl, refl)
-cases-of (Columns v) (Distance w) said = inl (refl, refl, refl)
 cases-of (Columns v) (Columns w) said = inr (refl, refl)
-cases-of (Columns v) (Ops w) said = inl (refl, refl, refl)
-cases-of (Columns v) Stranded said = inl (refl, refl, refl)
-cases-of (Ops v) (Distance w) said = inl (refl, refl, refl)
-cases-of (Ops v) (Columns w) said = inl (refl, refl, refl)
 cases-of (Ops v) (Ops w) said = inr (refl, refl)
-cases-of (Ops v) Stranded said = inl (refl, refl, refl)
-cases-of Stranded (Distance w) said = inl (refl, refl, refl)
-cases-of Stranded (Columns w) said = inl (refl, refl, refl)
-cases-of Stranded (Ops w) said = inl (refl, refl, refl)
 cases-of Stranded Stranded said = inr (refl, refl)
+cases-of a b said = inl (refl, refl, refl)
 
 both-orders : (p q : Bool) (x y z : MergeArgs) (f g : MergeArgs → Option MergeArgs) → f x ≡ unless q z → g y ≡ unless p z → option_and_then f (unless p x) ≡ option_and_then g (unless q y)
 both-orders true true x y z f g h k = refl
@@ -205,7 +189,7 @@ abbrev AreOptions : List (List ℕ) → Type 0
 AreOptions arguments = (options : List MergeOption) × (arguments ≡ option_arguments options)
 
 then-some : (f : MergeArgs → Option MergeArgs) (o : Option MergeArgs) (new : MergeArgs) → option_and_then f o ≡ Some new → (mid : MergeArgs) × (f mid ≡ Some new)
-then-some f None new is = absurd (none≢some new is)
+then-some f None new is = absurd (none-some new is)
 then-some f (Some mid) new is = (mid, is)
 
 -- the argument is that of an option with this value
@@ -221,11 +205,11 @@ named argument value old new is = by (bytes_eq argument (codes "-d")) refl (byte
     by true e c f d g is = (Distance value, ap (λ (w : List ℕ). w ∷ value ∷ []) ((bytes_eq-Decides argument (codes "-d")).0 e))
     by false e true f d g is = (Columns value, ap (λ (w : List ℕ). w ∷ value ∷ []) ((bytes_eq-Decides argument (codes "-c")).0 f))
     by false e false f true g is = (Ops value, ap (λ (w : List ℕ). w ∷ value ∷ []) ((bytes_eq-Decides argument (codes "-o")).0 g))
-    by false e false f false g is = absurd (none≢some new is)
+    by false e false f false g is = absurd (none-some new is)
 
 read-one : (argument : List ℕ) (old new : MergeArgs) (b : Bool) → bytes_eq argument (codes "-s") ≡ b → (if b then with_flag old else None) ≡ Some new → AreOptions (argument ∷ [])
 read-one argument old new true e is = (Stranded ∷ [], ap (λ (w : List ℕ). w ∷ []) ((bytes_eq-Decides argument (codes "-s")).0 e))
-read-one argument old new false e is = absurd (none≢some new is)
+read-one argument old new false e is = absurd (none-some new is)
 
 read-more : (argument next : List ℕ) (arguments : List (List ℕ)) (old new : MergeArgs)
     → ((mid : MergeArgs) → said_by (next ∷ arguments) mid ≡ Some new → AreOptions (next ∷ arguments)) → ((mid : MergeArgs) → said_by arguments mid ≡ Some new → AreOptions arguments)
@@ -236,7 +220,7 @@ read-more argument next arguments old new one two true e o at is =
     let mid = then-some (said_by (next ∷ arguments)) (with_flag old) new is in
     let rest = one mid.0 mid.1 in
     (Stranded ∷ rest.0, (λ i. (bytes_eq-Decides argument (codes "-s")).0 e i ∷ rest.1 i))
-read-more argument next arguments old new one two false e None at is = absurd (none≢some new is)
+read-more argument next arguments old new one two false e None at is = absurd (none-some new is)
 read-more argument next arguments old new one two false e (Some mid) at is =
     let rest = two mid is in
     let name = named argument next old mid at in
@@ -306,7 +290,7 @@ holds-first a options old new next is = by (has a old) refl (sym (said-after a (
     by : (b : Bool) → has a old ≡ b → option_and_then (said_by (option_arguments options)) (unless (has a old) (given a old)) ≡ Some new
         → IsPermutation (a ∷ (options ++ options_of old)) (options_of new)
     by true there is =
-        absurd (none≢some new (ap (λ (t : Bool). option_and_then (said_by (option_arguments options)) (unless t (given a old))) (sym there) ∙ is))
+        absurd (none-some new (ap (λ (t : Bool). option_and_then (said_by (option_arguments options)) (unless t (given a old))) (sym there) ∙ is))
     by false free is =
         let rest : said_by (option_arguments options) (given a old) ≡ Some new =
         ap (λ (t : Bool). option_and_then (said_by (option_arguments options)) (unless t (given a old))) (sym free) ∙ is in
@@ -317,7 +301,7 @@ holds-first a options old new next is = by (has a old) refl (sym (said-after a (
         (next (given a old) rest))
 
 holds : (options : List MergeOption) (old new : MergeArgs) → said_by (option_arguments options) old ≡ Some new → IsPermutation (options ++ options_of old) (options_of new)
-holds [] old new is = subst (λ (s : MergeArgs). IsPermutation (options_of old) (options_of s)) (some-same old new is) (IsPermutation-refl (options_of old))
+holds [] old new is = subst (λ (s : MergeArgs). IsPermutation (options_of old) (options_of s)) (same_Some old new is) (IsPermutation-refl (options_of old))
 holds (a ∷ options) old new is = holds-first a options old new (λ mid. holds options mid new) is
 
 -- the arguments are those of the options that are given, in some order
@@ -365,25 +349,14 @@ never-front (c ∷ front) rest never said =
     ∙ then-never (said_by (option_arguments (front ++ rest))) (never-front front rest never) (taken c said)
 
 two-words : (x y : List ℕ) → bytes_eq x x ≡ true → bytes_eq x y ≡ false → Some x ≡ Some y → ⊥
-two-words x y own other same = true≢false (sym own ∙ ap (bytes_eq x) (some-same x y same) ∙ other)
+two-words x y own other same = true≢false (sym own ∙ ap (bytes_eq x) (same_Some x y same) ∙ other)
 
 one-kind : (a b : MergeOption) → slice_get (words_of a) 0 ≡ slice_get (words_of b) 0 → (said : MergeArgs) → has b (given a said) ≡ true
 one-kind (Distance v) (Distance w) same said = refl
-one-kind (Distance v) (Columns w) same said = absurd (two-words (codes "-d") (codes "-c") refl refl same)
-one-kind (Distance v) (Ops w) same said = absurd (two-words (codes "-d") (codes "-o") refl refl same)
-one-kind (Distance v) Stranded same said = absurd (two-words (codes "-d") (codes "-s") refl refl same)
-one-kind (Columns v) (Distance w) same said = absurd (two-words (codes "-c") (codes "-d") refl refl same)
 one-kind (Columns v) (Columns w) same said = refl
-one-kind (Columns v) (Ops w) same said = absurd (two-words (codes "-c") (codes "-o") refl refl same)
-one-kind (Columns v) Stranded same said = absurd (two-words (codes "-c") (codes "-s") refl refl same)
-one-kind (Ops v) (Distance w) same said = absurd (two-words (codes "-o") (codes "-d") refl refl same)
-one-kind (Ops v) (Columns w) same said = absurd (two-words (codes "-o") (codes "-c") refl refl same)
 one-kind (Ops v) (Ops w) same said = refl
-one-kind (Ops v) Stranded same said = absurd (two-words (codes "-o") (codes "-s") refl refl same)
-one-kind Stranded (Distance w) same said = absurd (two-words (codes "-s") (codes "-d") refl refl same)
-one-kind Stranded (Columns w) same said = absurd (two-words (codes "-s") (codes "-c") refl refl same)
-one-kind Stranded (Ops w) same said = absurd (two-words (codes "-s") (codes "-o") refl refl same)
 one-kind Stranded Stranded same said = refl
+one-kind a b same said = absurd (two-words (get_or (words_of a) 0 []) (get_or (words_of b) 0 []) refl refl same)
 
 pub never-twice : (front middle after : List MergeOption) (a b : MergeOption) → slice_get (words_of a) 0 ≡ slice_get (words_of b) 0 → said_by (option_arguments (front ++ a ∷ (middle ++ b ∷ after))) nothing_said ≡ None
 never-twice front middle after a b same =

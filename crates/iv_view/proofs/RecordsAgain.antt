@@ -211,10 +211,8 @@ name-at g name rank at =
     ∙ sym ((bytes_eq-Decides name (get_or (names_of g) rank [])).0 found.1)
 
 strand-back : (o : Option Strand) → strand_of (strand_text o) ≡ o
-strand-back None = refl
 strand-back (Some Plus) = refl
-strand-back (Some Minus) = refl
-strand-back (Some Dot) = refl
+strand-back o = refl
 
 strand-tab : (o : Option Strand) → HasNoTab (strand_text o)
 strand-tab None = All-nil (λ b. is_separator 9 b ≡ false)
@@ -472,15 +470,8 @@ joined (c ∷ d ∷ cs) many = (join_with_byte 9 (d ∷ cs), refl)
 
 -- a header ends before the first TAB
 headed-same : (name xs ys : List ℕ) → (is_headed (codes "track") (name ++ 9 ∷ xs) ≡ is_headed (codes "track") (name ++ 9 ∷ ys)) × (is_headed (codes "browser") (name ++ 9 ∷ xs) ≡ is_headed (codes "browser") (name ++ 9 ∷ ys))
-headed-same [] xs ys = (refl, refl)
-headed-same (a ∷ []) xs ys = (refl, refl)
-headed-same (a ∷ b ∷ []) xs ys = (refl, refl)
-headed-same (a ∷ b ∷ c ∷ []) xs ys = (refl, refl)
-headed-same (a ∷ b ∷ c ∷ d ∷ []) xs ys = (refl, refl)
-headed-same (a ∷ b ∷ c ∷ d ∷ e ∷ []) xs ys = (refl, refl)
-headed-same (a ∷ b ∷ c ∷ d ∷ e ∷ f ∷ []) xs ys = (refl, refl)
-headed-same (a ∷ b ∷ c ∷ d ∷ e ∷ f ∷ h ∷ []) xs ys = (refl, refl)
 headed-same (a ∷ b ∷ c ∷ d ∷ e ∷ f ∷ h ∷ i ∷ more) xs ys = (refl, refl)
+headed-same name xs ys = (refl, refl)
 
 begun-same : (name xs ys : List ℕ) → begins_with 35 (name ++ 9 ∷ xs) ≡ begins_with 35 (name ++ 9 ∷ ys)
 begun-same [] xs ys = refl

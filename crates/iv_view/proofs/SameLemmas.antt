@@ -32,13 +32,12 @@ summary-same a b e =
 
 list-same : {X : Type 0} (test : X → X → Bool) → ((x y : X) → test x y ≡ true → x ≡ y) → (xs ys : List X) → pointwise test xs ys ≡ true → xs ≡ ys
 list-same test same [] [] e = refl
-list-same test same [] (y ∷ ys) e = search rules
-list-same test same (x ∷ xs) [] e = search rules
 list-same test same (x ∷ xs) (y ∷ ys) e =
     let parts = and_parts (test x y) (pointwise test xs ys) e in
     let first = same x y parts.0 in
     let others = list-same test same xs ys parts.1 in
     λ i. first i ∷ others i
+list-same test same xs ys e = search rules
 
 summaries-same : (a b : Summaries) → summaries.eq-value.it a b ≡ true → a ≡ b
 summaries-same a b e =
@@ -65,5 +64,4 @@ options-same a b e =
 pub state_key-same : (a b : StateKey) → state_key.eq-value.it a b ≡ true → a ≡ b
 state_key-same (keep.Blocks a) (keep.Blocks b) e = ap keep.Blocks (options-same a b e)
 state_key-same keep.Depth keep.Depth e = refl
-state_key-same (keep.Blocks a) keep.Depth e = search rules
-state_key-same keep.Depth (keep.Blocks b) e = search rules
+state_key-same a b e = search rules

@@ -11,7 +11,7 @@ use Rattle.iv_blocks.specs.Inside.Groups.{unused, pushed}
 use Rattle.iv_blocks.specs.declared.options.Summaries.{Summaries}
 use Rattle.iv_view.specs.Lists.{all_some}
 use Rattle.iv_view.specs.Merge.{summary_within}
-use Rattle.iv_view.proofs.ListLemmas.{with_rest, rest-begins, rest-more, rest-ends}
+use Rattle.iv_view.proofs.ListLemmas.{with_rest, rest-more, rest-ends}
 
 -- the rest of a list begins with its next item
 drop-here : {A : Type 0} (i : ℕ) (xs : List A) (d : A) → i < length xs → drop i xs ≡ get_or xs i d ∷ drop (i + 1) xs
@@ -41,9 +41,6 @@ pub record IsAsked (width : ℕ) (columns : List ℕ) (ops : List Op) (place : �
   pub filled_with : now ≡ filled done
   pub count : length done ≡ place
   pub rest : with_rest done (all_some (map (summary_within width) (zip (drop place columns) (drop place ops)))) ≡ all_some (map (summary_within width) (zip columns ops))
-
-pub asked-none : (width : ℕ) (columns : List ℕ) (ops : List Op) → IsAsked width columns ops 0 (filled [])
-asked-none width columns ops = record { done = []; filled_with = refl; count = refl; rest = rest-begins (all_some (map (summary_within width) (zip columns ops))) }
 
 module _ (width : ℕ) (columns : List ℕ) (ops : List Op) (place : ℕ) (now : Summaries) (asked : IsAsked width columns ops place now) (here : place < length columns) (same : length ops ≡ length columns) (column : ℕ) (op : Op) (column_is : column ≡ get_or columns place 0) (op_is : op ≡ get_or ops place Count) where
   next-is : zip (drop place columns) (drop place ops) ≡ (column, op) ∷ zip (drop (place + 1) columns) (drop (place + 1) ops)
@@ -77,12 +74,3 @@ drop-all [] zero h = refl
 drop-all [] (suc n) h = refl
 drop-all (x ∷ xs) zero h = absurd (omega arith)
 drop-all (x ∷ xs) (suc n) h = drop-all xs n (omega arith)
-
--- at the end all are there
-pub asked-all : (width : ℕ) (columns : List ℕ) (ops : List Op) (place : ℕ) (now : Summaries) → IsAsked width columns ops place now → length columns ≤ place
-    → Some now ≡ option_map filled (all_some (map (summary_within width) (zip columns ops)))
-asked-all width columns ops place now asked end =
-    ap (λ (n : Summaries). Some n) asked.filled_with
-    ∙ ap (option_map filled) (sym (rest-ends asked.done)
-    ∙ ap (λ (l : List ℕ). with_rest asked.done (all_some (map (summary_within width) (zip l (drop place ops))))) (sym (drop-all columns place end))
-    ∙ asked.rest)

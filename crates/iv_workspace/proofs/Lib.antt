@@ -1,5 +1,5 @@
 mod SessionLemmas
-mod SecondLemmas
+mod EditLemmas
 pub mod OpenViewLemmas
 mod StateLemmas
 mod PrintLemmas

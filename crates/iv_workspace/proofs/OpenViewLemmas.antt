@@ -17,24 +17,24 @@ use Rattle.iv_workspace.specs.declared.views.OpenView.{OpenView}
 -- ---- a walk over the indexes of a map, each of which is written
 
 -- the entries before an index are done
-pub record Midway {V : Type 0} (Done : List (List ℕ × V) → List (List ℕ × V) → Type 0) (old now : List (List ℕ × V)) (place : ℕ) : Type 0 where
+pub record Midway {V : Type 0} (Done : List (List ℕ × V) → List (List ℕ × V) → Type 0) (old now : List (List ℕ × V)) (index : ℕ) : Type 0 where
   pub front : List (List ℕ × V)
   pub done : List (List ℕ × V)
   pub rest : List (List ℕ × V)
   pub old_is : old ≡ front ++ rest
   pub now_is : now ≡ done ++ rest
-  pub front_is : place ≡ length front
-  pub done_is : place ≡ length done
+  pub front_is : index ≡ length front
+  pub done_is : index ≡ length done
   pub does : Done front done
 
 pub midway-begin : {V : Type 0} (Done : List (List ℕ × V) → List (List ℕ × V) → Type 0) (old now : List (List ℕ × V)) → now ≡ old → Done [] [] → Midway Done old now 0
 midway-begin Done old now same does = record { front = []; done = []; rest = old; old_is = refl; now_is = same; front_is = refl; done_is = refl; does = does }
 
 -- the entry at an index, once it is written
-written : {V : Type 0} (es : List (List ℕ × V)) (done rest : List (List ℕ × V)) (place : ℕ) (v w : V)
-    → es ≡ done ++ rest → place ≡ length done → slice_get (values_of es) place ≡ Some v
-    → (n : List ℕ) × (more : List (List ℕ × V)) × (rest ≡ (n, v) ∷ more) × (set_value_at es place w ≡ done ++ (n, w) ∷ more)
-written {V} es done rest place v w are at found =
+written : {V : Type 0} (es : List (List ℕ × V)) (done rest : List (List ℕ × V)) (index : ℕ) (v w : V)
+    → es ≡ done ++ rest → index ≡ length done → slice_get (values_of es) index ≡ Some v
+    → (n : List ℕ) × (more : List (List ℕ × V)) × (rest ≡ (n, v) ∷ more) × (set_value_at es index w ≡ done ++ (n, w) ∷ more)
+written {V} es done rest index v w are at found =
     subst (λ (i : ℕ). (n : List ℕ) × (more : List (List ℕ × V)) × (rest ≡ (n, v) ∷ more) × (set_value_at es i w ≡ done ++ (n, w) ∷ more)) (sym at)
     (by es done are (subst (λ (i : ℕ). slice_get (values_of es) i ≡ Some v) at found))
   where
@@ -51,12 +51,12 @@ written {V} es done rest place v w are at found =
         (more.0, more.1, more.2, ap₂ (λ (x : List ℕ × V) (l : List (List ℕ × V)). x ∷ l) first more.3)
 
 -- one more entry is done
-pub midway-next : {V : Type 0} (Done Then : List (List ℕ × V) → List (List ℕ × V) → Type 0) (old : List (List ℕ × V)) (es : List (List ℕ × V)) (place : ℕ) (v w : V)
-    → Midway Done old es place → slice_get (values_of es) place ≡ Some v
+pub midway-next : {V : Type 0} (Done Then : List (List ℕ × V) → List (List ℕ × V) → Type 0) (old : List (List ℕ × V)) (es : List (List ℕ × V)) (index : ℕ) (v w : V)
+    → Midway Done old es index → slice_get (values_of es) index ≡ Some v
     → ((front done more : List (List ℕ × V)) (n : List ℕ) → old ≡ front ++ (n, v) ∷ more → Done front done → Then (front ++ (n, v) ∷ []) (done ++ (n, w) ∷ []))
-    → Midway Then old (set_value_at es place w) (place + 1)
-midway-next {V} Done Then old es place v w mid found step =
-    let p = written es mid.done mid.rest place v w mid.now_is mid.done_is found in
+    → Midway Then old (set_value_at es index w) (index + 1)
+midway-next {V} Done Then old es index v w mid found step =
+    let p = written es mid.done mid.rest index v w mid.now_is mid.done_is found in
     let old_is : old ≡ mid.front ++ (p.0, v) ∷ p.1 = mid.old_is ∙ ap (λ (l : List (List ℕ × V)). mid.front ++ l) p.2 in
     record {
       front = mid.front ++ (p.0, v) ∷ [];
@@ -70,28 +70,28 @@ midway-next {V} Done Then old es place v w mid found step =
     }
 
 -- the entry at an index before it is written, and once it is
-pub record Written {V : Type 0} (old new : List (List ℕ × V)) (place : ℕ) (v w : V) : Type 0 where
+pub record Written {V : Type 0} (old new : List (List ℕ × V)) (index : ℕ) (v w : V) : Type 0 where
   pub front : List (List ℕ × V)
   pub more : List (List ℕ × V)
   pub name : List ℕ
-  pub front_is : length front ≡ place
+  pub front_is : length front ≡ index
   pub old_is : old ≡ front ++ (name, v) ∷ more
   pub new_is : new ≡ front ++ (name, w) ∷ more
 
-pub written-at : {V : Type 0} (es : List (List ℕ × V)) (place : ℕ) (v w : V) → slice_get (values_of es) place ≡ Some v
-    → Written es (set_value_at es place w) place v w
-written-at [] place v w found = absurd (cc (found))
+pub written-at : {V : Type 0} (es : List (List ℕ × V)) (index : ℕ) (v w : V) → slice_get (values_of es) index ≡ Some v
+    → Written es (set_value_at es index w) index v w
+written-at [] index v w found = absurd (cc (found))
 written-at {V} (e ∷ es) zero v w found =
     let is : e.1 ≡ v = cc (found) in
     record { front = []; more = es; name = e.0; front_is = refl; old_is = ap (λ (u : V). (e.0, u) ∷ es) is; new_is = refl }
-written-at {V} (e ∷ es) (suc place) v w found =
-    let u = written-at es place v w found in
+written-at {V} (e ∷ es) (suc index) v w found =
+    let u = written-at es index v w found in
     let first : List (List ℕ × V) → List (List ℕ × V) = λ l. e ∷ l in
     record { front = first u.front; more = u.more; name = u.name; front_is = ap suc u.front_is; old_is = ap first u.old_is; new_is = ap first u.new_is }
 
 -- all entries are done
-pub midway-end : {V : Type 0} (Done : List (List ℕ × V) → List (List ℕ × V) → Type 0) (old now : List (List ℕ × V)) (place : ℕ) → Midway Done old now place → length now ≤ place → Done old now
-midway-end {V} Done old now place mid past =
+pub midway-end : {V : Type 0} (Done : List (List ℕ × V) → List (List ℕ × V) → Type 0) (old now : List (List ℕ × V)) (index : ℕ) → Midway Done old now index → length now ≤ index → Done old now
+midway-end {V} Done old now index mid past =
     let none : mid.rest ≡ [] = nil_of mid.rest (omega (arith, mid.done_is, past, ap length mid.now_is, length-append mid.done mid.rest)) in
     let old_is : old ≡ mid.front = mid.old_is ∙ ap (λ (l : List (List ℕ × V)). mid.front ++ l) none ∙ append-nil mid.front in
     let now_is : now ≡ mid.done = mid.now_is ∙ ap (λ (l : List (List ℕ × V)). mid.done ++ l) none ∙ append-nil mid.done in
@@ -161,18 +161,14 @@ all-back P [] ys a = a
 all-back P (x ∷ xs) ys a = all-back P xs ys a.1
 
 -- the view at an index, if all were right before
-pub midway-at : {V : Type 0} (Done : List (List ℕ × V) → List (List ℕ × V) → Type 0) (P : V → Type 0) (old : List (List ℕ × V)) (es : List (List ℕ × V)) (place : ℕ) (v : V)
-    → Midway Done old es place → slice_get (values_of es) place ≡ Some v → AllByRecursion (λ e. P e.1) old → P v
-midway-at {V} Done P old es place v mid found all =
-    let p = written es mid.done mid.rest place v v mid.now_is mid.done_is found in
+pub midway-at : {V : Type 0} (Done : List (List ℕ × V) → List (List ℕ × V) → Type 0) (P : V → Type 0) (old : List (List ℕ × V)) (es : List (List ℕ × V)) (index : ℕ) (v : V)
+    → Midway Done old es index → slice_get (values_of es) index ≡ Some v → AllByRecursion (λ e. P e.1) old → P v
+midway-at {V} Done P old es index v mid found all =
+    let p = written es mid.done mid.rest index v v mid.now_is mid.done_is found in
     let old_is : old ≡ mid.front ++ (p.0, v) ∷ p.1 = mid.old_is ∙ ap (λ (l : List (List ℕ × V)). mid.front ++ l) p.2 in
     (all-back (λ e. P e.1) mid.front ((p.0, v) ∷ p.1) (subst (λ (l : List (List ℕ × V)). AllByRecursion (λ e. P e.1) l) old_is all)).0
 
 -- ---- views that are rebuilt
-
-pub stales-same : (views : List (List ℕ × Shown)) → Stales views views
-stales-same [] = tt
-stales-same (v ∷ views) = ((refl, refl, λ stale. stale, λ written is. refl), stales-same views)
 
 pub stales-append : (old new old2 new2 : List (List ℕ × Shown)) → Stales old new → Stales old2 new2 → Stales (old ++ old2) (new ++ new2)
 stales-append [] [] old2 new2 a b = b
@@ -197,13 +193,6 @@ freshens-one (v ∷ views) name = elim (bytes_eq name v.0) as (λ b. Freshens (v
 
 pub seen-append : {A : Type 0} (xs ys : List (List ℕ × OpenView A)) → all_seen (xs ++ ys) ≡ all_seen xs ++ all_seen ys
 seen-append xs ys = map-append _ xs ys
-
-count-append : (xs ys : List (List ℕ × Shown)) → stale_count (xs ++ ys) ≡ stale_count xs + stale_count ys
-count-append [] ys = omega arith
-count-append (x ∷ xs) ys = omega (arith, count-append xs ys)
-
-current-append : (xs ys : List (List ℕ × Shown)) → all_current (xs ++ ys) ≡ all_current xs ++ all_current ys
-current-append xs ys = map-append _ xs ys
 
 -- what is under a name, as contracts see it
 pub seen-lookup : {A : Type 0} (name : List ℕ) (views : List (List ℕ × OpenView A)) → lookup (bytes_eq name) (all_seen views) ≡ option_map seen (lookup (bytes_eq name) views)
@@ -267,15 +256,6 @@ all-named P name (e ∷ views) v found all = by (bytes_eq name e.0) found (λ th
     by : (b : Bool) → cond b (Some e.1) (lookup (bytes_eq name) views) ≡ Some v → (lookup (bytes_eq name) views ≡ Some v → P v) → P v
     by true found more = let is : e.1 ≡ v = cc (found) in subst P is all.0
     by false found more = more found
-
--- and of the views of which that of a name is current
-pub all-current : (P : View → Type 0) (name : List ℕ) (views : List (List ℕ × Shown)) → AllByRecursion (λ v. P v.1.view) views → AllByRecursion (λ v. P v.1.view) (with_current views name)
-all-current P name [] all = tt
-all-current P name (v ∷ views) all =
-    elim (bytes_eq name v.0) as (λ b. AllByRecursion (λ w. P w.1.view) (cond b ((v.0, current v.1) ∷ views) (v ∷ with_current views name))) [
-      | true ↦ all
-      | false ↦ (all.0, all-current P name views all.1)
-    ]
 
 -- the view of a name that is made current
 pub current-named : (name : List ℕ) (views : List (List ℕ × Shown)) → lookup (bytes_eq name) (with_current views name) ≡ option_map current (lookup (bytes_eq name) views)

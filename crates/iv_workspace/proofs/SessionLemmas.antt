@@ -1,20 +1,17 @@
 -- The records of a session.
 use Rattle.std.specs.Prelude.{All, IfSome, IsSome, option_map}
-use Rattle.std.proofs.Common.{◌≡◌, ◌∙◌, ℕ, ◌<◌, ◌≤◌, Bool, true, false, List, [], ◌∷◌, Option, None, Some, Ok, length, arith, refl, sym, ap, subst}
+use Rattle.std.proofs.Common.{◌≡◌, ◌∙◌, ℕ, ◌<◌, ◌≤◌, Bool, true, false, List, [], ◌∷◌, Option, None, Some, Ok, length, refl, sym, ap, subst}
 use Rattle.std.specs.Option.{is_some}
 use Rattle.std.proofs.lemmas.Bool.{lt-leb}
 use Rattle.iv_text.specs.Genome.{Sequences}
 use Rattle.iv_text.specs.BedFile.{Bed}
-use Rattle.iv_text.specs.Ordered.{copies, added, ordered, AreInOrder}
+use Rattle.iv_text.specs.Ordered.{ordered}
 use Rattle.iv_text.specs.Read.{Fits}
-use Rattle.iv_text.specs.RecordValue.{RecordValue, record_cmp, records_total}
-use Rattle.iv_text.proofs.RecordLemmas.{rows_exact}
+use Rattle.iv_text.specs.RecordValue.{RecordValue, record_cmp}
 use Rattle.iv_pair.proofs.LengthLemmas.{few-ordered}
-use Rattle.iv_text.proofs.OrderedLemmas.{all-all_added, length-added, in_order-added, copies-added}
+use Rattle.iv_text.proofs.OrderedLemmas.{all-all_added}
 use Rattle.std.proofs.lemmas.List.Elements.{All-from_recursion, recursion_from_All}
-use Rattle.iv_track.specs.Tracked.{Tracked, removed}
-use Rattle.iv_track.proofs.Counts.{length-removed, removed-added}
-use Rattle.iv_track.proofs.Edits.{All-added, All-removed, added-removed}
+use Rattle.iv_track.specs.Tracked.{Tracked}
 use Rattle.iv_view.specs.declared.kept_state.StateKey.{StateKey}
 use Rattle.iv_view.specs.declared.view.View.{View}
 use Rattle.iv_view.specs.declared.view.View.TheVariants as view
@@ -23,93 +20,15 @@ use Rattle.iv_view.specs.KeptStates.{state_key_of}
 use Rattle.iv_view.specs.Views.{read_arguments}
 use Rattle.iv_workspace.specs.OpenViews.{Shown, Stales, Freshens, all_current, with_current}
 use Rattle.iv_workspace.specs.Views.{is_view_name, view_named, view_asked}
-use Rattle.iv_workspace.proofs.OpenViewLemmas.{all-current, freshens-all, freshens-one}
+use Rattle.iv_workspace.proofs.OpenViewLemmas.{freshens-all, freshens-one}
 use Rattle.iv_workspace.specs.States.{State, tracked}
 use Rattle.iv_workspace.specs.Inside.States.{IsTrackOn, IsServed, AreServed, IsWrittenFresh, AreWrittenFresh, IsSession}
-
--- the records fit with one more that fits
-pub fit-added : (g : Sequences) (t : Tracked) (r : RecordValue) → IsTrackOn g t → Fits g t.width r → All (Fits g t.width) (added t.records r)
-fit-added g t r is fits = All-added (Fits g t.width) t.records r is.fit fits
-
--- with one more record that fits it is still a session's track, if there was room
-pub track-added : (g : Sequences) (t : Tracked) (r : RecordValue)
-    → IsTrackOn g t → Fits g t.width r → length t.records < t.limit → IsTrackOn g (record t { records = added t.records r })
-track-added g t r is fits room = record {
-  low = is.low;
-  high = is.high;
-  fit = fit-added g t r is fits;
-  few = omega (arith, length-added record_cmp t.records r);
-}
-
--- with one copy less too
-pub track-removed : (g : Sequences) (t : Tracked) (r : RecordValue)
-    → IsTrackOn g t → 0 < copies t.records r → IsTrackOn g (record t { records = removed t.records r })
-track-removed g t r is there = record {
-  low = is.low;
-  high = is.high;
-  fit = All-removed (Fits g t.width) t.records r is.fit;
-  few = omega (arith, length-removed record_cmp t.records r there, is.few);
-}
-
--- a record that replaces another needs no room
-pub track-replaced : (g : Sequences) (t : Tracked) (r q : RecordValue)
-    → IsTrackOn g t → 0 < copies t.records r → Fits g t.width q → IsTrackOn g (record t { records = added (removed t.records r) q })
-track-replaced g t r q is there fits =
-    track-added g (record t { records = removed t.records r }) q (track-removed g t r is there) fits
-    (omega (arith, length-removed record_cmp t.records r there, is.few))
 
 -- the views of a session are changed
 pub views-changed : (change : List (List ℕ × Shown) → List (List ℕ × Shown)) (inside s : State) (more : List (List ℕ × Shown)) → inside ≡ s → more ≡ change inside.views
     → record inside { views = more } ≡ record s { views = change s.views }
 views-changed change inside s more same is =
     ap (λ (l : List (List ℕ × Shown)). record inside { views = l }) is ∙ ap (λ (u : State). record u { views = change u.views }) same
-
--- an edit of the track, after which some views may be stale
-abbrev pub IsChangedTo : (Tracked → Tracked) → State → State → Type 0
-IsChangedTo change old new = (new ≡ record old { track = change old.track; views = new.views }) × Stales old.views new.views
-
-pub edited : (change : Tracked → Tracked) (inside s : State) (t : Tracked) (more : List (List ℕ × Shown)) → inside ≡ s → t ≡ change inside.track
-    → Stales inside.views more → IsChangedTo change s (record inside { track = t; views = more })
-edited change inside s t more same is less =
-    subst (λ (s : State). IsChangedTo change s (record inside { track = t; views = more })) same
-    (subst (λ (t : Tracked). IsChangedTo change inside (record inside { track = t; views = more })) (sym is) (refl, less))
-
--- a track before and after a record q was added, and after one copy of r was then taken out
-pub record Replaced (g : Sequences) (old mid new : Tracked) (r q : RecordValue) : Type 0 where
-  pub fit : All (Fits g mid.width) mid.records
-  pub again : mid.records ≡ added new.records r
-  pub track_is : IsTrackOn g new
-  pub width : new.width ≡ old.width
-  pub is : new ≡ record old { records = added (removed old.records r) q }
-
-pub staged-there : (old mid : Tracked) (r q : RecordValue) → 0 < copies old.records r → mid ≡ record old { records = added old.records q } → 0 < copies mid.records r
-staged-there old mid r q there is = subst (λ (t : Tracked). 0 < copies t.records r) (sym is) (omega (arith, there, copies-added record_cmp old.records q r))
-
-pub replaced : (g : Sequences) (old mid new : Tracked) (r q : RecordValue) → IsTrackOn g old → AreInOrder old.records → 0 < copies old.records r → Fits g old.width q
-    → mid ≡ record old { records = added old.records q } → new ≡ record mid { records = removed mid.records r } → Replaced g old mid new r q
-replaced g old mid new r q session order there fits first second =
-    let one : Tracked = record old { records = added old.records q } in
-    let two : Tracked = record one { records = removed one.records r } in
-    let last : new ≡ two = second ∙ ap (λ (t : Tracked). record t { records = removed t.records r }) first in
-    let swap : two.records ≡ added (removed old.records r) q = removed-added record_cmp records_total rows_exact old.records q r order there in
-    let whole : Replaced g old one two r q = record {
-      fit = fit-added g old q session fits;
-      again = added-removed one.records r (in_order-added record_cmp records_total old.records q order) (staged-there old one r q there refl);
-      track_is = subst (λ (l : List RecordValue). IsTrackOn g (record old { records = l })) (sym swap) (track-replaced g old r q session there fits);
-      width = refl;
-      is = ap (λ (l : List RecordValue). record old { records = l }) swap;
-    } in
-    subst (λ (t : Tracked). Replaced g old t new r q) (sym first) (subst (λ (t : Tracked). Replaced g old one t r q) (sym last) whole)
-
--- the same, by the records of the session and their copies
-pub replaced-in : (inside s : State) (mid new : Tracked) (before r after q : RecordValue) → inside ≡ s → before ≡ r → after ≡ q → IsTrackOn inside.genome inside.track → AreInOrder inside.track.records
-    → 0 < copies inside.track.records before → Fits s.genome s.track.width q → mid ≡ record inside.track { records = added inside.track.records after } → new ≡ record mid { records = removed mid.records before }
-    → Replaced inside.genome inside.track mid new r q
-replaced-in inside s mid new before r after q same first next session order there fits staged taken =
-    let old : Tracked = inside.track in
-    replaced inside.genome old mid new r q session order (subst (λ (x : RecordValue). 0 < copies old.records x) first there) (subst (λ (t : State). Fits t.genome t.track.width q) (sym same) fits)
-    (staged ∙ ap (λ (x : RecordValue). record old { records = added old.records x }) next)
-    (taken ∙ ap (λ (x : RecordValue). record mid { records = removed mid.records x }) first)
 
 -- if the name has no fault, the words decide
 pub no-name_fault : (inside s : State) (name : List ℕ) (arguments : List (List ℕ)) (v : View) → inside ≡ s → is_view_name name ≡ true → is_some (view_named inside.views name) ≡ false
@@ -133,10 +52,6 @@ served-fresher second [] (w ∷ new) less served = absurd less
 served-fresher second (v ∷ old) [] less served = absurd less
 served-fresher second (v ∷ old) (w ∷ new) less served =
     (subst (IsServed second) (sym less.0.1) served.0, served-fresher second old new less.1 served.1)
-
--- those of which one is current, and those of which all are
-pub served-current : (second : Option Tracked) (name : List ℕ) (old new : List (List ℕ × Shown)) → new ≡ with_current old name → AreServed second old → AreServed second new
-served-current second name old new are served = subst (AreServed second) (sym are) (all-current (IsServed second) name old served)
 
 -- ---- written views
 

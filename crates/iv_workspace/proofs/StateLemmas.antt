@@ -120,37 +120,30 @@ module _ {A : Type 0} (names : List (List ℕ)) (records with_r : List RecordVal
         steps = record { no_less = omega (arith, all.steps.no_less, one.steps.no_less); at_most = omega (arith, all.steps.at_most, one.steps.at_most, steps_are) };
       }
 
-  -- if none was lost, the views are right
-  pub repaired-kept : (old new : List (List ℕ × OpenView A)) (before after : ℕ) → AreRepaired names records with_r r true old new before after
-      → HaveStates (all_owned old) (all_seen old) → AreRight new names records
-  repaired-kept old new before after all have =
-      let same = all.unless refl in
-      (all.right, subst (λ (l : List (Option StateKey)). HaveStates l (all_seen new)) (sym same.1) (subst (HaveStates (all_owned old)) (sym same.0) have))
-
 -- during the repairs
-pub record Repairing {A : Type 0} (names : List (List ℕ)) (records with_r : List RecordValue) (r : RecordValue) (kept : Bool) (old now : List (List ℕ × OpenView A)) (place before after : ℕ) : Type 0 where
-  pub mid : Midway (λ front done. AreRepaired names records with_r r kept front done before after) old now place
+pub record Repairing {A : Type 0} (names : List (List ℕ)) (records with_r : List RecordValue) (r : RecordValue) (kept : Bool) (old now : List (List ℕ × OpenView A)) (index before after : ℕ) : Type 0 where
+  pub mid : Midway (λ front done. AreRepaired names records with_r r kept front done before after) old now index
 
 module _ {A : Type 0} (names : List (List ℕ)) (records with_r : List RecordValue) (r : RecordValue) (old : List (List ℕ × OpenView A)) where
   pub repairs-begin : (now : List (List ℕ × OpenView A)) (before : ℕ) → now ≡ old → Repairing names records with_r r true old now 0 before before
   repairs-begin now before same = record { mid = midway-begin _ old now same (repaired-none names records with_r r before) }
 
-  pub repairs-end : (kept : Bool) (now : List (List ℕ × OpenView A)) (place before after : ℕ) → Repairing names records with_r r kept old now place before after → length now ≤ place
+  pub repairs-end : (kept : Bool) (now : List (List ℕ × OpenView A)) (index before after : ℕ) → Repairing names records with_r r kept old now index before after → length now ≤ index
       → AreRepaired names records with_r r kept old now before after
-  repairs-end kept now place before after u past = midway-end (λ front done. AreRepaired names records with_r r kept front done before after) old now place u.mid past
+  repairs-end kept now index before after u past = midway-end (λ front done. AreRepaired names records with_r r kept front done before after) old now index u.mid past
 
 module _ {A : Type 0} (names : List (List ℕ)) (records with_r : List RecordValue) (r : RecordValue) (old : List (List ℕ × OpenView A)) where
-  pub repairs-at : (P : OpenView A → Type 0) (kept : Bool) (es : List (List ℕ × OpenView A)) (place before mid : ℕ) (v : OpenView A)
-      → Repairing names records with_r r kept old es place before mid → slice_get (values_of es) place ≡ Some v → AllByRecursion (λ e. P e.1) old → P v
-  repairs-at P kept es place before mid v u found all = midway-at _ P old es place v u.mid found all
+  pub repairs-at : (P : OpenView A → Type 0) (kept : Bool) (es : List (List ℕ × OpenView A)) (index before mid : ℕ) (v : OpenView A)
+      → Repairing names records with_r r kept old es index before mid → slice_get (values_of es) index ≡ Some v → AllByRecursion (λ e. P e.1) old → P v
+  repairs-at P kept es index before mid v u found all = midway-at _ P old es index v u.mid found all
 
-  pub repairs-next : (kept also : Bool) (es : List (List ℕ × OpenView A)) (place before mid after : ℕ) (v w : OpenView A)
-      → Repairing names records with_r r kept old es place before mid → slice_get (values_of es) place ≡ Some v → IsRepaired names records with_r r also v w mid after
-      → Repairing names records with_r r (kept && also) old (set_value_at es place w) (place + 1) before after
-  repairs-next kept also es place before mid after v w u found one = record {
+  pub repairs-next : (kept also : Bool) (es : List (List ℕ × OpenView A)) (index before mid after : ℕ) (v w : OpenView A)
+      → Repairing names records with_r r kept old es index before mid → slice_get (values_of es) index ≡ Some v → IsRepaired names records with_r r also v w mid after
+      → Repairing names records with_r r (kept && also) old (set_value_at es index w) (index + 1) before after
+  repairs-next kept also es index before mid after v w u found one = record {
     mid = midway-next
         (λ front done. AreRepaired names records with_r r kept front done before mid) (λ front done. AreRepaired names records with_r r (kept && also) front done before after)
-        old es place v w u.mid found (λ front done more n old_is all. repaired-push names records with_r r kept also front done n v w before mid after all one);
+        old es index v w u.mid found (λ front done more n old_is all. repaired-push names records with_r r kept also front done n v w before mid after all one);
   }
 
 -- ---- views whose state is lost
@@ -206,39 +199,39 @@ pub owned-here : {A : Type 0} (front more : List (List ℕ × OpenView A)) (n : 
 owned-here front more n v what is = rw (owned-append front ((n, v) ∷ more)) (among-back what (all_owned front) (owned v ∷ all_owned more) (inl is))
 
 -- while views are marked, what the states are kept for is as before
-marking-owned : {A : Type 0} (states : List (Option StateKey)) (old now : List (List ℕ × OpenView A)) (place : ℕ) → Midway (Marking states) old now place → all_owned now ≡ all_owned old
-marking-owned states old now place mid =
+marking-owned : {A : Type 0} (states : List (Option StateKey)) (old now : List (List ℕ × OpenView A)) (index : ℕ) → Midway (Marking states) old now index → all_owned now ≡ all_owned old
+marking-owned states old now index mid =
     ap all_owned mid.now_is ∙ owned-append mid.done mid.rest ∙ ap (λ (l : List (Option StateKey)). l ++ all_owned mid.rest) mid.does.owned_same
     ∙ sym (owned-append mid.front mid.rest) ∙ sym (ap all_owned mid.old_is)
 
 -- during a walk that marks views
-pub record MarkingUpTo {A : Type 0} (old now : List (List ℕ × OpenView A)) (place : ℕ) : Type 0 where
-  pub mid : Midway (Marking (all_owned old)) old now place
+pub record MarkingUpTo {A : Type 0} (old now : List (List ℕ × OpenView A)) (index : ℕ) : Type 0 where
+  pub mid : Midway (Marking (all_owned old)) old now index
 
 module _ {A : Type 0} (old : List (List ℕ × OpenView A)) where
   pub marks-begin : (now : List (List ℕ × OpenView A)) → now ≡ old → MarkingUpTo old now 0
   marks-begin now same = record { mid = midway-begin _ old now same (marking-none (all_owned old)) }
 
-  pub marks-owned : (now : List (List ℕ × OpenView A)) (place : ℕ) → MarkingUpTo old now place → all_owned now ≡ all_owned old
-  marks-owned now place u = marking-owned (all_owned old) old now place u.mid
+  pub marks-owned : (now : List (List ℕ × OpenView A)) (index : ℕ) → MarkingUpTo old now index → all_owned now ≡ all_owned old
+  marks-owned now index u = marking-owned (all_owned old) old now index u.mid
 
-  pub marks-end : (now : List (List ℕ × OpenView A)) (place : ℕ) → MarkingUpTo old now place → length now ≤ place → AreMarked old now
-  marks-end now place u past =
-      let all = midway-end (Marking (all_owned old)) old now place u.mid past in
+  pub marks-end : (now : List (List ℕ × OpenView A)) (index : ℕ) → MarkingUpTo old now index → length now ≤ index → AreMarked old now
+  marks-end now index u past =
+      let all = midway-end (Marking (all_owned old)) old now index u.mid past in
       record { right = all.right; stales = all.stales; states = subst (λ (l : List (Option StateKey)). HaveStates l (all_seen now)) (sym all.owned_same) all.have }
 
 module _ {A : Type 0} (old : List (List ℕ × OpenView A)) where
   -- `kept` is whether the view has a state among those that there are
-  pub marks-next : (es : List (List ℕ × OpenView A)) (place : ℕ) (v w : OpenView A) (kept : Bool) → MarkingUpTo old es place → slice_get (values_of es) place ≡ Some v
+  pub marks-next : (es : List (List ℕ × OpenView A)) (index : ℕ) (v w : OpenView A) (kept : Bool) → MarkingUpTo old es index → slice_get (values_of es) index ≡ Some v
       → (kept ≡ true → IsKept (all_owned es) v.view) × (IsKept (all_owned es) v.view → kept ≡ true) → w ≡ marked v (v.stale || not kept)
-      → MarkingUpTo old (set_value_at es place w) (place + 1)
-  marks-next es place v w kept u found says is =
+      → MarkingUpTo old (set_value_at es index w) (index + 1)
+  marks-next es index v w kept u found says is =
       let states = all_owned old in
-      let same : all_owned es ≡ states = marks-owned old es place u in
+      let same : all_owned es ≡ states = marks-owned old es index u in
       let known : (kept ≡ true → IsKept states v.view) × (IsKept states v.view → kept ≡ true) =
       subst (λ (l : List (Option StateKey)). (kept ≡ true → IsKept l v.view) × (IsKept l v.view → kept ≡ true)) same says in
       record {
-        mid = midway-next (Marking states) (Marking states) old es place v w u.mid found (λ front done more n old_is all.
+        mid = midway-next (Marking states) (Marking states) old es index v w u.mid found (λ front done more n old_is all.
             subst (λ (x : OpenView A). Marking states (front ++ (n, v) ∷ []) (done ++ (n, x) ∷ [])) (sym is)
             (marking-push states v (v.stale || not kept) front done n all
             (λ there. unless v.stale kept (known.1 there)) (λ stale. stays v.stale kept stale) (λ fresh. known.0 (fresh-kept v.stale kept fresh))
@@ -262,33 +255,33 @@ module _ {A : Type 0} (old : List (List ℕ × OpenView A)) where
 -- ---- the view at an index
 
 -- the view at an index of a map, among the views
-pub at-place : {A : Type 0} (es : List (List ℕ × OpenView A)) (place : ℕ) (v : OpenView A) → slice_get (values_of es) place ≡ Some v
-    → (n : List ℕ) × (slice_get es place ≡ Some (n, v)) × (drop place es ≡ (n, v) ∷ drop (place + 1) es)
-at-place {A} es place v found =
-    subst (λ (k : ℕ). (n : List ℕ) × (slice_get es place ≡ Some (n, v)) × (drop place es ≡ (n, v) ∷ drop k es)) (sym (add-one place)) (by es place found)
+pub at-index : {A : Type 0} (es : List (List ℕ × OpenView A)) (index : ℕ) (v : OpenView A) → slice_get (values_of es) index ≡ Some v
+    → (n : List ℕ) × (slice_get es index ≡ Some (n, v)) × (drop index es ≡ (n, v) ∷ drop (index + 1) es)
+at-index {A} es index v found =
+    subst (λ (k : ℕ). (n : List ℕ) × (slice_get es index ≡ Some (n, v)) × (drop index es ≡ (n, v) ∷ drop k es)) (sym (add-one index)) (by es index found)
   where
-    by : (es : List (List ℕ × OpenView A)) (place : ℕ) → slice_get (values_of es) place ≡ Some v
-        → (n : List ℕ) × (slice_get es place ≡ Some (n, v)) × (drop place es ≡ (n, v) ∷ drop (suc place) es)
-    by [] place found = absurd (cc (found))
+    by : (es : List (List ℕ × OpenView A)) (index : ℕ) → slice_get (values_of es) index ≡ Some v
+        → (n : List ℕ) × (slice_get es index ≡ Some (n, v)) × (drop index es ≡ (n, v) ∷ drop (suc index) es)
+    by [] index found = absurd (cc (found))
     by (e ∷ es) zero found = let is : e.1 ≡ v = cc (found) in (e.0, ap (λ (u : OpenView A). Some (e.0, u)) is, ap (λ (u : OpenView A). (e.0, u) ∷ es) is)
-    by (e ∷ es) (suc place) found = by es place found
+    by (e ∷ es) (suc index) found = by es index found
 
 -- its state is among those of the views
-owned-at : {A : Type 0} (views : List (List ℕ × OpenView A)) (place : ℕ) (e : List ℕ × OpenView A) (what : StateKey) → slice_get views place ≡ Some e → owned e.1 ≡ Some what → IsOwned what (all_owned views)
-owned-at {A} [] place e what found is = absurd (cc (found))
+owned-at : {A : Type 0} (views : List (List ℕ × OpenView A)) (index : ℕ) (e : List ℕ × OpenView A) (what : StateKey) → slice_get views index ≡ Some e → owned e.1 ≡ Some what → IsOwned what (all_owned views)
+owned-at {A} [] index e what found is = absurd (cc (found))
 owned-at {A} (x ∷ views) zero e what found is = let same : x ≡ e = cc (found) in inl (ap (λ (u : List ℕ × OpenView A). owned u.1) same ∙ is)
-owned-at {A} (x ∷ views) (suc place) e what found is = inr (owned-at views place e what found is)
+owned-at {A} (x ∷ views) (suc index) e what found is = inr (owned-at views index e what found is)
 
-module _ {A : Type 0} (views : List (List ℕ × OpenView A)) (es : List (List ℕ × OpenView A)) (same : es ≡ views) (place : ℕ) (v : OpenView A) (found : slice_get (values_of es) place ≡ Some v) where
+module _ {A : Type 0} (views : List (List ℕ × OpenView A)) (es : List (List ℕ × OpenView A)) (same : es ≡ views) (index : ℕ) (v : OpenView A) (found : slice_get (values_of es) index ≡ Some v) where
   -- its name, its index and what follows it
-  pub view-at : (n : List ℕ) × (slice_get views place ≡ Some (n, v)) × (drop place views ≡ (n, v) ∷ drop (place + 1) views)
-  view-at = subst (λ (l : List (List ℕ × OpenView A)). (n : List ℕ) × (slice_get l place ≡ Some (n, v)) × (drop place l ≡ (n, v) ∷ drop (place + 1) l)) same (at-place es place v found)
+  pub view-at : (n : List ℕ) × (slice_get views index ≡ Some (n, v)) × (drop index views ≡ (n, v) ∷ drop (index + 1) views)
+  view-at = subst (λ (l : List (List ℕ × OpenView A)). (n : List ℕ) × (slice_get l index ≡ Some (n, v)) × (drop index l ≡ (n, v) ∷ drop (index + 1) l)) same (at-index es index v found)
 
   -- its state is that of what is kept of it, and is right
   pub state-at : (what : StateKey) (k : KeptState A) → v.state ≡ Some k → state_key_of v.view ≡ Some what → (names : List (List ℕ)) (records : List RecordValue) → AreOwnRight views names records
       → (built_for k ≡ what) × IsRight k names records
   state-at what k is kept names records right =
-      let own : IsOwnRight v names records = all-at (λ u. IsOwnRight u names records) views place (view-at.0, v) view-at.1 right in
+      let own : IsOwnRight v names records = all-at (λ u. IsOwnRight u names records) views index (view-at.0, v) view-at.1 right in
       let here = subst (λ (o : Option (KeptState A)). IfSome o (λ k. (v.stale ≡ false) × (state_key_of v.view ≡ Some (built_for k)) × IsRight k names records)) is own in
       let both : Some (built_for k) ≡ Some what = sym here.1 ∙ kept in
       let eq : built_for k ≡ what = cc (both) in
@@ -296,34 +289,34 @@ module _ {A : Type 0} (views : List (List ℕ × OpenView A)) (es : List (List �
 
   -- and is among those of the views
   pub kept-at : (what : StateKey) (k : KeptState A) → v.state ≡ Some k → state_key_of v.view ≡ Some what → IsOwned what (all_owned views)
-  kept-at what k is kept = owned-at views place (view-at.0, v) what view-at.1 (ap (kept_with v.view) is ∙ kept)
+  kept-at what k is kept = owned-at views index (view-at.0, v) what view-at.1 (ap (kept_with v.view) is ∙ kept)
 
   -- what isn't kept in its state is kept in those after it, if it is from it on
-  pub kept-later : (what : StateKey) → (owned v ≡ Some what → ⊥) → IsOwned what (all_owned (drop place views)) → IsOwned what (all_owned (drop (place + 1) views))
+  pub kept-later : (what : StateKey) → (owned v ≡ Some what → ⊥) → IsOwned what (all_owned (drop index views)) → IsOwned what (all_owned (drop (index + 1) views))
   kept-later what other a = elim (subst (λ (l : List (List ℕ × OpenView A)). IsOwned what (all_owned l)) view-at.2 a) [
     | inl here ↦ absurd (other here)
     | inr later ↦ later
   ]
 
   -- a view that needs what is kept
-  pub needs-at : (what : StateKey) → (v.stale ≡ false) × (state_key_of v.view ≡ Some what) → IfSome (slice_get views place) (λ u. (u.1.stale ≡ false) × (state_key_of u.1.view ≡ Some what))
+  pub needs-at : (what : StateKey) → (v.stale ≡ false) × (state_key_of v.view ≡ Some what) → IfSome (slice_get views index) (λ u. (u.1.stale ≡ false) × (state_key_of u.1.view ≡ Some what))
   needs-at what needs = subst (λ (o : Option (List ℕ × OpenView A)). IfSome o (λ u. (u.1.stale ≡ false) × (state_key_of u.1.view ≡ Some what))) (sym view-at.1) needs
 
   -- it doesn't need it, and so none does if none after it does
-  pub needless-at : (what : StateKey) → ((v.stale ≡ false) × (state_key_of v.view ≡ Some what) → ⊥) → NoneNeeds what (all_seen (drop (place + 1) views)) → NoneNeeds what (all_seen (drop place views))
+  pub needless-at : (what : StateKey) → ((v.stale ≡ false) × (state_key_of v.view ≡ Some what) → ⊥) → NoneNeeds what (all_seen (drop (index + 1) views)) → NoneNeeds what (all_seen (drop index views))
   needless-at what needless later = subst (λ (l : List (List ℕ × OpenView A)). NoneNeeds what (all_seen l)) (sym view-at.2) ((λ fresh kept. needless (fresh, kept)), later)
 
 -- the same, by the views before the index is written
-pub marks-in : {A : Type 0} (old now : List (List ℕ × OpenView A)) (es : List (List ℕ × OpenView A)) → es ≡ now → (place : ℕ) (v : OpenView A) → slice_get (values_of es) place ≡ Some v → (w : OpenView A) (kept : Bool)
-    → MarkingUpTo old now place → (kept ≡ true → IsKept (all_owned now) v.view) × (IsKept (all_owned now) v.view → kept ≡ true) → w ≡ marked v (v.stale || not kept)
-    → MarkingUpTo old (set_value_at es place w) (place + 1)
-marks-in {A} old now es same place v found w kept u says is =
-    marks-next old es place v w kept (subst (λ (l : List (List ℕ × OpenView A)). MarkingUpTo old l place) (sym same) u) found
+pub marks-in : {A : Type 0} (old now : List (List ℕ × OpenView A)) (es : List (List ℕ × OpenView A)) → es ≡ now → (index : ℕ) (v : OpenView A) → slice_get (values_of es) index ≡ Some v → (w : OpenView A) (kept : Bool)
+    → MarkingUpTo old now index → (kept ≡ true → IsKept (all_owned now) v.view) × (IsKept (all_owned now) v.view → kept ≡ true) → w ≡ marked v (v.stale || not kept)
+    → MarkingUpTo old (set_value_at es index w) (index + 1)
+marks-in {A} old now es same index v found w kept u says is =
+    marks-next old es index v w kept (subst (λ (l : List (List ℕ × OpenView A)). MarkingUpTo old l index) (sym same) u) found
     (subst (λ (l : List (List ℕ × OpenView A)). (kept ≡ true → IsKept (all_owned l) v.view) × (IsKept (all_owned l) v.view → kept ≡ true)) (sym same) says) is
 
 -- ---- a view that is written
 
-module _ {A : Type 0} (old new : List (List ℕ × OpenView A)) (place : ℕ) (v w : OpenView A) (u : Written old new place v w) where
+module _ {A : Type 0} (old new : List (List ℕ × OpenView A)) (index : ℕ) (v w : OpenView A) (u : Written old new index v w) where
   -- what was kept is still kept, if it is by the state at the index
   written-grows : ((what : StateKey) → owned v ≡ Some what → IsOwned what (all_owned new)) → (what : StateKey) → IsOwned what (all_owned old) → IsOwned what (all_owned new)
   written-grows there what a =
@@ -377,14 +370,14 @@ missing-kept states more view names records (Some k) missing grows own = by (sta
     by (Some what) is = own what is
 
 -- a view that was stale is rebuilt
-pub renewed-right : {A : Type 0} (names : List (List ℕ)) (records : List RecordValue) (old new : List (List ℕ × OpenView A)) (place : ℕ) (v : OpenView A) (state : Option (KeptState A))
-    → Written old new place v (renewed v.view state) → v.stale ≡ true → IsMissing (all_owned old) v.view names records state → AreRight old names records → AreRight new names records
-renewed-right {A} names records old new place v state u stale missing right =
+pub renewed-right : {A : Type 0} (names : List (List ℕ)) (records : List RecordValue) (old new : List (List ℕ × OpenView A)) (index : ℕ) (v : OpenView A) (state : Option (KeptState A))
+    → Written old new index v (renewed v.view state) → v.stale ≡ true → IsMissing (all_owned old) v.view names records state → AreRight old names records → AreRight new names records
+renewed-right {A} names records old new index v state u stale missing right =
     let w : OpenView A = renewed v.view state in
-    let own : IsOwnRight v names records = written-all old new place v w u (λ e. IsOwnRight e names records) right.0 in
-    let grows = written-grows old new place v w u (λ what is. absurd (no-state v.state own what is)) in
-    written-right old new place v w u names records (all_owned old) right.0 right.1 grows (missing-own (all_owned old) v.view names records state missing)
-    (λ fresh. missing-kept (all_owned old) (all_owned new) v.view names records state missing grows (written-owned old new place v w u))
+    let own : IsOwnRight v names records = written-all old new index v w u (λ e. IsOwnRight e names records) right.0 in
+    let grows = written-grows old new index v w u (λ what is. absurd (no-state v.state own what is)) in
+    written-right old new index v w u names records (all_owned old) right.0 right.1 grows (missing-own (all_owned old) v.view names records state missing)
+    (λ fresh. missing-kept (all_owned old) (all_owned new) v.view names records state missing grows (written-owned old new index v w u))
   where
     no-state : (o : Option (KeptState A)) → IfSome o (λ k. (v.stale ≡ false) × (state_key_of v.view ≡ Some (built_for k)) × IsRight k names records) → (what : StateKey) → kept_with v.view o ≡ Some what → ⊥
     no-state None own what is = cc (is)
@@ -412,43 +405,24 @@ abbrev pub with_state : {A : Type 0} → OpenView A → KeptState A → OpenView
 with_state v k = record v { state = Some k }
 
 -- the first view that needs a state takes it over
-pub handed-right : {A : Type 0} (names : List (List ℕ)) (records : List RecordValue) (old new : List (List ℕ × OpenView A)) (place : ℕ) (v : OpenView A) (k : KeptState A) (what : StateKey) (closed : View)
-    → Written old new place v (with_state v k) → v.stale ≡ false → state_key_of v.view ≡ Some what → state_key_of closed ≡ Some what
+pub handed-right : {A : Type 0} (names : List (List ℕ)) (records : List RecordValue) (old new : List (List ℕ × OpenView A)) (index : ℕ) (v : OpenView A) (k : KeptState A) (what : StateKey) (closed : View)
+    → Written old new index v (with_state v k) → v.stale ≡ false → state_key_of v.view ≡ Some what → state_key_of closed ≡ Some what
     → AreOwnRight old names records → HaveStates (state_key_of closed ∷ all_owned old) (all_seen old) → (state_key_of closed ≡ Some (built_for k)) × IsRight k names records → AreRight new names records
-handed-right {A} names records old new place v k what closed u fresh needs is right have state =
+handed-right {A} names records old new index v k what closed u fresh needs is right have state =
     let w : OpenView A = with_state v k in
-    let here : IsOwned what (all_owned new) = written-owned old new place v w u what needs in
-    let grows = written-grows old new place v w u (λ that owns. same-state v.state that owns here) in
+    let here : IsOwned what (all_owned new) = written-owned old new index v w u what needs in
+    let grows = written-grows old new index v w u (λ that owns. same-state v.state that owns here) in
     let all : (that : StateKey) → IsOwned that (state_key_of closed ∷ all_owned old) → IsOwned that (all_owned new) = λ that a. elim a [
       | inl is_that ↦ let same : Some what ≡ Some that = sym is ∙ is_that in let eq : what ≡ that = cc (same) in subst (λ (x : StateKey). IsOwned x (all_owned new)) eq here
       | inr before ↦ grows that before
     ] in
-    written-right old new place v w u names records (state_key_of closed ∷ all_owned old) right have all
+    written-right old new index v w u names records (state_key_of closed ∷ all_owned old) right have all
     (fresh, needs ∙ sym is ∙ state.0, state.1)
     (λ _. subst (λ (o : Option StateKey). IfSome o (λ x. IsOwned x (all_owned new))) (sym needs) here)
   where
     same-state : (o : Option (KeptState A)) (that : StateKey) → kept_with v.view o ≡ Some that → IsOwned what (all_owned new) → IsOwned that (all_owned new)
     same-state None that is here = absurd (cc (is))
     same-state (Some j) that is here = let same : Some what ≡ Some that = sym needs ∙ is in let eq : what ≡ that = cc (same) in subst (λ (x : StateKey). IsOwned x (all_owned new)) eq here
-
--- a state that nobody needs is no loss
-pub unneeded : (states : List (Option StateKey)) (o : Option StateKey) (views : List (List ℕ × Shown)) (what : StateKey) → o ≡ Some what
-    → NoneNeeds what views → HaveStates (o ∷ states) views → HaveStates states views
-unneeded states o [] what is none have = tt
-unneeded states o (v ∷ views) what is none have = (λ fresh. by (state_key_of v.1.view) refl (have.0 fresh) (none.0 fresh), unneeded states o views what is none.1 have.1)
-  where
-    by : (k : Option StateKey) → state_key_of v.1.view ≡ k → IfSome k (λ x. IsOwned x (o ∷ states)) → (state_key_of v.1.view ≡ Some what → ⊥) → IfSome k (λ x. IsOwned x states)
-    by None same kept not = tt
-    by (Some x) same (inl here) not = absurd (not (same ∙ sym here ∙ is))
-    by (Some x) same (inr there) not = there
-
--- and if there was none, nothing is lost
-pub have-tail : (states : List (Option StateKey)) (views : List (List ℕ × Shown)) → HaveStates (None ∷ states) views → HaveStates states views
-have-tail states views have = have-more (None ∷ states) states views (λ what a. by what a) have
-  where
-    by : (what : StateKey) → IsOwned what (None ∷ states) → IsOwned what states
-    by what (inl is) = absurd (cc (is))
-    by what (inr a) = a
 
 -- what was kept is kept without the view of a name, or by that view
 kept-of : {A : Type 0} (name : List ℕ) (v : OpenView A) (what : StateKey) (views : List (List ℕ × OpenView A)) → lookup (bytes_eq name) views ≡ Some v → IsOwned what (all_owned views)
@@ -491,15 +465,15 @@ own-kept {A} v names records own = by v.state own
 
 -- the views, the first so many current
 abbrev pub current_to : ℕ → List (List ℕ × Shown) → List (List ℕ × Shown)
-current_to place [] = []
+current_to index [] = []
 current_to zero (v ∷ views) = v ∷ views
-current_to (suc place) (v ∷ views) = (v.0, current v.1) ∷ current_to place views
+current_to (suc index) (v ∷ views) = (v.0, current v.1) ∷ current_to index views
 
-pub current-next : (place : ℕ) (views : List (List ℕ × Shown)) → current_at place (current_to place views) ≡ current_to (suc place) views
-current-next place [] = refl
+pub current-next : (index : ℕ) (views : List (List ℕ × Shown)) → current_at index (current_to index views) ≡ current_to (suc index) views
+current-next index [] = refl
 current-next zero (v ∷ []) = refl
 current-next zero (v ∷ w ∷ views) = refl
-current-next (suc place) (v ∷ views) = ap (λ (l : List (List ℕ × Shown)). (v.0, current v.1) ∷ l) (current-next place views)
+current-next (suc index) (v ∷ views) = ap (λ (l : List (List ℕ × Shown)). (v.0, current v.1) ∷ l) (current-next index views)
 
 pub current-none : (views : List (List ℕ × Shown)) → views ≡ current_to 0 views
 current-none [] = refl
@@ -510,107 +484,107 @@ seen-length [] = refl
 seen-length (v ∷ views) = ap suc (seen-length views)
 
 -- there are as many views as before
-pub current-length : {A : Type 0} (old now : List (List ℕ × OpenView A)) (place : ℕ) → all_seen now ≡ current_to place (all_seen old) → length now ≡ length old
-current-length old now place are = sym (seen-length now) ∙ ap length are ∙ by place (all_seen old) ∙ seen-length old
+pub current-length : {A : Type 0} (old now : List (List ℕ × OpenView A)) (index : ℕ) → all_seen now ≡ current_to index (all_seen old) → length now ≡ length old
+current-length old now index are = sym (seen-length now) ∙ ap length are ∙ by index (all_seen old) ∙ seen-length old
   where
-    by : (place : ℕ) (views : List (List ℕ × Shown)) → length (current_to place views) ≡ length views
-    by place [] = refl
+    by : (index : ℕ) (views : List (List ℕ × Shown)) → length (current_to index views) ≡ length views
+    by index [] = refl
     by zero (v ∷ views) = refl
-    by (suc place) (v ∷ views) = ap suc (by place views)
+    by (suc index) (v ∷ views) = ap suc (by index views)
 
-pub current-all : (place : ℕ) (views : List (List ℕ × Shown)) → length views ≤ place → current_to place views ≡ all_current views
-current-all place [] past = refl
+pub current-all : (index : ℕ) (views : List (List ℕ × Shown)) → length views ≤ index → current_to index views ≡ all_current views
+current-all index [] past = refl
 current-all zero (v ∷ views) past = absurd (omega (arith, past))
-current-all (suc place) (v ∷ views) past = ap (λ (l : List (List ℕ × Shown)). (v.0, current v.1) ∷ l) (current-all place views (omega (arith, past)))
+current-all (suc index) (v ∷ views) past = ap (λ (l : List (List ℕ × Shown)). (v.0, current v.1) ∷ l) (current-all index views (omega (arith, past)))
 
-pub current-freshens : (place : ℕ) (views : List (List ℕ × Shown)) → Freshens views (current_to place views)
-current-freshens place [] = tt
+pub current-freshens : (index : ℕ) (views : List (List ℕ × Shown)) → Freshens views (current_to index views)
+current-freshens index [] = tt
 current-freshens zero (v ∷ views) = freshens-same (v ∷ views)
-current-freshens (suc place) (v ∷ views) = ((refl, refl, λ e. absurd (cc (e))), current-freshens place views)
+current-freshens (suc index) (v ∷ views) = ((refl, refl, λ e. absurd (cc (e))), current-freshens index views)
 
 -- a view that is stale among them is one of the stale ones
-pub stale-among : (place at : ℕ) (views : List (List ℕ × Shown)) → IfSome (slice_get (current_to place views) at) (λ v. v.1.stale ≡ true) → at < length views → 0 < stale_count views
-stale-among place at [] stale within = absurd (omega (arith, within))
+pub stale-among : (index at : ℕ) (views : List (List ℕ × Shown)) → IfSome (slice_get (current_to index views) at) (λ v. v.1.stale ≡ true) → at < length views → 0 < stale_count views
+stale-among index at [] stale within = absurd (omega (arith, within))
 stale-among zero at views stale within = counted at views stale within
   where
     counted : (at : ℕ) (views : List (List ℕ × Shown)) → IfSome (slice_get views at) (λ v. v.1.stale ≡ true) → at < length views → 0 < stale_count views
     counted at [] stale within = absurd (omega (arith, within))
     counted zero (v ∷ views) stale within = let one : (if v.1.stale then 1 else 0) ≡ 1 = ap {B = ℕ} (λ (b : Bool). if b then 1 else 0) stale in omega (arith, one)
     counted (suc at) (v ∷ views) stale within = omega (arith, counted at views stale (omega (arith, within)))
-stale-among (suc place) zero (v ∷ views) stale within = absurd (cc (stale))
-stale-among (suc place) (suc at) (v ∷ views) stale within = omega (arith, stale-among place at views stale (omega (arith, within)))
+stale-among (suc index) zero (v ∷ views) stale within = absurd (cc (stale))
+stale-among (suc index) (suc at) (v ∷ views) stale within = omega (arith, stale-among index at views stale (omega (arith, within)))
 
 -- the view at an index is made current
-pub written-current : {A : Type 0} (old new : List (List ℕ × OpenView A)) (place : ℕ) (v w : OpenView A) → Written old new place v w → w.view ≡ v.view → w.stale ≡ false
-    → all_seen new ≡ current_at place (all_seen old)
-written-current {A} old new place v w u view fresh =
+pub written-current : {A : Type 0} (old new : List (List ℕ × OpenView A)) (index : ℕ) (v w : OpenView A) → Written old new index v w → w.view ≡ v.view → w.stale ≡ false
+    → all_seen new ≡ current_at index (all_seen old)
+written-current {A} old new index v w u view fresh =
     let is : seen w ≡ record { view = v.view; stale = false } = ap₂ (λ (x : View) (b : Bool). record { view = x; stale = b }) view fresh in
-    ap all_seen u.new_is ∙ by u.front place u.front_is is ∙ ap (λ (l : List (List ℕ × OpenView A)). current_at place (all_seen l)) (sym u.old_is)
+    ap all_seen u.new_is ∙ by u.front index u.front_is is ∙ ap (λ (l : List (List ℕ × OpenView A)). current_at index (all_seen l)) (sym u.old_is)
   where
-    by : (front : List (List ℕ × OpenView A)) (place : ℕ) → length front ≡ place → seen w ≡ record { view = v.view; stale = false }
-        → all_seen (front ++ (u.name, w) ∷ u.more) ≡ current_at place (all_seen (front ++ (u.name, v) ∷ u.more))
+    by : (front : List (List ℕ × OpenView A)) (index : ℕ) → length front ≡ index → seen w ≡ record { view = v.view; stale = false }
+        → all_seen (front ++ (u.name, w) ∷ u.more) ≡ current_at index (all_seen (front ++ (u.name, v) ∷ u.more))
     by [] zero at is = ap (λ (s : Shown). (u.name, s) ∷ all_seen u.more) is
-    by [] (suc place) at is = absurd (omega (arith, at))
+    by [] (suc index) at is = absurd (omega (arith, at))
     by (e ∷ front) zero at is = absurd (omega (arith, at))
-    by (e ∷ front) (suc place) at is = ap (λ (l : List (List ℕ × Shown)). (e.0, seen e.1) ∷ l) (by front place (omega (arith, at)) is)
+    by (e ∷ front) (suc index) at is = ap (λ (l : List (List ℕ × Shown)). (e.0, seen e.1) ∷ l) (by front index (omega (arith, at)) is)
 
 -- what is at one index is the same
 pub same-there : {X : Type 0} {o : Option X} (x y : X) → o ≡ Some x → o ≡ Some y → x ≡ y
 same-there x y first second = let both : Some x ≡ Some y = sym first ∙ second in cc (both)
 
 -- a view that is current stays as it is
-pub current-same : (place : ℕ) (views : List (List ℕ × Shown)) (v : List ℕ × Shown) → slice_get views place ≡ Some v → v.1.stale ≡ false → views ≡ current_at place views
-current-same place [] v found is = refl
+pub current-same : (index : ℕ) (views : List (List ℕ × Shown)) (v : List ℕ × Shown) → slice_get views index ≡ Some v → v.1.stale ≡ false → views ≡ current_at index views
+current-same index [] v found is = refl
 current-same zero (e ∷ views) v found is =
     let same : e ≡ v = cc (found) in
     let fresh : e.1 ≡ record e.1 { stale = false } = ap (λ (b : Bool). record e.1 { stale = b }) (ap (λ (u : List ℕ × Shown). u.1.stale) same ∙ is) in
     ap (λ (s : Shown). (e.0, s) ∷ views) fresh
-current-same (suc place) (e ∷ views) v found is = ap (λ (l : List (List ℕ × Shown)). e ∷ l) (current-same place views v found is)
+current-same (suc index) (e ∷ views) v found is = ap (λ (l : List (List ℕ × Shown)). e ∷ l) (current-same index views v found is)
 
 -- ---- the view of a name, by its index
 
 module _ {A : Type 0} (name : List ℕ) where
   -- the key at an index is the first of the name
   abbrev IsFirst : List (List ℕ × OpenView A) → ℕ → Type 0
-  IsFirst [] place = ⊥
+  IsFirst [] index = ⊥
   IsFirst (e ∷ es) zero = bytes_eq name e.0 ≡ true
-  IsFirst (e ∷ es) (suc place) = (bytes_eq name e.0 ≡ false) × IsFirst es place
+  IsFirst (e ∷ es) (suc index) = (bytes_eq name e.0 ≡ false) × IsFirst es index
 
-  first-of : (es : List (List ℕ × OpenView A)) (place : ℕ) → name_index es name ≡ Some place → IsFirst es place
-  first-of [] place is = absurd (cc (is))
-  first-of (e ∷ es) place is =
-      let p = position-Some (bytes_eq name) (keys_of (e ∷ es)) place e.0 is in
-      by (e ∷ es) place p.0 p.1 p.2
+  first-of : (es : List (List ℕ × OpenView A)) (index : ℕ) → name_index es name ≡ Some index → IsFirst es index
+  first-of [] index is = absurd (cc (is))
+  first-of (e ∷ es) index is =
+      let p = position-Some (bytes_eq name) (keys_of (e ∷ es)) index e.0 is in
+      by (e ∷ es) index p.0 p.1 p.2
     where
       by : (xs : List (List ℕ × OpenView A)) (i : ℕ) → i < length (keys_of xs) → bytes_eq name (get_or (keys_of xs) i e.0) ≡ true → ((k : ℕ) → k < i → bytes_eq name (get_or (keys_of xs) k e.0) ≡ false) → IsFirst xs i
       by [] i within here before = absurd (omega (arith, within))
       by (x ∷ xs) zero within here before = here
       by (x ∷ xs) (suc i) within here before = (before 0 (omega arith), by xs i (omega (arith, within)) here (λ k low. before (suc k) (omega (arith, low))))
 
-  pub placed-current : (es : List (List ℕ × OpenView A)) (place : ℕ) → name_index es name ≡ Some place
-      → current_at place (all_seen es) ≡ with_current (all_seen es) name
-  placed-current es place is = by es place (first-of es place is)
+  pub placed-current : (es : List (List ℕ × OpenView A)) (index : ℕ) → name_index es name ≡ Some index
+      → current_at index (all_seen es) ≡ with_current (all_seen es) name
+  placed-current es index is = by es index (first-of es index is)
     where
-      by : (es : List (List ℕ × OpenView A)) (place : ℕ) → IsFirst es place → current_at place (all_seen es) ≡ with_current (all_seen es) name
-      by [] place first = absurd first
+      by : (es : List (List ℕ × OpenView A)) (index : ℕ) → IsFirst es index → current_at index (all_seen es) ≡ with_current (all_seen es) name
+      by [] index first = absurd first
       by (e ∷ es) zero first =
           sym (ap (λ (b : Bool). if b then (e.0, current (seen e.1)) ∷ all_seen es else (e.0, seen e.1) ∷ with_current (all_seen es) name) first)
-      by (e ∷ es) (suc place) first =
-          ap (λ (l : List (List ℕ × Shown)). (e.0, seen e.1) ∷ l) (by es place first.1)
+      by (e ∷ es) (suc index) first =
+          ap (λ (l : List (List ℕ × Shown)). (e.0, seen e.1) ∷ l) (by es index first.1)
           ∙ sym (ap (λ (b : Bool). if b then (e.0, current (seen e.1)) ∷ all_seen es else (e.0, seen e.1) ∷ with_current (all_seen es) name) first.0)
 
   -- the view of the name is the one at the index
-  pub placed-stale : (es : List (List ℕ × OpenView A)) (place : ℕ) → name_index es name ≡ Some place
-      → IfSome (slice_get (all_seen es) place) (λ v. v.1.stale ≡ true) → IfSome (lookup (bytes_eq name) (all_seen es)) (λ v. v.stale ≡ true)
-  placed-stale es place is = by es place (first-of es place is)
+  pub placed-stale : (es : List (List ℕ × OpenView A)) (index : ℕ) → name_index es name ≡ Some index
+      → IfSome (slice_get (all_seen es) index) (λ v. v.1.stale ≡ true) → IfSome (lookup (bytes_eq name) (all_seen es)) (λ v. v.stale ≡ true)
+  placed-stale es index is = by es index (first-of es index is)
     where
-      by : (es : List (List ℕ × OpenView A)) (place : ℕ) → IsFirst es place
-          → IfSome (slice_get (all_seen es) place) (λ v. v.1.stale ≡ true) → IfSome (lookup (bytes_eq name) (all_seen es)) (λ v. v.stale ≡ true)
-      by [] place first stale = absurd first
+      by : (es : List (List ℕ × OpenView A)) (index : ℕ) → IsFirst es index
+          → IfSome (slice_get (all_seen es) index) (λ v. v.1.stale ≡ true) → IfSome (lookup (bytes_eq name) (all_seen es)) (λ v. v.stale ≡ true)
+      by [] index first stale = absurd first
       by (e ∷ es) zero first stale =
           subst (λ (b : Bool). IfSome (if b then Some (seen e.1) else lookup (bytes_eq name) (all_seen es)) (λ v. v.stale ≡ true)) (sym first) stale
-      by (e ∷ es) (suc place) first stale =
-          subst (λ (b : Bool). IfSome (if b then Some (seen e.1) else lookup (bytes_eq name) (all_seen es)) (λ v. v.stale ≡ true)) (sym first.0) (by es place first.1 stale)
+      by (e ∷ es) (suc index) first stale =
+          subst (λ (b : Bool). IfSome (if b then Some (seen e.1) else lookup (bytes_eq name) (all_seen es)) (λ v. v.stale ≡ true)) (sym first.0) (by es index first.1 stale)
 
   -- if no view has the name, none is made current
   pub unplaced : (es : List (List ℕ × OpenView A)) → name_index es name ≡ None → all_seen es ≡ with_current (all_seen es) name
@@ -627,22 +601,22 @@ module _ {A : Type 0} (name : List ℕ) where
           head false none more = ap (λ (l : List (List ℕ × Shown)). (e.0, seen e.1) ∷ l) (more none)
 
 -- if the view of a name was found at an index, then it is the one at the index
-pub stale-named : {A : Type 0} (name : List ℕ) (inside views : List (List ℕ × OpenView A)) (place : ℕ) (v : OpenView A) → inside ≡ views → Some place ≡ name_index inside name
-    → Some v ≡ lookup (bytes_eq name) inside → IfSome (slice_get (all_seen views) place) (λ v. v.1.stale ≡ true) → IsSomeAnd (lookup (bytes_eq name) (all_seen views)) (λ v. v.stale ≡ true)
-stale-named name inside views place v same at found stale =
-    let is = placed-stale name views place (ap (λ l. name_index l name) (sym same) ∙ sym at) stale in
+pub stale-named : {A : Type 0} (name : List ℕ) (inside views : List (List ℕ × OpenView A)) (index : ℕ) (v : OpenView A) → inside ≡ views → Some index ≡ name_index inside name
+    → Some v ≡ lookup (bytes_eq name) inside → IfSome (slice_get (all_seen views) index) (λ v. v.1.stale ≡ true) → IsSomeAnd (lookup (bytes_eq name) (all_seen views)) (λ v. v.stale ≡ true)
+stale-named name inside views index v same at found stale =
+    let is = placed-stale name views index (ap (λ l. name_index l name) (sym same) ∙ sym at) stale in
     let some = ap (option_map seen) (found ∙ ap (lookup (bytes_eq name)) same) ∙ sym (seen-lookup name views) in
     subst (λ o. IfSome o (λ v. v.stale ≡ true) → IsSomeAnd o (λ v. v.stale ≡ true)) some (λ is. is) is
 
 -- ---- the view at an index of a map is written
 
-module _ {A : Type 0} (old : List (List ℕ × OpenView A)) (es : List (List ℕ × OpenView A)) (same : es ≡ old) (place : ℕ) (v : OpenView A) (found : slice_get (values_of es) place ≡ Some v) where
-  written-in : (w : OpenView A) → Written old (set_value_at es place w) place v w
-  written-in w = subst (λ (l : List (List ℕ × OpenView A)). Written l (set_value_at es place w) place v w) same (written-at es place v w found)
+module _ {A : Type 0} (old : List (List ℕ × OpenView A)) (es : List (List ℕ × OpenView A)) (same : es ≡ old) (index : ℕ) (v : OpenView A) (found : slice_get (values_of es) index ≡ Some v) where
+  written-in : (w : OpenView A) → Written old (set_value_at es index w) index v w
+  written-in w = subst (λ (l : List (List ℕ × OpenView A)). Written l (set_value_at es index w) index v w) same (written-at es index v w found)
 
   -- the view at the index, as contracts see it
-  pub seen-at-place : (n : List ℕ) × (slice_get (all_seen old) place ≡ Some (n, seen v))
-  seen-at-place = let at = view-at old es same place v found in (at.0, by old place at.1)
+  pub seen-at-index : (n : List ℕ) × (slice_get (all_seen old) index ≡ Some (n, seen v))
+  seen-at-index = let at = view-at old es same index v found in (at.0, by old index at.1)
     where
       by : {n : List ℕ} (views : List (List ℕ × OpenView A)) (i : ℕ) → slice_get views i ≡ Some (n, v) → slice_get (all_seen views) i ≡ Some (n, seen v)
       by [] i is = absurd (cc (is))
@@ -650,33 +624,33 @@ module _ {A : Type 0} (old : List (List ℕ × OpenView A)) (es : List (List ℕ
       by (x ∷ views) (suc i) is = by views i is
 
   -- it is current already
-  pub current-there : v.stale ≡ false → all_seen old ≡ current_at place (all_seen old)
-  current-there fresh = current-same place (all_seen old) (seen-at-place.0, seen v) seen-at-place.1 fresh
+  pub current-there : v.stale ≡ false → all_seen old ≡ current_at index (all_seen old)
+  current-there fresh = current-same index (all_seen old) (seen-at-index.0, seen v) seen-at-index.1 fresh
 
-  pub stale-there : v.stale ≡ true → IfSome (slice_get (all_seen old) place) (λ u. u.1.stale ≡ true)
-  stale-there stale = subst (λ (o : Option (List ℕ × Shown)). IfSome o (λ u. u.1.stale ≡ true)) (sym seen-at-place.1) stale
+  pub stale-there : v.stale ≡ true → IfSome (slice_get (all_seen old) index) (λ u. u.1.stale ≡ true)
+  stale-there stale = subst (λ (o : Option (List ℕ × Shown)). IfSome o (λ u. u.1.stale ≡ true)) (sym seen-at-index.1) stale
 
   -- it is rebuilt
   module _ (w : OpenView A) (state : Option (KeptState A)) (is : w ≡ renewed v.view state) where
-    pub renewed-in : (names : List (List ℕ)) (records : List RecordValue) → v.stale ≡ true → IsMissing (all_owned old) v.view names records state → AreRight old names records → AreRight (set_value_at es place w) names records
+    pub renewed-in : (names : List (List ℕ)) (records : List RecordValue) → v.stale ≡ true → IsMissing (all_owned old) v.view names records state → AreRight old names records → AreRight (set_value_at es index w) names records
     renewed-in names records stale missing right =
-        subst (λ (x : OpenView A). AreRight (set_value_at es place x) names records) (sym is)
-        (renewed-right names records old (set_value_at es place (renewed v.view state)) place v state (written-in (renewed v.view state)) stale missing right)
+        subst (λ (x : OpenView A). AreRight (set_value_at es index x) names records) (sym is)
+        (renewed-right names records old (set_value_at es index (renewed v.view state)) index v state (written-in (renewed v.view state)) stale missing right)
 
-    pub renewed-seen : all_seen (set_value_at es place w) ≡ current_at place (all_seen old)
-    renewed-seen = written-current old (set_value_at es place w) place v w (written-in w) (ap (λ (x : OpenView A). x.view) is) (ap (λ (x : OpenView A). x.stale) is)
+    pub renewed-seen : all_seen (set_value_at es index w) ≡ current_at index (all_seen old)
+    renewed-seen = written-current old (set_value_at es index w) index v w (written-in w) (ap (λ (x : OpenView A). x.view) is) (ap (λ (x : OpenView A). x.stale) is)
 
   -- it takes a state over
   module _ (w : OpenView A) (k : KeptState A) (is : w ≡ with_state v k) where
     pub handed-in : (what : StateKey) (closed : View) (names : List (List ℕ)) (records : List RecordValue) → state_key_of closed ≡ Some what
-        → IfSome (slice_get old place) (λ u. (u.1.stale ≡ false) × (state_key_of u.1.view ≡ Some what)) → AreOwnRight old names records → HaveStates (state_key_of closed ∷ all_owned old) (all_seen old)
-        → (state_key_of closed ≡ Some (built_for k)) × IsRight k names records → AreRight (set_value_at es place w) names records
+        → IfSome (slice_get old index) (λ u. (u.1.stale ≡ false) × (state_key_of u.1.view ≡ Some what)) → AreOwnRight old names records → HaveStates (state_key_of closed ∷ all_owned old) (all_seen old)
+        → (state_key_of closed ≡ Some (built_for k)) × IsRight k names records → AreRight (set_value_at es index w) names records
     handed-in what closed names records kept needs right have state =
-        let here = subst (λ (o : Option (List ℕ × OpenView A)). IfSome o (λ u. (u.1.stale ≡ false) × (state_key_of u.1.view ≡ Some what))) (view-at old es same place v found).1 needs in
-        subst (λ (x : OpenView A). AreRight (set_value_at es place x) names records) (sym is)
-        (handed-right names records old (set_value_at es place (with_state v k)) place v k what closed (written-in (with_state v k)) here.0 here.1 kept right have state)
+        let here = subst (λ (o : Option (List ℕ × OpenView A)). IfSome o (λ u. (u.1.stale ≡ false) × (state_key_of u.1.view ≡ Some what))) (view-at old es same index v found).1 needs in
+        subst (λ (x : OpenView A). AreRight (set_value_at es index x) names records) (sym is)
+        (handed-right names records old (set_value_at es index (with_state v k)) index v k what closed (written-in (with_state v k)) here.0 here.1 kept right have state)
 
-    pub handed-seen : all_seen (set_value_at es place w) ≡ all_seen old
+    pub handed-seen : all_seen (set_value_at es index w) ≡ all_seen old
     handed-seen =
         let u = written-in w in
         let shown : seen w ≡ seen v = ap (λ (x : OpenView A). seen x) is in

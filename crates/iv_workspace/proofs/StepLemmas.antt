@@ -107,17 +107,17 @@ printed-within part inside s more old mid new same are steps within fresh =
 -- ---- building again
 
 -- the view of a name was looked at: a step was taken only if it is stale
-pub named-stale : {A : Type 0} (before after : ℕ) (name : List ℕ) (inside views : List (List ℕ × OpenView A)) (place : ℕ) (v : OpenView A) → inside ≡ views → Some place ≡ name_index inside name
-    → Some v ≡ lookup (bytes_eq name) inside → (after ≡ before) ⊎ IfSome (slice_get (all_seen views) place) (λ v. v.1.stale ≡ true)
+pub named-stale : {A : Type 0} (before after : ℕ) (name : List ℕ) (inside views : List (List ℕ × OpenView A)) (index : ℕ) (v : OpenView A) → inside ≡ views → Some index ≡ name_index inside name
+    → Some v ≡ lookup (bytes_eq name) inside → (after ≡ before) ⊎ IfSome (slice_get (all_seen views) index) (λ v. v.1.stale ≡ true)
     → (after ≡ before) ⊎ IsSomeAnd (lookup (bytes_eq name) (all_seen views)) (λ v. v.stale ≡ true)
-named-stale before after name inside views place v same at found (inl none) = inl none
-named-stale before after name inside views place v same at found (inr stale) = inr (stale-named name inside views place v same at found stale)
+named-stale before after name inside views index v same at found (inl none) = inl none
+named-stale before after name inside views index v same at found (inr stale) = inr (stale-named name inside views index v same at found stale)
 
 -- one more view was looked at: a step was taken only if some view is stale
-pub either-stale : {A : Type 0} (before after first place : ℕ) (old : List (List ℕ × OpenView A)) (now : List (List ℕ × Shown)) → now ≡ current_to place (all_seen old) → place < length (all_seen old)
-    → (before ≡ first) ⊎ (0 < stale_count (all_seen old)) → (after ≡ before) ⊎ IfSome (slice_get now place) (λ v. v.1.stale ≡ true)
+pub either-stale : {A : Type 0} (before after first index : ℕ) (old : List (List ℕ × OpenView A)) (now : List (List ℕ × Shown)) → now ≡ current_to index (all_seen old) → index < length (all_seen old)
+    → (before ≡ first) ⊎ (0 < stale_count (all_seen old)) → (after ≡ before) ⊎ IfSome (slice_get now index) (λ v. v.1.stale ≡ true)
     → (after ≡ first) ⊎ (0 < stale_count (all_seen old))
-either-stale before after first place old now is within (inr some) later = inr some
-either-stale before after first place old now is within (inl same) (inl next) = inl (next ∙ same)
-either-stale before after first place old now is within (inl same) (inr stale) =
-    inr (stale-among place place (all_seen old) (subst (λ l. IfSome (slice_get l place) (λ v. v.1.stale ≡ true)) is stale) within)
+either-stale before after first index old now is within (inr some) later = inr some
+either-stale before after first index old now is within (inl same) (inl next) = inl (next ∙ same)
+either-stale before after first index old now is within (inl same) (inr stale) =
+    inr (stale-among index index (all_seen old) (subst (λ l. IfSome (slice_get l index) (λ v. v.1.stale ≡ true)) is stale) within)

@@ -90,10 +90,10 @@ impl<A: Allocator + Copy> Views<A> {
     }
 
     /// The name and the view at an index in the order of opening.
-    pub(crate) fn at(&self, place: usize) -> Option<(&[u8], &OpenView<A>)>
-        ensures { option_map (λ p. (p.0.now, p.1.now)) result ≡ slice_get self.now place }
+    pub(crate) fn at(&self, index: usize) -> Option<(&[u8], &OpenView<A>)>
+        ensures { option_map (λ p. (p.0.now, p.1.now)) result ≡ slice_get self.now index }
     {
-        self.views.at(place)
+        self.views.at(index)
     }
 
     /// How many views are stale.
@@ -101,8 +101,8 @@ impl<A: Allocator + Copy> Views<A> {
         ensures { result ≡ stale_count (all_seen self.now) }
     {
         let mut count = 0;
-        for place in 0..self.views.len() {
-            if self.views[place].stale {
+        for index in 0..self.views.len() {
+            if self.views[index].stale {
                 count += 1;
             }
         }
@@ -172,11 +172,11 @@ impl<A: Allocator + Copy> Views<A> {
         ensures stale { OnErr result (IsSomeAnd (view_named (all_seen self.old) name.now) (λ v. v.stale ≡ true)) }
         ensures steps { (meter.new ≡ meter.old) ⊎ IsSomeAnd (view_named (all_seen self.old) name.now) (λ v. v.stale ≡ true) }
     {
-        let Some((place, opened)) = self.views.find(name) else {
+        let Some((index, opened)) = self.views.find(name) else {
             return Ok(None);
         };
         let view = opened.view;
-        self.refresh_at(place, alloc, track, genome, meter)?;
+        self.refresh_at(index, alloc, track, genome, meter)?;
         Ok(Some(view))
     }
 
@@ -196,8 +196,8 @@ impl<A: Allocator + Copy> Views<A> {
         ensures stale { OnErr result (0 < stale_count (all_seen self.old)) }
         ensures steps { (meter.new ≡ meter.old) ⊎ (0 < stale_count (all_seen self.old)) }
     {
-        for place in 0..self.views.len() {
-            self.refresh_at(place, alloc, track, genome, meter)?;
+        for index in 0..self.views.len() {
+            self.refresh_at(index, alloc, track, genome, meter)?;
         }
         Ok(())
     }
@@ -206,27 +206,27 @@ impl<A: Allocator + Copy> Views<A> {
     /// stale. An error changes nothing.
     fn refresh_at(
         &mut self,
-        place: usize,
+        index: usize,
         alloc: A,
         track: &Track<A>,
         genome: &Genome<A>,
         meter: &mut Meter,
     ) -> Result<(), AllocError>
-        requires within { place < length self.old }
+        requires within { index < length self.old }
         requires right { AreRight self.old (names_of genome.now) track.now.records }
         requires fit { All (Fits genome.now track.now.width) track.now.records }
         ensures right { AreRight self.new (names_of genome.now) track.now.records }
-        ensures ok { OnOk result (all_seen self.new ≡ current_at place (all_seen self.old)) }
+        ensures ok { OnOk result (all_seen self.new ≡ current_at index (all_seen self.old)) }
         ensures err { OnErr result (self.new ≡ self.old) }
-        ensures stale { OnErr result (IfSome (slice_get (all_seen self.old) place) (λ v. v.1.stale ≡ true)) }
-        ensures steps { (meter.new ≡ meter.old) ⊎ IfSome (slice_get (all_seen self.old) place) (λ v. v.1.stale ≡ true) }
+        ensures stale { OnErr result (IfSome (slice_get (all_seen self.old) index) (λ v. v.1.stale ≡ true)) }
+        ensures steps { (meter.new ≡ meter.old) ⊎ IfSome (slice_get (all_seen self.old) index) (λ v. v.1.stale ≡ true) }
     {
-        let opened = &self.views[place];
+        let opened = &self.views[index];
         if !opened.stale {
             return Ok(());
         }
         let state = self.missing_state(alloc, opened.view, track, genome, meter)?;
-        let opened = &mut self.views[place];
+        let opened = &mut self.views[index];
         opened.renew(state);
         Ok(())
     }

@@ -1,5 +1,4 @@
 //! Files in memory, and hints over them.
-use iv_bytes::MemSource;
 use iv_cli::ExitReason;
 use iv_hints::{HintFiles, NoFile, hint_of};
 use std::alloc::{AllocError, Global};
@@ -18,11 +17,11 @@ pub(crate) struct MemHintFiles<'a> {
 }
 
 impl<'a> HintFiles for MemHintFiles<'a> {
-    type File = MemSource<'a>;
+    type File = &'a [u8];
 
-    fn open(&mut self, name: &[u8]) -> Result<MemSource<'a>, NoFile> {
+    fn open(&mut self, name: &[u8]) -> Result<&'a [u8], NoFile> {
         match self.files.iter().find(|file| file.name == name) {
-            Some(file) => Ok(MemSource::new(file.bytes, 1_000_000, 7)),
+            Some(file) => Ok(file.bytes),
             None if name == b"folder".as_slice() => Err(NoFile::Directory),
             None if name == b"secret".as_slice() => Err(NoFile::Forbidden),
             None if name.starts_with(b"/dev/") => Err(NoFile::Other),

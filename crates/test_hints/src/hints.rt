@@ -428,92 +428,92 @@ fn are_quiet(rt: &HostRuntime, table: &[&[u8]]) -> Result<bool, Fail> {
     Ok(true)
 }
 
-/// Lines of a script, the numbers of their faults, and the hints on them, over the files above.
-const REFUSALS: &[(u8, &[u8], &[u8])] = &[
+/// Lines of a script, their faults, and the hints on them, over the files above.
+const REFUSALS: &[(Fault, &[u8], &[u8])] = &[
     (
-        1,
+        Fault::Command,
         b"add chr1 1 2 x 2.5",
         b"line 9: a TAB, and no space, follows add: sed '/^open/!s/  */\\t/g' FILE writes them",
     ),
     (
-        2,
+        Fault::Columns,
         b"add\tchr1\t1\t2",
         b"line 9: 3 columns, and the track has 5: all are written, a . for what isn't known",
     ),
     (
-        5,
+        Fault::StopNumber,
         b"resize\tchr1\t5000000000",
         b"line 9: the length 5000000000 is above the limit: a sequence has at most 4000000000 positions",
     ),
     (
-        11,
+        Fault::Absent,
         b"remove\tchr1\t1\t2\tx\t9",
         b"line 9: all 5 columns count, and a has chr1\\t1\\t2\\tx\\t2.5\n  python3 -m bedkeep replay shows the nearest record of each such line",
     ),
     (
-        16,
+        Fault::Words,
         b"open\tm\tmrege",
         b"line 9: mrege is no view: is merge meant?",
     ),
     (
-        1,
+        Fault::Command,
         b"show\tm\tchr1:10-20",
         b"line 9: show has after it a name, a sequence, a start and an end, in four fields; fields here: 2",
     ),
     (
-        1,
+        Fault::Command,
         b"showall\tm\tchr1\t10\t20",
         b"line 9: showall has after it a sequence, a start and an end, in three fields; fields here: 4",
     ),
     (
-        3,
+        Fault::UnknownSeq,
         b"show\tm\tchr2\t1\t2",
         b"line 9: the genome file has no chr2, and has 2: write that",
     ),
     (
-        3,
+        Fault::UnknownSeq,
         b"showall\tchr3\t2\t9",
         b"line 9: the genome file has no chr3: cut -f1 GENOME prints its names",
     ),
     (
-        4,
+        Fault::StartNumber,
         b"show\tm\tchr1\t1,000\t2,000",
         b"line 9: the start is \"1,000\": without commas",
     ),
     (
-        5,
+        Fault::StopNumber,
         b"showall\tchr1\t1\t-2",
         b"line 9: the end is \"-2\": the first position is 0",
     ),
     (
-        6,
+        Fault::Order,
         b"show\tm\tchr1\t20\t10",
         b"line 9: the start 20 isn't below the end 10: exchange the two, if that is meant",
     ),
     (
-        7,
+        Fault::PastEnd,
         b"show\tm\t2\t1\t501",
         b"line 9: the end is 501, and 2 has 500 bases in the genome file: a region ends there at most",
     ),
     (
-        7,
+        Fault::PastEnd,
         b"showall\t2\t1\t500",
         b"line 9: the end is 500, and a resize before has made 2 shorter",
     ),
     (
-        21,
+        Fault::NoView,
         b"show\tn\tchr1\t1\t2",
         b"line 9: no view n is open: its open was refused, it was closed, or it has another name",
     ),
 ];
 
 /// Whether the hints on refused lines are these.
-fn are_hints_on_refusals(rt: &HostRuntime, table: &[(u8, &[u8], &[u8])]) -> Result<bool, Fail> {
+fn are_hints_on_refusals(rt: &HostRuntime, table: &[(Fault, &[u8], &[u8])]) -> Result<bool, Fail> {
     let words = words_of(rt.alloc(), b"session -g g -i a")?;
-    for (code, line, expected) in table {
+    for (fault, line, expected) in table {
         let refusal = Refusal {
             number: 9,
-            code: *code,
+            fault: Some(*fault),
         };
         let expected = hint_text(rt.alloc(), expected)?;
         let files = &mut MemHintFiles { files: FILES };

@@ -24,7 +24,7 @@ fn statuses_of_damage(rt: HostRuntime) {
     }
 }
 
-/// The statuses of words that are refused, of an output that fails, and if there is no memory.
+/// The statuses of arguments that are refused, of an output that fails, and if there is no memory.
 fn other_statuses() -> [u8; 3] {
     [
         status(&CliFault::Words(Fault::Words)),

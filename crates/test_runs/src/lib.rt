@@ -1,4 +1,4 @@
-//! Tests of runs: their words, their files, and what each subcommand prints.
+//! Tests of runs: their arguments, their files, and what each subcommand prints.
 #![tactic(auto)]
 
 #[cfg(test)]

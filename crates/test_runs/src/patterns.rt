@@ -68,7 +68,7 @@ fn places(from: u64, to: u64, tail: &str, numbered: bool) -> Pattern<'_> {
 /// A run, and what it prints.
 #[derive(Clone, Copy)]
 pub(crate) struct Case<'a> {
-    /// Its words, separated by spaces.
+    /// Its arguments, separated by spaces.
     pub(crate) words: &'a [u8],
     first: Pattern<'a>,
     second: Option<Pattern<'a>>,

@@ -11,7 +11,7 @@ use std::io::ErrorKind;
 use std::test::Fail;
 use test_faults::{Bad, Device, FAILURES};
 
-/// The words of a merge.
+/// The arguments of a merge.
 const MERGE: &[u8] = b"merge -g g -i a";
 
 /// Two records that are one block, in 22 bytes: these come in eight reads, and the ninth one says that the file ends.
@@ -181,7 +181,7 @@ fn as_many_records_as_the_limit(rt: HostRuntime) -> Result<(), Fail> {
     Ok(())
 }
 
-/// Whether a run of these words into room for so many bytes prints just what has room of these rows, and reports it if that is
+/// Whether a run of these arguments into room for so many bytes prints just what has room of these rows, and reports it if that is
 /// not all.
 fn fills(
     rt: &HostRuntime,

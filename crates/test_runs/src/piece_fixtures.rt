@@ -46,7 +46,7 @@ pub(crate) const SHORT: Setting<'static> = Setting {
     records: 100,
 };
 
-/// The plan of words that are separated by spaces.
+/// The plan of arguments that are separated by spaces.
 pub(crate) fn plan_of<'a>(rt: &HostRuntime, text: &'a [u8]) -> Result<Plan<'a>, Fail> {
     let words = words_of(rt.alloc(), text)?;
     Ok(Plan::read(rt.alloc(), words.as_slice())?)
@@ -93,7 +93,7 @@ fn ends_by<S: Source>(
     Ok(ended == want.0 && sink.bytes() == want.1)
 }
 
-/// The same of words that are separated by spaces.
+/// The same of arguments that are separated by spaces.
 pub(crate) fn ends_over<S: Source>(
     rt: &HostRuntime,
     words: &[u8],

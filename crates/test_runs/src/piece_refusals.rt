@@ -27,7 +27,7 @@ fn is_refused<'a>(
     }
 }
 
-/// The same from its words on.
+/// The same from its arguments on.
 fn run(
     alloc: &RefusesNth<Global>,
     words: &[&[u8]],
@@ -123,7 +123,7 @@ fn lost_by<'a>(
     }
 }
 
-/// The same from its words on, whose allocations do not fail.
+/// The same from its arguments on, whose allocations do not fail.
 fn lost_run(rt: &HostRuntime, alloc: &RefusesNth<Global>, bad: Bad) -> Result<u32, Fail> {
     let granting = RefusesNth::new(rt.alloc(), u64::MAX);
     let plan = Plan::read(&granting, &[b"merge", b"-g", b"g", b"-i", b"a"])?;

@@ -6,13 +6,13 @@ use iv_run::IntervalsView;
 use iv_text::{LoadCause, RecordFault};
 use std::test::Fail;
 
-/// Whether a run of these words, separated by spaces, reads its BED file in pieces.
+/// Whether a run of these arguments, separated by spaces, reads its BED file in pieces.
 fn is_in_pieces(rt: &HostRuntime, words: &[u8]) -> Result<bool, Fail> {
     let plan = plan_of(rt, words)?;
     Ok(IntervalsView::of_plan(&plan).is_some())
 }
 
-/// Whether each run of these words does, or none.
+/// Whether each run of these arguments does, or none.
 fn are_in_pieces(rt: &HostRuntime, runs: &[&[u8]], want: bool) -> Result<bool, Fail> {
     for words in runs {
         if is_in_pieces(rt, words)? != want {
@@ -56,7 +56,7 @@ fn runs_that_read_in_pieces(rt: HostRuntime) -> Result<(), Fail> {
     Ok(())
 }
 
-/// Whether a run of these words prints these rows of a file, in whatever pieces it comes.
+/// Whether a run of these arguments prints these rows of a file, in whatever pieces it comes.
 fn prints_each(rt: &HostRuntime, words: &[u8], text: &[u8], rows: &[u8]) -> Result<bool, Fail> {
     for piece in [1, 2, 3, 7, 1_000] {
         if !ends(rt, words, SHORT, text, piece, (DONE, rows))? {
@@ -66,7 +66,7 @@ fn prints_each(rt: &HostRuntime, words: &[u8], text: &[u8], rows: &[u8]) -> Resu
     Ok(true)
 }
 
-/// Whether a run of these words prints these rows of a file, in pieces and at once.
+/// Whether a run of these arguments prints these rows of a file, in pieces and at once.
 fn prints_both(rt: &HostRuntime, words: &[u8], text: &[u8], rows: &[u8]) -> Result<bool, Fail> {
     let in_pieces = prints_each(rt, words, text, rows)?;
     Ok(in_pieces && prints(rt, words, &alone(text), rows)?)
@@ -77,7 +77,7 @@ fn prints_both(rt: &HostRuntime, words: &[u8], text: &[u8], rows: &[u8]) -> Resu
 const UNSORTED: &[u8] =
     b"track x\r\nchr2\t5\t9\tn\r\nchr1\t40\t50\tm\r\n\r\nchr1\t30\t40\tl\r\nchr1\t10\t40\tk";
 
-/// Whether each run of these words prints these rows of this file, in pieces and at once.
+/// Whether each run of these arguments prints these rows of this file, in pieces and at once.
 fn print_both(rt: &HostRuntime, runs: &[(&[u8], &[u8], &[u8])]) -> Result<bool, Fail> {
     for (words, text, rows) in runs {
         if !prints_both(rt, words, text, rows)? {

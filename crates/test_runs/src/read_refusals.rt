@@ -1,4 +1,4 @@
-//! Each allocation of reading a file, of reading the words of a run and of beginning a session, refused in turn.
+//! Each allocation of reading a file, of reading the arguments of a run and of beginning a session, refused in turn.
 use crate::shot_fixtures::times_refused;
 use iv_args::{Plan, Slot};
 use iv_bytes::{MemSink, MemSource};
@@ -61,25 +61,25 @@ fn each_growth_of_a_file_refused(rt: HostRuntime) -> Result<(), Fail> {
     Ok(())
 }
 
-/// Words of a merge, with options between them.
+/// Arguments of a merge, with options between them.
 const WORDS: [&[u8]; 12] = [
     b"merge", b"-d", b"7", b"-g", b"g", b"-c", b"4,5", b"-i", b"a", b"-width", b"6", b"-s",
 ];
 
-/// Whether a plan is that of those words.
+/// Whether a plan is that of those arguments.
 fn is_merge<'a>(plan: &Plan<'_, &'a RefusesNth<Global>>) -> bool {
     let view: [&[u8]; 6] = [b"merge", b"-d", b"7", b"-c", b"4,5", b"-s"];
     let has_files = (plan.file(Slot::Sizes) == Some(b"g")) & (plan.file(Slot::First) == Some(b"a"));
     (plan.view_arguments() == view.as_slice()) & (plan.width() == 6) & has_files
 }
 
-/// Whether reading those words gives their plan.
+/// Whether reading those arguments gives their plan.
 fn is_plan_read(alloc: &RefusesNth<Global>) -> Result<bool, Fault> {
     let plan = Plan::read(alloc, &WORDS)?;
     Ok(is_merge(&plan))
 }
 
-/// Reads those words, and answers how often an allocation failed, once or never.
+/// Reads those arguments, and answers how often an allocation failed, once or never.
 fn refused_plan(alloc: &RefusesNth<Global>) -> Result<u32, Fail> {
     match is_plan_read(alloc) {
         Ok(true) => Ok(0),

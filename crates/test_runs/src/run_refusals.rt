@@ -57,7 +57,7 @@ fn copied<'a>(
     }
 }
 
-/// How many records the track of the files holds, `None` if an allocation fails. That of the words isn't.
+/// How many records the track of the files holds, `None` if an allocation fails. That of the arguments isn't.
 fn loaded(
     rt: &HostRuntime,
     alloc: &RefusesNth<Global>,

@@ -65,7 +65,7 @@ fn loaded_in_pieces(
     }
 }
 
-/// What words, separated by spaces, and files alone load, in both ways.
+/// What arguments, separated by spaces, and files alone load, in both ways.
 fn loaded(
     rt: &HostRuntime,
     text: &[u8],
@@ -83,7 +83,7 @@ fn loaded(
     }
 }
 
-/// Words of a session of all files, with the width of a file without a record.
+/// Arguments of a session of all files, with the width of a file without a record.
 const WORDS: &[u8] = b"session -g g -i a -b b -fi f -width 3";
 
 /// Whether files load so, without a FASTA file.

@@ -103,7 +103,7 @@ pub(crate) fn ends_within(
     Ok(true)
 }
 
-/// Whether a run of these words, separated by spaces, ends so and has printed just this.
+/// Whether a run of these arguments, separated by spaces, ends so and has printed just this.
 pub(crate) fn ends(
     rt: &HostRuntime,
     text: &[u8],
@@ -126,7 +126,7 @@ pub(crate) fn prints(
     ends(rt, text, inputs, None, None, printed)
 }
 
-/// Whether each run of these words prints these rows of the same files, and is done.
+/// Whether each run of these arguments prints these rows of the same files, and is done.
 pub(crate) fn prints_each(
     rt: &HostRuntime,
     inputs: &Inputs<'_>,

@@ -36,7 +36,7 @@ fn wrong_rooms_by(
     Ok(wrong)
 }
 
-/// The same of a run of these words, separated by spaces.
+/// The same of a run of these arguments, separated by spaces.
 fn wrong_rooms(
     rt: &HostRuntime,
     text: &[u8],

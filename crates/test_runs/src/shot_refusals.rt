@@ -35,7 +35,7 @@ fn is_refused<'a>(
     }
 }
 
-/// Whether a run runs out of memory, from its words on.
+/// Whether a run runs out of memory, from its arguments on.
 fn run<'a>(
     alloc: &'a RefusesNth<Global>,
     words: &[&[u8]],
@@ -73,7 +73,7 @@ fn refused_runs_by(rt: &HostRuntime, words: &[&[u8]], run_of: Shot<'_>) -> Resul
     )
 }
 
-/// The same of words that are separated by spaces.
+/// The same of arguments that are separated by spaces.
 fn refused_runs(rt: &HostRuntime, text: &[u8], run_of: Shot<'_>) -> Result<u32, Fail> {
     let words = words_of(rt.alloc(), text)?;
     refused_runs_by(rt, words.as_slice(), run_of)
@@ -98,7 +98,7 @@ fn each_growth_of_each_subcommand_refused(rt: HostRuntime) -> Result<(), Fail> {
     Ok(())
 }
 
-/// Words of runs, the first file and the second one, and the rows.
+/// Arguments of runs, the first file and the second one, and the rows.
 const FEW: [(&[u8], &[u8], Option<&[u8]>, &[u8]); 3] = [
     (
         b"merge -c 4 -o distinct -g g -i a",

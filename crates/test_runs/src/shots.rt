@@ -140,7 +140,7 @@ fn complement(rt: HostRuntime) -> Result<(), Fail> {
     Ok(())
 }
 
-/// A file without a record has the width that the words give.
+/// A file without a record has the width that the arguments give.
 #[test]
 fn files_without_a_record(rt: HostRuntime) -> Result<(), Fail> {
     let runs: [(&[u8], &[u8]); 3] = [

@@ -1,15 +1,15 @@
-//! Words of a run.
+//! Arguments of a run.
 use crate::piece_fixtures::plan_of;
 use crate::words_subcommands::has_files;
 use std::test::Fail;
 
-/// Whether these words, separated by spaces, are those of a plan with files of these names and with this width.
+/// Whether these arguments, separated by spaces, are those of a plan with files of these names and with this width.
 fn reads(rt: &HostRuntime, text: &[u8], files: &[u8], width: u8) -> Result<bool, Fail> {
     let plan = plan_of(rt, text)?;
     Ok((plan.width() == width) & has_files(rt, &plan, files)?)
 }
 
-/// Words, the names of their files, with `none` if there is none, and the width.
+/// Arguments, the names of their files, with `none` if there is none, and the width.
 const SESSIONS: [(&[u8], &[u8], u8); 17] = [
     (b"session -g g -i -g", b"g -g none none", 3),
     (b"session -i -g -g g", b"g -g none none", 3),
@@ -30,7 +30,7 @@ const SESSIONS: [(&[u8], &[u8], u8); 17] = [
     (b"session -g g -fi -fi -i a", b"g a none -fi", 3),
 ];
 
-/// Whether each of these words are read so.
+/// Whether each of these arguments are read so.
 fn are_read(rt: &HostRuntime, sessions: &[(&[u8], &[u8], u8)]) -> Result<bool, Fail> {
     for (words, files, width) in sessions {
         if !reads(rt, words, files, *width)? {
@@ -46,7 +46,7 @@ fn words_of_sessions(rt: HostRuntime) -> Result<(), Fail> {
     Ok(())
 }
 
-/// Words, and how many records a file and how many lines a script may have.
+/// Arguments, and how many records a file and how many lines a script may have.
 const LIMITS: [(&[u8], u32); 5] = [
     (b"session -g g -i a", 4_000_000),
     (b"session -limit 1 -g g -i a", 1),
@@ -55,7 +55,7 @@ const LIMITS: [(&[u8], u32); 5] = [
     (b"intersect -g g -a -limit -b b", 4_000_000),
 ];
 
-/// Whether the plans of words have these limits.
+/// Whether the plans of arguments have these limits.
 fn have_limits(rt: &HostRuntime, asked: &[(&[u8], u32)]) -> Result<bool, Fail> {
     for (words, limit) in asked {
         if plan_of(rt, words)?.limit() != *limit {

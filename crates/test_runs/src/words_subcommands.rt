@@ -1,4 +1,4 @@
-//! Words of runs of one subcommand.
+//! Arguments of runs of one subcommand.
 use crate::piece_fixtures::plan_of;
 use iv_args::{Plan, Slot, Subcommand};
 use iv_text::Fault;
@@ -27,12 +27,12 @@ pub(crate) fn has_files(rt: &HostRuntime, plan: &Plan<'_>, names: &[u8]) -> Resu
     Ok(are_names(plan, names.as_slice()))
 }
 
-/// Whether a plan is that of this run, and these are the words of its view.
+/// Whether a plan is that of this run, and these are the arguments of its view.
 fn is_run(plan: &Plan<'_>, run: Subcommand, view: &[&[u8]]) -> bool {
     (plan.run() == run) & !plan.is_script() & (plan.view_arguments() == view)
 }
 
-/// The same of words that are separated by spaces.
+/// The same of arguments that are separated by spaces.
 fn is_run_of(
     rt: &HostRuntime,
     plan: &Plan<'_>,
@@ -43,7 +43,7 @@ fn is_run_of(
     Ok(is_run(plan, run, view.as_slice()))
 }
 
-/// Whether words, separated by spaces, are read as a plan of this run over these files, whose view has these words.
+/// Whether arguments, separated by spaces, are read as a plan of this run over these files, whose view has these arguments.
 fn reads(
     rt: &HostRuntime,
     text: &[u8],
@@ -64,11 +64,11 @@ const BOTH: &[u8] = b"g a b none";
 /// Those of a run over a BED file and a FASTA file.
 const BASES: &[u8] = b"g a none f";
 
-/// Files whose names look like options: the word after an option that takes a value is its value, whatever it is.
+/// Files whose names look like options: the argument after an option that takes a value is its value, whatever it is.
 const OPTIONS: &[u8] = b"-i -d none none";
 
-/// Words, their run and its files, and the words of its view. That the records may lack a column or a strand is no fault of the
-/// words.
+/// Arguments, their run and its files, and the arguments of its view. That the records may lack a column or a strand is no fault of the
+/// arguments.
 const RUNS: [(&[u8], Subcommand, &[u8], &[u8]); 16] = [
     (b"merge -g g -i a", Subcommand::Merge, ONE, b"merge"),
     (
@@ -148,7 +148,7 @@ const RUNS: [(&[u8], Subcommand, &[u8], &[u8]); 16] = [
     ),
 ];
 
-/// Whether each of these words are read so.
+/// Whether each of these arguments are read so.
 fn are_read(rt: &HostRuntime, runs: &[(&[u8], Subcommand, &[u8], &[u8])]) -> Result<bool, Fail> {
     for (words, run, files, view) in runs {
         if !reads(rt, words, *run, files, view)? {
@@ -164,18 +164,18 @@ fn words_of_subcommands(rt: HostRuntime) -> Result<(), Fail> {
     Ok(())
 }
 
-/// Whether words are bad options.
+/// Whether arguments are bad options.
 fn is_no_plan(rt: &HostRuntime, words: &[&[u8]]) -> bool {
     Plan::read(rt.alloc(), words).err() == Some(Fault::Words)
 }
 
-/// The same of words that are separated by spaces.
+/// The same of arguments that are separated by spaces.
 fn is_refused(rt: &HostRuntime, text: &[u8]) -> Result<bool, Fail> {
     let words = words_of(rt.alloc(), text)?;
     Ok(is_no_plan(rt, words.as_slice()))
 }
 
-/// Whether each of these texts has such words.
+/// Whether each of these texts has such arguments.
 fn are_refused(rt: &HostRuntime, texts: &[&[u8]]) -> Result<bool, Fail> {
     for text in texts {
         if !is_refused(rt, text)? {
@@ -185,7 +185,7 @@ fn are_refused(rt: &HostRuntime, texts: &[&[u8]]) -> Result<bool, Fail> {
     Ok(true)
 }
 
-/// Words that are those of no subcommand: without a genome file, and where the value of `-g` is `-i`.
+/// Arguments that are those of no subcommand: without a genome file, and where the value of `-g` is `-i`.
 const NO_SUBCOMMAND: [&[u8]; 2] = [b"merge -i a", b"merge -g -i a.bed"];
 
 #[test]

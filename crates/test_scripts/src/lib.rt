@@ -1,4 +1,4 @@
-//! Tests of scripts: in pieces, limits, and memory and devices that fail. Examples of what scripts print are in `tests/`.
+//! Tests of scripts: in pieces, at their limits, and with memory and devices that fail. Examples of what scripts print are in `tests/`.
 #![tactic(auto)]
 
 #[cfg(test)]

@@ -1,7 +1,7 @@
 //! As many open views as there may be.
 use std::test::Fail;
 
-/// The words of views.
+/// The arguments of views.
 const KINDS: [&str; 8] = [
     "merge",
     "complement",
@@ -13,7 +13,7 @@ const KINDS: [&str; 8] = [
     "merge -c 2,3 -o min,count",
 ];
 
-/// The words of the view of a number.
+/// The arguments of the view of a number.
 fn words_of(number: usize) -> &'static str {
     match KINDS.get(number % 8) {
         Some(words) => *words,

@@ -1,4 +1,4 @@
-//! What words ask for as a view.
+//! What arguments ask for as a view.
 use iv_depth::DepthOutput;
 use iv_fasta::FastaOutput;
 use iv_pair::{IntersectOutput, PairOutput};
@@ -6,7 +6,7 @@ use iv_session::ViewWords;
 use iv_view::{KeptView, ViewFault, WrittenView};
 use std::test::Fail;
 
-/// What words ask for on a track of three columns beside a second file.
+/// What arguments ask for on a track of three columns beside a second file.
 fn view_of(rt: &HostRuntime, words: &[&[u8]]) -> Result<ViewWords, ViewFault> {
     ViewWords::read(rt.alloc(), 3, true, false, words)
 }

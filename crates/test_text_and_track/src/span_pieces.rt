@@ -1,6 +1,6 @@
 //! BED files that come in pieces, of whose records only the intervals are held.
 ghost use Rattle.std.specs.Prelude.{◌+◌, ◌<◌, ◌≤◌, ◌^◌, OnOk, length};
-ghost use Rattle.iv_text.specs.BedReading.{AreSound, size_of};
+ghost use Rattle.iv_text.specs.BedReading.{AreSoundLines, size_of};
 
 use crate::places::SIZES;
 use iv_locators::Span;
@@ -17,9 +17,9 @@ fn take_pieces<K: FromRecord<A>, A: Allocator + Copy>(
     size: usize,
 ) -> Result<(), LoadFault>
     requires size { 0 < size }
-    requires sound { AreSound K.projected genome.now limit draft.old.read }
+    requires sound { AreSoundLines K.projected genome.now limit draft.old.read }
     requires few { size_of draft.old + length text.now < 2 ^ 64 }
-    ensures sound { OnOk result (AreSound K.projected genome.now limit draft.new.read) }
+    ensures sound { OnOk result (AreSoundLines K.projected genome.now limit draft.new.read) }
     ensures few { OnOk result (size_of draft.new ≤ size_of draft.old + length text.now) }
 {
     let mut left = text;

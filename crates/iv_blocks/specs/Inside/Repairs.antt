@@ -34,7 +34,7 @@ pub record StaysCovered (o : BlockOptions) (g : Group) (records : List RecordVal
 -- that one reaches it
 pub record AreOthers (d : ℕ) (block gone : ℕ × ℕ) (records : List RecordValue) : Type 0 where
   pub within : block.0 ≤ gone.0
-  pub below : gone.0 < block.1
+  pub below : gone.0 ≤ block.1
   pub stops : All (λ r. r.stop ≤ block.1) records
   pub starts : block.0 < gone.0 → list_any (λ r. r.start == block.0) records ≡ true
   pub reached : (x : ℕ) → block.0 < x → x ≤ block.1 + d → (x ≤ gone.0) ⊎ (gone.1 + d < x) → list_any (reaches start_of stop_of d x) records ≡ true

@@ -6,17 +6,17 @@ use Rattle.iv_fasta.specs.declared.held_sequences.BaseRange.{BaseRange}
 
 -- the bases in a range
 abbrev pub bases_at : List ℕ → BaseRange → List ℕ
-bases_at bases place = slice_range bases place.start place.stop
+bases_at bases range = slice_range bases range.start range.stop
 
 -- the bases in each of these ranges
 abbrev pub placed : List (Option BaseRange) → List ℕ → Bases
-placed places bases = map (option_map (bases_at bases)) places
+placed ranges bases = map (option_map (bases_at bases)) ranges
 
 -- the range is among so many bases
-pub record EndsWithin (total : ℕ) (place : BaseRange) : Type 0 where
-  pub in_order : place.start ≤ place.stop
-  pub in_bounds : place.stop ≤ total
+pub record EndsWithin (total : ℕ) (range : BaseRange) : Type 0 where
+  pub in_order : range.start ≤ range.stop
+  pub in_bounds : range.stop ≤ total
 
 -- if there is a range, it is among so many bases
 abbrev pub IsPlacedWithin : ℕ → Option BaseRange → Type 0
-IsPlacedWithin total place = IfSome place (EndsWithin total)
+IsPlacedWithin total range = IfSome range (EndsWithin total)

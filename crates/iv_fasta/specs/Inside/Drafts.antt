@@ -1,5 +1,5 @@
 -- What is held of a FASTA file while it is read: the bases of the sequences that are held, all in one list.
-use Rattle.std.specs.Prelude.{◌≡◌, ◌≢◌, ◌≤◌, ◌<◌, ℕ, ◌+◌, ◌-◌, ◌++◌, ◌==◌, ◌&&◌, Bool, true, false, not, cond, List, [], ◌∷◌, Option, None, Some, Result, Ok, Err, length, drop, slice_range, slice_index}
+use Rattle.std.specs.Prelude.{◌≡◌, ◌≢◌, ◌≤◌, ◌<◌, ℕ, ◌+◌, ◌-◌, ◌++◌, ◌==◌, ◌&&◌, Bool, true, false, not, cond, List, [], ◌∷◌, Option, None, Some, Result, Ok, Err, IfOk, length, drop, slice_range, slice_index}
 use Rattle.std.specs.List.{list_any}
 use Rattle.std.specs.Coded.{×_prop, le_prop}
 use Rattle.std.specs.Option.{is_some}
@@ -39,53 +39,36 @@ after_fasta_lines n found lines = after_all after_fasta_line n found lines
 abbrev pub NamedHeaders : Type 0
 NamedHeaders = List (List ℕ × Header)
 
--- where what a list of headers holds ends, and how many bases were counted there: at the first header, or else at these
-abbrev pub end_before : NamedHeaders → ℕ → ℕ
-end_before [] total = total
-end_before (h ∷ headers) total = h.1.start
+-- a number of the first header, or else this one
+abbrev pub first_number : (Header → ℕ) → NamedHeaders → ℕ → ℕ
+first_number number [] last = last
+first_number number (h ∷ headers) last = number h.1
 
-abbrev pub count_before : NamedHeaders → ℕ → ℕ
-count_before [] count = count
-count_before (h ∷ headers) count = h.1.before
-
--- the same at a header, if there is one
-abbrev pub end_at : Option (List ℕ × Header) → ℕ → ℕ
-end_at None total = total
-end_at (Some h) total = h.1.start
-
-abbrev pub count_at : Option (List ℕ × Header) → ℕ → ℕ
-count_at None count = count
-count_at (Some h) count = h.1.before
+-- the same of a header, if there is one
+abbrev pub number_at : (Header → ℕ) → Option (List ℕ × Header) → ℕ → ℕ
+number_at number None last = last
+number_at number (Some h) last = number h.1
 
 -- the sequences of these headers: each holds the bases from its start to the next one's, and has as many as were counted from it to
 -- the next one
 abbrev pub cut : NamedHeaders → List ℕ → ℕ → Summaries
 cut [] bases count = []
 cut (h ∷ headers) bases count =
-    (h.0, record { line = h.1.line; count = count_before headers count - h.1.before; bases = slice_range bases h.1.start (end_before headers (length bases)) })
+    (h.0, record { line = h.1.line; count = first_number (λ h. h.before) headers count - h.1.before; bases = slice_range bases h.1.start (first_number (λ h. h.start) headers (length bases)) })
     ∷ cut headers bases count
 
 -- the sequence whose header is in this line, which has so many bases, and of which those in this range are held
 abbrev pub sequence_at : List ℕ → ℕ → ℕ → BaseRange → Summary
-sequence_at bases line count place = record { line = line; count = count; bases = bases_at bases place }
+sequence_at bases line count range = record { line = line; count = count; bases = bases_at bases range }
 
--- the headers start in order, from `low` on, and none of them past so many bases
-abbrev pub StartInOrder : ℕ → NamedHeaders → ℕ → Type 0
-StartInOrder low [] total = low ≤ total
-StartInOrder low (h ∷ headers) total = (low ≤ h.1.start) × StartInOrder h.1.start headers total
+-- a number of the headers is `low` or more, none is less than that of the header before, and none is more than `high`
+abbrev pub AreRising : (Header → ℕ) → ℕ → NamedHeaders → ℕ → Type 0
+AreRising number low [] high = low ≤ high
+AreRising number low (h ∷ headers) high = (low ≤ number h.1) × AreRising number (number h.1) headers high
 
-pub StartInOrder-prop : (low : ℕ) (headers : NamedHeaders) (total : ℕ) → IsProp (StartInOrder low headers total)
-StartInOrder-prop low [] total = le_prop
-StartInOrder-prop low (h ∷ headers) total = ×_prop le_prop (StartInOrder-prop h.1.start headers total)
-
--- no more bases were counted before the headers than so many, nor before one of them than before the next
-abbrev pub CountInOrder : ℕ → NamedHeaders → ℕ → Type 0
-CountInOrder low [] count = low ≤ count
-CountInOrder low (h ∷ headers) count = (low ≤ h.1.before) × CountInOrder h.1.before headers count
-
-pub CountInOrder-prop : (low : ℕ) (headers : NamedHeaders) (count : ℕ) → IsProp (CountInOrder low headers count)
-CountInOrder-prop low [] count = le_prop
-CountInOrder-prop low (h ∷ headers) count = ×_prop le_prop (CountInOrder-prop h.1.before headers count)
+pub AreRising-prop : (number : Header → ℕ) (low : ℕ) (headers : NamedHeaders) (high : ℕ) → IsProp (AreRising number low headers high)
+AreRising-prop number low [] high = le_prop
+AreRising-prop number low (h ∷ headers) high = ×_prop le_prop (AreRising-prop number (number h.1) headers high)
 
 -- a file of which no byte was read
 abbrev pub begun_with : Wanted → Progress
@@ -116,6 +99,11 @@ with_bases_read p bases = record {
 -- the text begins with a byte of a line: neither with the end of one nor with a CR that could be a part of it
 abbrev pub IsInLine : List ℕ → Type 0
 IsInLine text = (0 < length text) × (slice_index text 0 ≢ 10) × (slice_index text 0 ≢ 13)
+
+-- the bytes of a text that were taken, if so many were, are no more than it has, and no fewer than the lines and bases that were counted
+-- in them; and the same sequences are wanted
+abbrev pub TakesBytes : {E : Type 0} → Progress → Progress → List ℕ → Result ℕ E → Type 0
+TakesBytes old new text taken = IfOk taken (λ size. (size ≤ length text) × (new.number + new.count ≤ old.number + old.count + size)) × (new.wanted ≡ old.wanted)
 
 -- the first so many bytes of a text were read, whatever comes after it, or if it is the last, nothing
 abbrev pub Reads : Sequences → Progress → Progress → List ℕ → ℕ → Bool → Type 0

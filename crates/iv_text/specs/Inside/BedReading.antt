@@ -5,7 +5,7 @@ use Rattle.iv_text.specs.Genome.{Sequences}
 use Rattle.iv_text.specs.Lines.{lines}
 use Rattle.iv_text.specs.RecordValue.{RecordValue}
 use Rattle.iv_text.specs.declared.fault.LoadCause.{LoadCause}
-use Rattle.iv_text.specs.BedReading.{AreSound, Held, LinesRead, Shows, known, projected_draft, shown, after_records}
+use Rattle.iv_text.specs.BedReading.{AreSoundLines, Held, LinesRead, Shows, known, projected_draft, shown, after_records}
 
 -- the first of these lines was read, and those others are left: whatever comes after them, and whatever the line's number is
 abbrev pub Takes : (RecordValue → RecordValue) → Sequences → ℕ → LinesRead → LinesRead → List (List ℕ) → List (List ℕ) → Type 0
@@ -20,7 +20,7 @@ module _ {K : Type 0} (held_of : RecordValue → ℕ → K) (g : Sequences) wher
   -- the first line of a text, which has so many bytes, was read, however items are shown
   abbrev pub TakesLine : ℕ → Held K → Held K → List ℕ → ℕ → Type 0
   TakesLine limit old new text size = (projected : RecordValue → RecordValue) (row_of : K → RecordValue) → Shows held_of g projected row_of old.at text
-      → (AreSound projected g limit (shown row_of old) → AreSound projected g limit (shown row_of new))
+      → (AreSoundLines projected g limit (shown row_of old) → AreSoundLines projected g limit (shown row_of new))
       × Takes projected g limit (shown row_of old) (shown row_of new) (lines text) (lines (drop size text))
 
   -- the first line of a text is the first faulty one, and this is its cause

@@ -9,7 +9,7 @@ use Rattle.iv_text.specs.Lines.{HasNoFeed}
 use Rattle.iv_text.specs.Number.{number}
 use Rattle.iv_text.specs.Genome.{Sequences, length_at}
 use Rattle.iv_text.specs.Named.{name_index}
-use Rattle.iv_text.specs.Read.{column, AreSound}
+use Rattle.iv_text.specs.Read.{column, AreSoundColumns}
 use Rattle.iv_text.specs.Inside.Read.{is_line_byte}
 use Rattle.iv_text.specs.RecordValue.{RecordValue, strand_of}
 use Rattle.iv_text.specs.declared.record_reader.FastLine.{FastLine}
@@ -74,7 +74,7 @@ pub record BeginsWithCells (width : ℕ) (text name score strand rest : List ℕ
   pub name_is : column cells 0 ≡ name
   pub score_is : column cells 1 ≡ score
   pub strand_is : column cells 2 ≡ strand
-  pub sound : AreSound width name score (strand_of strand)
+  pub sound : AreSoundColumns width name score (strand_of strand)
 
 -- the text begins with a line of this record that has so many bytes and is read in one pass
 abbrev pub IsFirstLine : Sequences → ℕ → List ℕ → RecordValue → ℕ → Type 0

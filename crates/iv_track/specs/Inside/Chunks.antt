@@ -19,8 +19,8 @@ most_at_once = 240
 
 module _ {X Z : Type 0} where
   -- the entries of the chunks, one chunk after another
-  abbrev pub joined : List (Vec X Z) → List X
-  joined chunks = flat_map vec_items chunks
+  abbrev pub concatenated : List (Vec X Z) → List X
+  concatenated chunks = flat_map vec_items chunks
 
   -- the chunk is not empty, and has no more entries than a chunk may
   abbrev pub IsFilled : Vec X Z → Type 0
@@ -31,10 +31,10 @@ module _ {X Z : Type 0} where
 
   -- the entries before an index, and those from it on
   abbrev pub before : List (Vec X Z) → EntryIndex → List X
-  before chunks p = joined (take p.chunk chunks) ++ take p.index (joined (drop p.chunk chunks))
+  before chunks p = concatenated (take p.chunk chunks) ++ take p.index (concatenated (drop p.chunk chunks))
 
   abbrev pub from : List (Vec X Z) → EntryIndex → List X
-  from chunks p = drop p.index (joined (drop p.chunk chunks))
+  from chunks p = drop p.index (concatenated (drop p.chunk chunks))
 
   -- the index is of an entry
   pub record IsInside (chunks : List (Vec X Z)) (p : EntryIndex) : Type 0 where
@@ -70,13 +70,13 @@ module _ {X Z : Type 0} where
 module _ {K V Z : Type 0} (cmp : K → K → Ordering) where
   -- the keys ascend over all chunks, and each chunk has some entries, but not too many
   pub record AreChunks (chunks : List (Vec (K × V) Z)) : Type 0 where
-    pub ordered : IsLedger cmp (joined chunks)
+    pub ordered : IsLedger cmp (concatenated chunks)
     pub filled : AreFilled chunks
 
   -- and there are so many entries
   pub record IsWhole (chunks : List (Vec (K × V) Z)) (len : ℕ) : Type 0 where
     pub in_chunks : AreChunks chunks
-    pub counted : len ≡ length (joined chunks)
+    pub counted : len ≡ length (concatenated chunks)
     pub small : len < 2 ^ 63
 
   -- the entry at the index has the key k

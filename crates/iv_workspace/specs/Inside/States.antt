@@ -1,5 +1,5 @@
 -- The invariant of a session.
-use Rattle.std.specs.Prelude.{◌≡◌, ◌≤◌, ℕ, false, List, Option, None, All, IsTrue, IsSome, IfSome, length}
+use Rattle.std.specs.Prelude.{◌≡◌, ◌≤◌, ℕ, false, List, [], Option, None, All, IsTrue, IsSome, IfSome, length}
 use Rattle.std.specs.List.{AllByRecursion}
 use Rattle.iv_text.specs.Genome.{Sequences}
 use Rattle.iv_text.specs.Read.{Fits}
@@ -8,6 +8,7 @@ use Rattle.iv_view.specs.KeptStates.{state_key_of}
 use Rattle.iv_view.specs.Views.{needs_second}
 use Rattle.iv_view.specs.declared.view.View.{View}
 use Rattle.iv_workspace.specs.OpenViews.{Shown}
+use Rattle.iv_workspace.specs.States.{State}
 
 -- the invariant of each track of a session: the width is one of a BED file, and the records fit the genome and are not
 -- above the limit
@@ -39,3 +40,7 @@ pub record IsSession (genome : Sequences) (track : Tracked) (second : Option Tra
   pub second_is : IfSome second (IsTrackOn genome)
   pub served : AreServed second views
   pub fresh : AreWrittenFresh views
+
+-- a session of this track and these views, and of nothing else
+abbrev pub over : Tracked → List (List ℕ × Shown) → State
+over track views = record { genome = []; track = track; second = None; bases = None; views = views }

@@ -109,6 +109,6 @@ IsMissing states view names records (Some k) = (state_key_of view ≡ Some (buil
 
 -- the views, that at an index current
 abbrev pub current_at : ℕ → List (List ℕ × Shown) → List (List ℕ × Shown)
-current_at place [] = []
+current_at index [] = []
 current_at zero (v ∷ views) = (v.0, record v.1 { stale = false }) ∷ views
-current_at (suc place) (v ∷ views) = v ∷ current_at place views
+current_at (suc index) (v ∷ views) = v ∷ current_at index views

@@ -1,17 +1,21 @@
 //! Edits of the two tracks of a session: of its own, and of the second file.
-ghost use Rattle.std.specs.Prelude.{◌≡◌, ◌≤◌, ◌↔◌, None, Some, false, IsTrue, IfOk, IfErr, IfSome, OnErr, Ok, Err};
+ghost use Rattle.std.specs.Prelude.{◌≡◌, ◌≤◌, ◌↔◌, None, Some, false, IsTrue, IfOk, IfErr, IfSome, OnOk, OnErr, Ok, Err};
+ghost use Rattle.iv_text.specs.Named.{names_of};
 ghost use Rattle.iv_text.specs.Read.{Fits};
-ghost use Rattle.iv_workspace.specs.Edits.{EditFits, FitsIn, IsDone, RefusesIn, read_second, width_of};
+ghost use Rattle.iv_track.specs.Steps.{TakesUpTo};
+ghost use Rattle.iv_workspace.specs.Edits.{Allows, EditFits, FitsIn, IsDone, IsEdited, RefusesEdit, RefusesIn, edited, most_steps, read_second, width_of};
 ghost use Rattle.iv_workspace.specs.OpenViews.{stale_count};
 ghost use Rattle.iv_workspace.specs.States.{FitsSecond};
-ghost use Rattle.iv_workspace.specs.Inside.ViewStates.{all_seen};
+ghost use Rattle.iv_workspace.specs.Inside.States.{IsTrackOn, over};
+ghost use Rattle.iv_workspace.specs.Inside.ViewStates.{AreRight, all_seen};
 ghost use Rattle.iv_text.specs.Widths.{IsWidth};
 
 use super::Session;
 use crate::fault::SecondFault;
 use crate::views::{Change, Views};
-use iv_text::{Fault, RecordRef, read_record};
-use iv_track::{EditFault, Meter};
+use iv_pair::Second;
+use iv_text::{Fault, Genome, RecordRef, read_record};
+use iv_track::{EditFault, Meter, Track};
 use std::alloc::Allocator;
 
 /// Which of the two tracks an edit is for: the session's own, or the second file.
@@ -69,7 +73,7 @@ impl<A: Allocator + Copy> Session<A> {
         }
     }
 
-    /// Does an edit to one of the two tracks, as [`Session::add`] and the like do it.
+    /// Does an edit to one of the two tracks, as [`Session::add`] and the like say.
     ///
     /// # Errors
     ///
@@ -80,13 +84,26 @@ impl<A: Allocator + Copy> Session<A> {
         ensures why { IfErr result (RefusesIn target edit.now self.old) }
         ensures err { OnErr result (self.new ≡ self.old) }
     {
-        match (target, edit) {
-            (Target::First, Edit::Add(feature)) => self.add(feature),
-            (Target::First, Edit::Remove(feature)) => self.remove(feature),
-            (Target::First, Edit::Replace(old, new)) => self.replace(old, new),
-            (Target::Second, Edit::Add(feature)) => self.add_second(feature),
-            (Target::Second, Edit::Remove(feature)) => self.remove_second(feature),
-            (Target::Second, Edit::Replace(old, new)) => self.replace_second(old, new),
+        let mut meter = Meter::new();
+        match target {
+            Target::First => {
+                edit_track(
+                    &mut self.track,
+                    &mut self.views,
+                    &self.genome,
+                    edit,
+                    self.alloc,
+                    &mut meter,
+                )?;
+                Ok(Accepted::of(&meter, &self.views))
+            }
+            Target::Second => {
+                let Some(second) = &mut self.second else {
+                    unreachable!()
+                };
+                edit_second(second, edit, self.alloc, &mut meter)?;
+                Ok(Accepted::of(&meter, &self.views))
+            }
         }
     }
 
@@ -100,17 +117,7 @@ impl<A: Allocator + Copy> Session<A> {
         ensures why { IfErr result (RefusesIn Target.First (Edit.Add feature.now) self.old) }
         ensures err { OnErr result (self.new ≡ self.old) }
     {
-        let record = feature.to_record(self.alloc)?;
-        let mut meter = Meter::new();
-        self.track.add(record, &mut meter)?;
-        self.views.repair(
-            Change::Added,
-            &self.track,
-            &self.genome,
-            feature,
-            &mut meter,
-        );
-        Ok(Accepted::of(&meter, &self.views))
+        self.edit(Target::First, &Edit::Add(copy_of(feature)))
     }
 
     /// Takes one copy of a record out, and then repairs each view. A view whose repair runs out of memory becomes stale.
@@ -123,17 +130,7 @@ impl<A: Allocator + Copy> Session<A> {
         ensures why { IfErr result (RefusesIn Target.First (Edit.Remove feature.now) self.old) }
         ensures err { OnErr result (self.new ≡ self.old) }
     {
-        let record = feature.to_record(self.alloc)?;
-        let mut meter = Meter::new();
-        self.track.remove(&record, &mut meter)?;
-        self.views.repair(
-            Change::Removed,
-            &self.track,
-            &self.genome,
-            feature,
-            &mut meter,
-        );
-        Ok(Accepted::of(&meter, &self.views))
+        self.edit(Target::First, &Edit::Remove(copy_of(feature)))
     }
 
     /// Adds the new record, in a full track too, and repairs each view; then takes one copy of the old record out, and
@@ -152,20 +149,8 @@ impl<A: Allocator + Copy> Session<A> {
         ensures why { IfErr result (RefusesIn Target.First (Edit.Replace old.now new.now) self.old) }
         ensures err { OnErr result (self.new ≡ self.old) }
     {
-        let before = old.to_record(self.alloc)?;
-        let after = new.to_record(self.alloc)?;
-        let mut meter = Meter::new();
-        if self.track.copies(&before, &mut meter) == 0 {
-            return Err(EditFault::Absent);
-        }
-        self.track.stage(after, &mut meter)?;
-        self.views
-            .repair(Change::Added, &self.track, &self.genome, new, &mut meter);
-        let Ok(()) = self.track.remove(&before, &mut meter) else {
-            unreachable!()
-        };
-        self.views.repair(Change::Removed, &self.track, &self.genome, old, &mut meter);
-        Ok(Accepted::of(&meter, &self.views))
+        let edit = Edit::Replace(copy_of(old), copy_of(new));
+        self.edit(Target::First, &edit)
     }
 
     /// The record that a line means on the session's genome at the second file's width.
@@ -206,13 +191,7 @@ impl<A: Allocator + Copy> Session<A> {
         ensures why { IfErr result (RefusesIn Target.Second (Edit.Add feature.now) self.old) }
         ensures err { OnErr result (self.new ≡ self.old) }
     {
-        let record = feature.to_record(self.alloc)?;
-        let mut meter = Meter::new();
-        let Some(second) = &mut self.second else {
-            unreachable!()
-        };
-        second.add(record, &mut meter)?;
-        Ok(Accepted::of(&meter, &self.views))
+        self.edit(Target::Second, &Edit::Add(copy_of(feature)))
     }
 
     /// Takes one copy of a record out of the second file, which exists. No view becomes stale. At most 16 steps.
@@ -225,13 +204,7 @@ impl<A: Allocator + Copy> Session<A> {
         ensures why { IfErr result (RefusesIn Target.Second (Edit.Remove feature.now) self.old) }
         ensures err { OnErr result (self.new ≡ self.old) }
     {
-        let record = feature.to_record(self.alloc)?;
-        let mut meter = Meter::new();
-        let Some(second) = &mut self.second else {
-            unreachable!()
-        };
-        second.remove(&record, &mut meter)?;
-        Ok(Accepted::of(&meter, &self.views))
+        self.edit(Target::Second, &Edit::Remove(copy_of(feature)))
     }
 
     /// Takes one copy of the old record out of the second file, which exists, and adds the new one, even if it is full. No view
@@ -250,13 +223,94 @@ impl<A: Allocator + Copy> Session<A> {
         ensures why { IfErr result (RefusesIn Target.Second (Edit.Replace old.now new.now) self.old) }
         ensures err { OnErr result (self.new ≡ self.old) }
     {
-        let before = old.to_record(self.alloc)?;
-        let after = new.to_record(self.alloc)?;
-        let mut meter = Meter::new();
-        let Some(second) = &mut self.second else {
-            unreachable!()
-        };
-        second.replace(&before, after, &mut meter)?;
-        Ok(Accepted::of(&meter, &self.views))
+        let edit = Edit::Replace(copy_of(old), copy_of(new));
+        self.edit(Target::Second, &edit)
+    }
+}
+
+/// A second one of a record: it has its columns in the same line.
+fn copy_of<'a>(feature: &RecordRef<'a>) -> RecordRef<'a>
+    ensures { result ≡ feature.now }
+{
+    feature.part(feature.start(), feature.stop())
+}
+
+/// Does an edit of a session's own track, and repairs the views after each record that is added or taken out.
+fn edit_track<A: Allocator + Copy>(
+    track: &mut Track<A>,
+    views: &mut Views<A>,
+    genome: &Genome<A>,
+    edit: &Edit<'_>,
+    alloc: A,
+    meter: &mut Meter,
+) -> Result<(), EditFault>
+    requires on { IsTrackOn genome.now track.old }
+    requires right { AreRight views.old (names_of genome.now) track.old.records }
+    requires fits { EditFits (Fits genome.now track.old.width) edit.now }
+    ensures ok { OnOk result (IsEdited Target.First edit.now (over track.old (all_seen views.old)) (over track.new (all_seen views.new))) }
+    ensures why { IfErr result (RefusesEdit edit.now track.old) }
+    ensures err { OnErr result ((track.new ≡ track.old) × (views.new ≡ views.old)) }
+    ensures right { AreRight views.new (names_of genome.now) track.new.records }
+    ensures steps { TakesUpTo meter.old meter.new (most_steps Target.First edit.now (over track.old (all_seen views.old))) }
+{
+    match edit {
+        Edit::Add(feature) => {
+            let record = feature.to_record(alloc)?;
+            track.add(record, meter)?;
+            views.repair(Change::Added, track, genome, feature, meter);
+            Ok(())
+        }
+        Edit::Remove(feature) => {
+            let record = feature.to_record(alloc)?;
+            track.remove(&record, meter)?;
+            views.repair(Change::Removed, track, genome, feature, meter);
+            Ok(())
+        }
+        Edit::Replace(old, new) => {
+            let before = old.to_record(alloc)?;
+            let after = new.to_record(alloc)?;
+            if track.copies(&before, meter) == 0 {
+                return Err(EditFault::Absent);
+            }
+            track.stage(after, meter)?;
+            views.repair(Change::Added, track, genome, new, meter);
+            let Ok(()) = track.remove(&before, meter) else {
+                unreachable!()
+            };
+            views.repair(Change::Removed, track, genome, old, meter);
+            Ok(())
+        }
+    }
+}
+
+/// Does an edit of a second file. At most 16 steps.
+fn edit_second<A: Allocator + Copy>(
+    second: &mut Second<A>,
+    edit: &Edit<'_>,
+    alloc: A,
+    meter: &mut Meter,
+) -> Result<(), EditFault>
+    requires low { 3 ≤ second.old.width }
+    requires fits { EditFits (λ r. r.width ≡ second.old.width) edit.now }
+    ensures there { OnOk result (Allows edit.now second.old) }
+    ensures ok { OnOk result (second.new ≡ edited edit.now second.old) }
+    ensures why { IfErr result (RefusesEdit edit.now second.old) }
+    ensures err { OnErr result (second.new ≡ second.old) }
+    ensures steps { TakesUpTo meter.old meter.new 16 }
+{
+    match edit {
+        Edit::Add(feature) => {
+            let record = feature.to_record(alloc)?;
+            second.add(record, meter)
+        }
+        Edit::Remove(feature) => {
+            let record = feature.to_record(alloc)?;
+            second.remove(&record, meter)
+        }
+        Edit::Replace(old, new) => {
+            let before = old.to_record(alloc)?;
+            let after = new.to_record(alloc)?;
+            second.replace(&before, after, meter)
+        }
     }
 }

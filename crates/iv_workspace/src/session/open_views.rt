@@ -54,11 +54,11 @@ fn answer_of(put: Result<(), WriteFault>) -> Result<(), PrintFault>
 }
 
 impl<A: Allocator + Copy> Session<A> {
-    /// Opens a view of these words, the last, which is current. A refusal changes nothing.
+    /// Opens the view that the arguments ask for, the last, which is current. A refusal changes nothing.
     ///
     /// # Errors
     ///
-    /// `BadName`, `Taken`, `TooMany` if 64 views are open, then the fault of the words, of which `NoSecond` and `NoFasta` come
+    /// `BadName`, `Taken`, `TooMany` if 64 views are open, then the fault of the arguments, of which `NoSecond` and `NoFasta` come
     /// exactly if they ask for a view that needs a second file or a FASTA file, and there is none; then `NoMemory`.
     pub fn open_view(&mut self, name: &[u8], arguments: &[&[u8]]) -> Result<(), ViewFault>
         ensures ok { OnOk result (Opens self.old name.now (map (λ argument. argument.now) arguments.now) self.new) }
@@ -259,8 +259,8 @@ impl<A: Allocator + Copy> Session<A> {
         ensures text { Puts (S.state sink.old) (S.state sink.new) result (all_text part self.now) }
         ensures steps { AllPrintWithin part self.now.views self.now.genome self.now.track.records meter.old meter.new }
     {
-        for place in 0..self.views.len() {
-            let Some((name, opened)) = self.views.at(place) else {
+        for index in 0..self.views.len() {
+            let Some((name, opened)) = self.views.at(index) else {
                 break;
             };
             put_heading(sink, name)?;

@@ -127,8 +127,8 @@ impl<A: Allocator + Copy> Views<A> {
         ensures owned { IfSome result (λ k. IsOwned what (all_owned self.now)) }
         ensures none { result ≡ None → IsOwned what (all_owned self.now) → ⊥ }
     {
-        for place in 0..self.views.len() {
-            if let Some(state) = self.views[place].state_for(what) {
+        for index in 0..self.views.len() {
+            if let Some(state) = self.views[index].state_for(what) {
                 return Some(state);
             }
         }
@@ -180,10 +180,10 @@ impl<A: Allocator + Copy> Views<A> {
         let Some(what) = closed.state_key() else {
             return;
         };
-        let Some(place) = self.first_in_need(what) else {
+        let Some(index) = self.first_in_need(what) else {
             return;
         };
-        let opened = &mut self.views[place];
+        let opened = &mut self.views[index];
         opened.take_over(state);
     }
 
@@ -191,11 +191,11 @@ impl<A: Allocator + Copy> Views<A> {
     fn first_in_need(&self, what: StateKey) -> Option<usize>
         ensures { MatchOption result
             (NoneNeeds what (all_seen self.now))
-            (λ place. IfSome (slice_get self.now place) (λ v. (v.1.stale ≡ false) × (state_key_of v.1.view ≡ Some what)) × (place < length self.now)) }
+            (λ index. IfSome (slice_get self.now index) (λ v. (v.1.stale ≡ false) × (state_key_of v.1.view ≡ Some what)) × (index < length self.now)) }
     {
-        for place in 0..self.views.len() {
-            if self.views[place].needs(what) {
-                return Some(place);
+        for index in 0..self.views.len() {
+            if self.views[index].needs(what) {
+                return Some(index);
             }
         }
         None
@@ -238,8 +238,8 @@ impl<A: Allocator + Copy> Views<A> {
         ensures { AreRepaired (names_of genome.now) track.now.records (with_edited change track.now.records feature.now) feature.now result self.old self.new meter.old meter.new }
     {
         let mut kept = true;
-        for place in 0..self.views.len() {
-            let view = &mut self.views[place];
+        for index in 0..self.views.len() {
+            let view = &mut self.views[index];
             kept &= view.repair(change, track, genome, feature, meter);
         }
         kept
@@ -249,9 +249,9 @@ impl<A: Allocator + Copy> Views<A> {
     fn mark_stale(&mut self)
         ensures { AreMarked self.old self.new }
     {
-        for place in 0..self.views.len() {
-            let kept = self.is_kept(self.views[place].view);
-            let opened = &mut self.views[place];
+        for index in 0..self.views.len() {
+            let kept = self.is_kept(self.views[index].view);
+            let opened = &mut self.views[index];
             opened.stale |= !kept;
         }
     }

@@ -8,7 +8,7 @@ use Rattle.iv_run.proofs.FastaPieceLemmas.{fasta-if-named}
 use Rattle.iv_text.specs.declared.fault.LoadFault.{LoadFault}
 use Rattle.iv_run.specs.Inside.Shots.{bases_said}
 use Rattle.iv_run.specs.Loading.{IsAnswer}
-use Rattle.iv_run.specs.RunFiles.{AreAll, AreOf, FilesRead, GenomeRead, IsParsed}
+use Rattle.iv_run.specs.RunFiles.{AreAllWanted, AreOf, FilesRead, GenomeRead, IsParsed}
 use Rattle.iv_run.proofs.RunFilesLemmas.{finish-all, finish-bases, finish-first, finish-second, finish-sizes}
 use Rattle.iv_run.proofs.run_files.sound_files.Goals as goal
 

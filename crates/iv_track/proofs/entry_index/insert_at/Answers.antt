@@ -1,5 +1,5 @@
 use Rattle.std.proofs.Common.{rules, arith, ◌≡◌, ◌<◌, ◌++◌, ◌∷◌, ◌≤◌, ◌∙◌, length, subst, sym, ap, vec_len}
-use Rattle.iv_track.proofs.ChunkLemmas.{joined-set_same, joined-set_inserted, before-from}
+use Rattle.iv_track.proofs.ChunkLemmas.{concatenated-set_same, concatenated-set_inserted, before-from}
 use Rattle.iv_track.proofs.RoomLemmas.{always_on_err}
 use Rattle.iv_track.specs.Inside.Chunks.{IsIndexWithRoom, before, from}
 use Rattle.iv_track.specs.Inside.Replaced.{IsAmong, IsReplaced}
@@ -10,10 +10,10 @@ pub returns-in_err-insert-clause-err : goal.returns-in_err-insert-clause-err
 returns-in_err-insert-clause-err g c =
     let old = c.args.chunks.now.items in
     let new = c.with_room.new.chunks.items in
-    let q = c.in_ok-place.place in
+    let q = c.in_ok-index.index in
     let place : IsIndexWithRoom old c.args.at new q = search rules in
     always_on_err c.from_residual-in_err-insert.result (
-    joined-set_same new q.chunk c.index_mut.result.now place.chunk_in_range c.index_mut.ensures.value c.insert.new.self (search rules)
+    concatenated-set_same new q.chunk c.index_mut.result.now place.chunk_in_range c.index_mut.ensures.value c.insert.new.self (search rules)
     ∙ sym (before-from new q)
     ∙ ap (λ xs. xs ++ from new q) place.same_before
     ∙ ap (λ xs. before old c.args.at ++ xs) place.same_from
@@ -24,17 +24,17 @@ pub returns-clause-ok : goal.returns-clause-ok
 returns-clause-ok g c =
     let old = c.args.chunks.now.items in
     let new = c.with_room.new.chunks.items in
-    let q = c.in_ok-place.place in
+    let q = c.in_ok-index.index in
     let place : IsIndexWithRoom old c.args.at new q = search rules in
     let x = c.index_mut.result.now in
     let is = c.index_mut.ensures.value in
     let within = subst (λ y. q.index ≤ vec_len y) (sym is) (place.index_in_range x) in
-    joined-set_inserted new q.chunk x place.chunk_in_range is c.insert.new.self q.index c.args.entry (omega (arith, within, x.ok.0)) (search rules)
+    concatenated-set_inserted new q.chunk x place.chunk_in_range is c.insert.new.self q.index c.args.entry (omega (arith, within, x.ok.0)) (search rules)
     ∙ ap (λ xs. xs ++ c.args.entry ∷ from new q) place.same_before
     ∙ ap (λ xs. before old c.args.at ++ c.args.entry ∷ xs) place.same_from
 
-pub returns-in_err-place-clause-others : goal.returns-in_err-place-clause-others
-returns-in_err-place-clause-others g c =
+pub returns-in_err-index-clause-others : goal.returns-in_err-index-clause-others
+returns-in_err-index-clause-others g c =
     let old = c.args.chunks.now.items in
     let at = c.args.at.chunk in
     let same : old ≡ c.with_room.new.chunks.items = search rules in
@@ -45,7 +45,7 @@ returns-in_err-insert-clause-others g c =
     let old = c.args.chunks.now.items in
     let at = c.args.at.chunk in
     let lt : at < length old = search rules in
-    let among : IsAmong old at 1 2 c.with_room.new.chunks.items c.in_ok-place.place.chunk = search rules in
+    let among : IsAmong old at 1 2 c.with_room.new.chunks.items c.in_ok-index.index.chunk = search rules in
     replaced_among among (omega (arith, lt)) c.insert.new.self
 
 pub returns-clause-others : goal.returns-clause-others
@@ -53,5 +53,5 @@ returns-clause-others g c =
     let old = c.args.chunks.now.items in
     let at = c.args.at.chunk in
     let lt : at < length old = search rules in
-    let among : IsAmong old at 1 2 c.with_room.new.chunks.items c.in_ok-place.place.chunk = search rules in
+    let among : IsAmong old at 1 2 c.with_room.new.chunks.items c.in_ok-index.index.chunk = search rules in
     replaced_among among (omega (arith, lt)) c.insert.new.self

@@ -1,5 +1,5 @@
 use Rattle.std.proofs.Common.{rules, ap, get_or, set, subst, sym, ◌∙◌}
-use Rattle.iv_track.specs.Inside.Chunks.{AreFilled, AreSmall, joined}
+use Rattle.iv_track.specs.Inside.Chunks.{AreFilled, AreSmall, concatenated}
 use Rattle.iv_track.specs.Inside.Replaced.{IsReplaced}
 use Rattle.iv_track.proofs.JoinLemmas.{join_same, join_filled, join_replaced}
 use Rattle.iv_track.proofs.entry_index.join_next.Goals as goal
@@ -11,7 +11,7 @@ returns-clause-same g c =
     let are = c.remove-next.ensures.items in
     let x = c.index_mut.result.now in
     let is_x = c.index_mut.ensures.value ∙ ap (λ cs. get_or cs at x) are in
-    ap (λ cs. joined (set cs at c.append_all.new.left)) are ∙ join_same small is_x c.remove-next.ensures.value c.append_all.new.left c.append_all.ensures.all
+    ap (λ cs. concatenated (set cs at c.append_all.new.left)) are ∙ join_same small is_x c.remove-next.ensures.value c.append_all.new.left c.append_all.ensures.all
 
 pub returns-clause-filled : goal.returns-clause-filled
 returns-clause-filled g c =

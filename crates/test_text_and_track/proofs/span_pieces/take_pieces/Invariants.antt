@@ -1,10 +1,10 @@
 use Rattle.std.proofs.Common.{◌+◌, ◌≤◌, length}
-use Rattle.iv_text.specs.BedReading.{AreSound, size_of}
+use Rattle.iv_text.specs.BedReading.{AreSoundLines, size_of}
 use Rattle.test_text_and_track.proofs.span_pieces.take_pieces.Given as goal
 
 abbrev pub invariant-pieces : goal.invariant-pieces
 invariant-pieces g l = record {
-  sound : AreSound g.K.FromRecord.projected l.genome l.limit l.draft.read;
+  sound : AreSoundLines g.K.FromRecord.projected l.genome l.limit l.draft.read;
   few : size_of l.draft + length l.left ≤ size_of l.fn.draft + length l.fn.text;
 }
 

@@ -20,22 +20,22 @@ pub gather-preserved : goal.gather-preserved
 gather-preserved g c =
     let a = c.args in
     let b = c.gather.invariant in
-    let here : (x : ℕ) → kept_in c.take.new.self.entries a.group x ≡ (if x == c.in-Some.start then None else kept_in c.gather.self.entries a.group x) =
-    λ x. ap (λ (l : KeptBlocks). kept_in l.entries a.group x) c.take.ensures.taken ∙ without-here c.gather.self.entries a.group c.in-Some.start b.kept.ordered x in
+    let here : (x : ℕ) → kept_in c.remove_block.new.self.entries a.group x ≡ (if x == c.in-Some.start then None else kept_in c.gather.self.entries a.group x) =
+    λ x. ap (λ (l : KeptBlocks). kept_in l.entries a.group x) c.remove_block.ensures.taken ∙ without-here c.gather.self.entries a.group c.in-Some.start b.kept.ordered x in
     let distance : c.gather.self.options.distance ≡ a.self.now.options.distance = ap (λ (o : BlockOptions). o.distance) b.kept.options in
     rw c.max-high.ensures (record {
-      kept = keeps-taken a.group a.self.now c.gather.self c.take.new.self c.in-Some.start b.kept c.take.ensures.taken c.take.ensures.ordered;
+      kept = keeps-taken a.group a.self.now c.gather.self c.remove_block.new.self c.in-Some.start b.kept c.remove_block.ensures.taken c.remove_block.ensures.ordered;
       taken = b.taken + 1;
       state = joining-more a.self.now.options.distance (kept_in a.self.now.entries a.group) (kept_in c.gather.self.entries a.group) a.from a.high c.gather.high b.taken b.state
-          (kept_in c.take.new.self.entries a.group) (c.in-Some.start, c.in-Some.stop) c.in-Some.ensures.found
+          (kept_in c.remove_block.new.self.entries a.group) (c.in-Some.start, c.in-Some.stop) c.in-Some.ensures.found
           (omega (arith, c.if-from-reach.false, c.from-in-Some.ensures, c.reach.ensures, distance)) here;
-      steps = record { no_less = omega (arith, b.steps, c.from.ensures.steps, c.take.ensures.steps); at_most = omega (arith, b.steps, c.from.ensures.steps, c.take.ensures.steps) };
+      steps = record { no_less = omega (arith, b.steps, c.from.ensures.steps, c.remove_block.ensures.steps); at_most = omega (arith, b.steps, c.from.ensures.steps, c.remove_block.ensures.steps) };
     })
 
 pub gather-smaller : goal.gather-smaller
 gather-smaller g c =
     let fewer = without-fewer c.gather.self.entries c.args.group c.in-Some.start _ c.in-Some.ensures.found.is in
-    omega (arith, fewer, ap (λ (l : KeptBlocks). length l.entries) c.take.ensures.taken)
+    omega (arith, fewer, ap (λ (l : KeptBlocks). length l.entries) c.remove_block.ensures.taken)
 
 pub returns-then-from-reach : goal.returns-then-from-reach
 returns-then-from-reach g c =

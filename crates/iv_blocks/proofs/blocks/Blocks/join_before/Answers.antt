@@ -30,13 +30,13 @@ pub returns : goal.returns
 returns g c =
     let a = c.args in
     record {
-      kept = keeps-taken a.group a.self.now a.self.now c.take.new.self c.in-Some.low (keeps-all a.group a.self.now c.requires) c.take.ensures.taken c.take.ensures.ordered;
+      kept = keeps-taken a.group a.self.now a.self.now c.remove_block.new.self c.in-Some.low (keeps-all a.group a.self.now c.requires) c.remove_block.ensures.taken c.remove_block.ensures.ordered;
       joined = inl (record {
         stops = c.in-Some.last;
         last = c.in-Some.ensures.found;
         reaches = omega (arith, c.if-from-reach.false, c.reach.ensures, c.from.ensures);
         high = c.max.ensures;
-        taken = λ x. ap (λ (l : KeptBlocks). kept_in l.entries a.group x) c.take.ensures.taken ∙ without-here a.self.now.entries a.group c.in-Some.low c.requires x;
+        taken = λ x. ap (λ (l : KeptBlocks). kept_in l.entries a.group x) c.remove_block.ensures.taken ∙ without-here a.self.now.entries a.group c.in-Some.low c.requires x;
       });
-      steps = record { no_less = omega (arith, c.before-2.ensures.steps, c.take.ensures.steps); at_most = omega (arith, c.before-2.ensures.steps, c.take.ensures.steps) };
+      steps = record { no_less = omega (arith, c.before-2.ensures.steps, c.remove_block.ensures.steps); at_most = omega (arith, c.before-2.ensures.steps, c.remove_block.ensures.steps) };
     }

@@ -40,14 +40,14 @@ last g c =
 pub split_block-requires-clause-apart : goal.split_block-requires-clause-apart
 split_block-requires-clause-apart g c =
     let is : IsEdit c.args.self.now.options c.in-Some.group c.args.feature.now c.args.track.now.records (added c.args.track.now.records c.args.feature.now) = edit g c in
-    is.apart ∙ sym (ap (λ (b : KeptBlocks). b.options.stranded) c.take.ensures.taken)
+    is.apart ∙ sym (ap (λ (b : KeptBlocks). b.options.stranded) c.remove_block.ensures.taken)
 
 pub split_block-requires-clause-rest : goal.split_block-requires-clause-rest
 split_block-requires-clause-rest g c =
     let a = c.args in
     let starts = ap (λ (p : ℕ × ℕ). p.0) c.bounds_of-start.ensures in
     let stops = ap (λ (p : ℕ × ℕ). p.1) c.bounds_of-start.ensures in
-    let distance : a.self.now.options.distance ≡ c.take.new.self.options.distance = sym (ap (λ (b : KeptBlocks). b.options.distance) c.take.ensures.taken) in
+    let distance : a.self.now.options.distance ≡ c.remove_block.new.self.options.distance = sym (ap (λ (b : KeptBlocks). b.options.distance) c.remove_block.ensures.taken) in
     subst (λ (d : ℕ). AreOthers d (c.in-Some-before.low, c.in-Some-before.high) (c.bounds_of-start.result.0, c.bounds_of-start.result.1)
     (members_between c.in-Some.group c.in-Some-before.low c.in-Some-before.high a.track.now.records)) distance
     (removed-others a.self.now.options (names_of a.genome.now) c.in-Some.group a.feature.now a.track.now.records (added a.track.now.records a.feature.now) (edit g c) a.self.now c.requires.right
@@ -61,14 +61,14 @@ returns-clause-right g c =
     subst (λ (o : BlockOptions). AreBlocksOf o (names_of a.genome.now) a.track.now.records c.split_block.new.self.entries) (sym put.options)
     (removed-all a.self.now.options (names_of a.genome.now) c.in-Some.group a.feature.now a.track.now.records (added a.track.now.records a.feature.now) (edit g c.before) a.self.now c.requires.right
     (c.in-Some-before.low, c.in-Some-before.high) (last g c.before) c.split_block.new.self refl put))
-    (rw c.take.ensures.taken at c.split_block.ensures.ok)
+    (rw c.remove_block.ensures.taken at c.split_block.ensures.ok)
 
 pub returns-clause-built_for : goal.returns-clause-built_for
 returns-clause-built_for g c =
     on_ok_weaker c.split_block.result
     (λ (put : AreInserted c.in-Some.group (names_of c.args.genome.now) (between c.in-Some-before.low c.in-Some-before.high c.args.track.now.records) (without_block c.args.self.now c.in-Some.group c.in-Some-before.low) c.split_block.new.self).
     put.options)
-    (rw c.take.ensures.taken at c.split_block.ensures.ok)
+    (rw c.remove_block.ensures.taken at c.split_block.ensures.ok)
 
 pub returns-clause-steps : goal.returns-clause-steps
 returns-clause-steps g c =
@@ -77,8 +77,8 @@ returns-clause-steps g c =
     let stops = ap (λ (p : ℕ × ℕ). p.1) c.bounds_of-start.ensures in
     removed-takes a.self.now.options (names_of a.genome.now) c.in-Some.group a.feature.now a.track.now.records (added a.track.now.records a.feature.now) (edit g c.before) a.self.now c.requires.right
     (c.in-Some-before.low, c.in-Some-before.high) (last g c.before) c.bounds_of-start.result.0 c.bounds_of-start.result.1
-    a.meter.now c.before-2.new.meter c.stays_covered.new.meter c.take.new.meter c.split_block.new.meter starts stops refl
-    c.before-2.ensures.steps c.stays_covered.ensures.steps c.take.ensures.steps c.split_block.ensures.steps
+    a.meter.now c.before-2.new.meter c.stays_covered.new.meter c.remove_block.new.meter c.split_block.new.meter starts stops refl
+    c.before-2.ensures.steps c.stays_covered.ensures.steps c.remove_block.ensures.steps c.split_block.ensures.steps
 
 pub returns-then-stays_covered-clause-right : goal.returns-then-stays_covered-clause-right
 returns-then-stays_covered-clause-right g c =

@@ -21,5 +21,5 @@ returns-clause-ok g c =
     let wanted : Wanted = option_map (λ ranks. ranks.items) c.self.inside.wanted in
     ap (λ (q : Progress). ended c.args.genome.now q.wanted q.draft.sequences) (sym c.self.view_is)
     ∙ lengths-right c.args.genome.now wanted (cut held.headers held.bases.items held.count) c.in_ok-check_lengths.ensures.ok
-    ∙ ap {B = Result Bases LoadFault} (λ (b : Bases). Ok b) (sym c.in_ok-places.ensures.value)
-    ∙ ap {B = Result Bases LoadFault} (λ (l : List ℕ). Ok (placed c.in_ok-places.places.items l)) (sym c.into_bases.ensures)
+    ∙ ap {B = Result Bases LoadFault} (λ (b : Bases). Ok b) (sym c.in_ok-ranges.ensures.value)
+    ∙ ap {B = Result Bases LoadFault} (λ (l : List ℕ). Ok (placed c.in_ok-ranges.ranges.items l)) (sym c.into_bases.ensures)

@@ -7,7 +7,7 @@ use Rattle.iv_fasta.specs.FastaReading.{Progress, Wanted, said}
 use Rattle.iv_fasta.specs.Inside.Fasta.{is_no_base}
 use Rattle.iv_fasta.specs.Inside.Drafts.{cut, with_bases_read}
 use Rattle.iv_fasta.proofs.SaidLemmas.{lines-byte, line-refused, lacking, not-lacking, bases-read, more-bases, held-after}
-use Rattle.iv_fasta.proofs.BlockLemmas.{all-bases, length-behind}
+use Rattle.iv_fasta.proofs.BlockLemmas.{all-bases, length-after}
 use Rattle.iv_fasta.proofs.fasta_draft.FastaDraft.take_bases.Goals as goal
 
 pub returns-then-lacks_header-clause-err : goal.returns-then-lacks_header-clause-err
@@ -32,7 +32,7 @@ returns-clause-ok g c = λ genome is_last more last.
     let wanted : Wanted = option_map (λ ranks. ranks.items) in_self.wanted in
     let n : ℕ = c.count_bases-count.result in
     let lacks = sym c.lacks_header.ensures ∙ c.if-lacks_header.false in
-    let within : 1 + n ≤ length text = omega (arith, c.count_bases-count.ensures.within, c.requires.some.0, length-behind text 1) in
+    let within : 1 + n ≤ length text = omega (arith, c.count_bases-count.ensures.within, c.requires.some.0, length-after text 1) in
     let rest : list_any is_no_base (take n (drop 1 text)) ≡ false =
     ap (λ (l : List ℕ). list_any is_no_base (take n l)) (sym (rest-whole text 1)) ∙ all-bases _ n c.count_bases-count.ensures.within c.count_bases-count.ensures.bases in
     bases-read genome p text (1 + n) is_last (omega arith) within (more-bases text n c.requires.some.0 (sym c.is_bad.ensures ∙ c.if-is_bad.false) rest)

@@ -2,7 +2,7 @@ use Rattle.std.proofs.Common.{◌≡◌, ◌++◌, ℕ, List, [], true, Err, ap,
 use Rattle.iv_text.specs.Fault.{fault_at}
 use Rattle.iv_text.proofs.BedReadingLemmas.{rest-whole}
 use Rattle.iv_fasta.specs.FastaReading.{Progress, said}
-use Rattle.iv_fasta.proofs.BlockLemmas.{length-behind}
+use Rattle.iv_fasta.proofs.BlockLemmas.{length-after}
 use Rattle.iv_fasta.proofs.SaidLemmas.{none-read, reads-on, refused-on, line-fault}
 use Rattle.iv_fasta.proofs.fasta_draft.FastaDraft.take_text.Goals as goal
 
@@ -19,9 +19,9 @@ loop-taken-preserved g c =
     let l = c.loop-taken in
     let text = c.args.text.now in
     record {
-      within = omega (arith, l.invariant.within, c.in-Ok.ensures.within, length-behind text l.taken);
-      few = omega (arith, l.invariant.few, c.in-Ok.ensures.few);
-      wanted = c.take_some.ensures.wanted ∙ l.invariant.wanted;
+      within = omega (arith, l.invariant.within, c.in-Ok.ensures.taken.0.0, length-after text l.taken);
+      few = omega (arith, l.invariant.few, c.in-Ok.ensures.taken.0.1);
+      wanted = c.take_some.ensures.taken.1 ∙ l.invariant.wanted;
       ok = reads-on c.args.genome.now c.args.self.now l.self c.take_some.new.self text _ l.taken c.in-Ok.size c.args.is_last l.invariant.ok (rest-whole text l.taken) c.in-Ok.ensures.ok;
     }
 

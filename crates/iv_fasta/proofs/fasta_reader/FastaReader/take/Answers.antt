@@ -28,7 +28,7 @@ returns-clause-few g c =
     let size = ap (λ (r : Reading). size_of r) c.self.view_is in
     let none : c.self.inside.tail.items ≡ [] = ap (λ (r : Reading). r.tail) c.self.view_is ∙ c.requires.none in
     let tail : c.keep.new.tail.items ≡ drop taken bytes = c.in_ok-keep.ensures.ok ∙ ap (λ (t : List ℕ). t ++ take (length bytes - taken) (drop taken bytes)) none ∙ rest-whole bytes taken in
-    omega (arith, c.in_ok-taken.ensures.few, c.in_ok-taken.ensures.within, ap (λ (t : List ℕ). length t) tail, length-drop taken bytes, size, ap (λ (t : List ℕ). length t) none)
+    omega (arith, c.in_ok-taken.ensures.taken.0.1, c.in_ok-taken.ensures.taken.0.0, ap (λ (t : List ℕ). length t) tail, length-drop taken bytes, size, ap (λ (t : List ℕ). length t) none)
 
 pub returns-clause-ok : goal.returns-clause-ok
 returns-clause-ok g c = λ more.
@@ -38,4 +38,4 @@ returns-clause-ok g c = λ more.
     let none : old.tail ≡ [] = ap (λ (r : Reading). r.tail) c.self.view_is ∙ c.requires.none in
     let tail : c.keep.new.tail.items ≡ drop taken bytes = c.in_ok-keep.ensures.ok ∙ ap (λ (t : List ℕ). t ++ take (length bytes - taken) (drop taken bytes)) none ∙ rest-whole bytes taken in
     ap (λ (r : Reading). read_on c.args.genome.now r (bytes ++ more)) (sym c.self.view_is)
-    ∙ taken-so c.args.genome.now old c.take_text.new.self bytes c.keep.new.tail.items taken none c.take_text.ensures.wanted c.in_ok-taken.ensures.ok tail more
+    ∙ taken-so c.args.genome.now old c.take_text.new.self bytes c.keep.new.tail.items taken none c.take_text.ensures.taken.1 c.in_ok-taken.ensures.ok tail more

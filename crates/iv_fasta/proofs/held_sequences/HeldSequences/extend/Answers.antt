@@ -1,7 +1,7 @@
 use Rattle.std.proofs.Common.{◌≡◌, ◌+◌, ◌++◌, ℕ, [], List, cond, ap, sym, ◌∙◌, arith, length, length-append}
 use Rattle.std.proofs.lemmas.Bool.{cond-true, cond-false}
 use Rattle.iv_fasta.specs.Inside.Drafts.{cut}
-use Rattle.iv_fasta.proofs.CutLemmas.{cut-part, starts-more, counts-more}
+use Rattle.iv_fasta.proofs.CutLemmas.{cut-part, rises-more}
 use Rattle.iv_fasta.proofs.held_sequences.HeldSequences.extend.Goals as goal
 use Rattle.iv_fasta.proofs.held_sequences.HeldSequences.extend.Goals.{then-holds, else-holds}
 
@@ -10,8 +10,8 @@ invariant_of-self-2 g c =
     let self = c.args.self.now in
     let more = ap length c.in_ok-extend_from_slice.ensures.items in
     record {
-      in_order = starts-more 0 self.headers (length self.bases.items) (length c.extend_from_slice.new.self.items) (omega (arith, more, length-append self.bases.items c.if-holds.held.now)) self.in_order;
-      counted = counts-more 0 self.headers self.count (self.count + length c.args.bases.now) (omega arith) self.counted;
+      in_order = rises-more (λ h. h.start) 0 self.headers (length self.bases.items) (length c.extend_from_slice.new.self.items) (omega (arith, more, length-append self.bases.items c.if-holds.held.now)) self.in_order;
+      counted = rises-more (λ h. h.before) 0 self.headers self.count (self.count + length c.args.bases.now) (omega arith) self.counted;
     }
 
 pub returns-clause-ok : goal.returns-clause-ok

@@ -15,9 +15,9 @@ loop-rank-preserved g c =
     let wanted : Wanted = option_map (λ ranks. ranks.items) c.args.wanted.now in
     let found = cut self.headers self.bases.items self.count in
     record {
-      value = placed-more (only wanted (held_by_rank c.args.genome.now found)) c.loop-rank.places.items c.push.new.self.items self.bases.items c.loop-rank.rank c.wanted_range_at.result
+      value = placed-more (only wanted (held_by_rank c.args.genome.now found)) c.loop-rank.ranges.items c.push.new.self.items self.bases.items c.loop-rank.rank c.wanted_range_at.result
           (omega (arith, c.loop-rank-test.true, length-ranks wanted c.args.genome.now found)) c.loop-rank.invariant.value c.wanted_range_at.ensures.value c.in_ok-push.ensures.items;
-      within = rw c.in_ok-push.ensures.items (All-push (IsPlacedWithin (length self.bases.items)) c.loop-rank.places.items c.wanted_range_at.result c.loop-rank.invariant.within c.wanted_range_at.ensures.within);
+      within = rw c.in_ok-push.ensures.items (All-push (IsPlacedWithin (length self.bases.items)) c.loop-rank.ranges.items c.wanted_range_at.result c.loop-rank.invariant.within c.wanted_range_at.ensures.within);
     }
 
 pub returns-clause-value : goal.returns-clause-value

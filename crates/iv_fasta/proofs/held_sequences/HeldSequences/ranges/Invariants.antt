@@ -8,7 +8,7 @@ use Rattle.iv_fasta.proofs.held_sequences.HeldSequences.ranges.Given as goal
 
 abbrev pub invariant-loop-rank : goal.invariant-loop-rank
 invariant-loop-rank g l = record {
-  value : placed l.places.items l.self.bases.items
+  value : placed l.ranges.items l.self.bases.items
       ≡ take l.rank (only (option_map (λ ranks. ranks.items) l.wanted) (held_by_rank l.genome (cut l.self.headers l.self.bases.items l.self.count)));
-  within : All (IsPlacedWithin (length l.self.bases.items)) l.places.items;
+  within : All (IsPlacedWithin (length l.self.bases.items)) l.ranges.items;
 }

@@ -6,7 +6,7 @@ use Rattle.iv_pair.proofs.second.Second.remove.Goals as goal
 
 pub invariant_of-self-2 : goal.invariant_of-self-2
 invariant_of-self-2 g c = record {
-  counted = c.take.ensures.counted;
-  few = subst (λ (t : Tracked). length t.records ≤ t.limit) (sym c.in_ok-take.ensures.ok)
-      (omega (arith, length-removed record_cmp c.self.inside.track.records c.args.feature.now c.in_ok-take.ensures.there, c.self.invariant.few));
+  counted = c.remove_record.ensures.counted;
+  few = subst (λ (t : Tracked). length t.records ≤ t.limit) (sym c.in_ok-remove_record.ensures.ok)
+      (omega (arith, length-removed record_cmp c.self.inside.track.records c.args.feature.now c.in_ok-remove_record.ensures.there, c.self.invariant.few));
 }

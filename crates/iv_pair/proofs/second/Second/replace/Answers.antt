@@ -16,7 +16,7 @@ unreachable-requires g c =
 
 pub invariant_of-self-2 : goal.invariant_of-self-2
 invariant_of-self-2 g c = record {
-  counted = c.take.ensures.counted;
+  counted = c.remove_record.ensures.counted;
   few = subst (λ (t : Tracked). length t.records ≤ t.limit) (sym c.in-Ok.ensures.ok)
       (omega (
         arith,

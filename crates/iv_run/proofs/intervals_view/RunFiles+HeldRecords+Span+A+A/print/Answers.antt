@@ -4,7 +4,7 @@ use Rattle.iv_text.specs.BedFile.{Bed}
 use Rattle.iv_text.specs.declared.fault.LoadFault.{LoadFault}
 use Rattle.iv_locators.specs.Locators.{bare}
 use Rattle.iv_run.specs.Loading.{parsed}
-use Rattle.iv_run.specs.RunFiles.{AreAll, AreOf, FilesRead, IsParsed}
+use Rattle.iv_run.specs.RunFiles.{AreAllWanted, AreOf, FilesRead, IsParsed}
 use Rattle.iv_run.specs.Inside.RunFiles.{ReportsProjected}
 use Rattle.iv_run.proofs.IntervalsLemmas.{shows-places}
 use Rattle.iv_run.proofs.ShotLemmas.{shows-damage}
@@ -14,7 +14,7 @@ pub returns-in_err-files : goal.returns-in_err-files
 returns-in_err-files g c = λ plan sizes first second fasta_text ask width are.
     let p = err_from_is_err_and c.from_residual.result c.from_residual.ensures.1 in
     let limit = c.self.inside.on.limit in
-    let known = subst (AreOf (IsParsed bare) AreAll sizes first second fasta_text) (sym c.self.view_is) are in
+    let known = subst (AreOf (IsParsed bare) AreAllWanted sizes first second fasta_text) (sym c.self.view_is) are in
     let wide = ap (λ (f : FilesRead (Result Bed LoadFault)). f.on.width) c.self.view_is ∙ width in
     let report = subst (λ (w : ℕ). ReportsProjected bare c.sound_files.result (parsed w sizes first second fasta_text limit)) wide (c.sound_files.ensures.says sizes first second fasta_text known) in
     rw (p.1, p.2, sym c.self.view_is) (shows-damage plan.width sizes first second fasta_text limit plan.view _ _ (rw c.in_err-files.was at report))
@@ -22,7 +22,7 @@ returns-in_err-files g c = λ plan sizes first second fasta_text ask width are.
 pub returns : goal.returns
 returns g c = λ plan sizes first second fasta_text ask width are.
     let limit = c.self.inside.on.limit in
-    let known = subst (AreOf (IsParsed bare) AreAll sizes first second fasta_text) (sym c.self.view_is) are in
+    let known = subst (AreOf (IsParsed bare) AreAllWanted sizes first second fasta_text) (sym c.self.view_is) are in
     let wide = ap (λ (f : FilesRead (Result Bed LoadFault)). f.on.width) c.self.view_is ∙ width in
     let report = subst (λ (w : ℕ). ReportsProjected bare c.sound_files.result (parsed w sizes first second fasta_text limit)) wide (c.sound_files.ensures.says sizes first second fasta_text known) in
     rw (sym c.self.view_is) (shows-places plan sizes first second fasta_text limit c.in_ok-files.files (rw c.in_ok-files.was at report) c.args.view ask _ _ c.print_files.result (c.print_files.ensures ask.asked ask.is_view))

@@ -1,11 +1,10 @@
 use Rattle.std.proofs.Common.{IfOk, List, ℕ, subst}
 use Rattle.std.specs.Option.{option_map}
-use Rattle.std.proofs.lemmas.Result.{err_from_is_err_and}
+use Rattle.std.proofs.lemmas.Result.{err_from_is_err_and, IfOk-weaker}
 use Rattle.iv_fasta.specs.FastaReading.{Wanted}
 use Rattle.iv_run.specs.Files.{ReadsWhole}
 use Rattle.iv_run.specs.RunFiles.{GenomeRead, IsEnoughOf, IsFasta}
 use Rattle.iv_run.proofs.ReadingLemmas.{StopsReading-at_once}
-use Rattle.iv_run.proofs.RunFilesLemmas.{ok-then}
 use Rattle.iv_run.proofs.run_files.RunGenome.read_fasta.Goals as goal
 
 pub returns-in_err-wanted-clause-err : goal.returns-in_err-wanted-clause-err
@@ -20,6 +19,6 @@ returns-clause-ok g c =
     let wanted = option_map (λ ranks. ranks.items) c.in_ok-wanted.wanted in
     let enough : Wanted → Type 0 = λ w. g.H.HoldsFile.is_enough w c.args.first.now in
     subst (λ (on : GenomeRead). IfOk c.read_fasta.result (λ held. (text : List ℕ) × ReadsWhole old new c.args.most text × IsEnoughOf enough on.genome text held)) c.self.view_is
-    (ok-then (λ held. (text : List ℕ) × ReadsWhole old new c.args.most text × IsFasta wanted c.self.inside.genome text held)
+    (IfOk-weaker c.read_fasta.result (λ held. (text : List ℕ) × ReadsWhole old new c.args.most text × IsFasta wanted c.self.inside.genome text held)
     (λ held. (text : List ℕ) × ReadsWhole old new c.args.most text × IsEnoughOf enough c.self.inside.genome text held)
-    c.read_fasta.result (λ held read. (read.0, read.1, (wanted, c.in_ok-wanted.ensures, read.2))) c.read_fasta.ensures.ok)
+    (λ held read. (read.0, read.1, (wanted, c.in_ok-wanted.ensures, read.2))) c.read_fasta.ensures.ok)

@@ -1,6 +1,6 @@
-use Rattle.std.proofs.Common.{◌≡◌, ◌∙◌, ◌++◌, ℕ, List, [], sym, ap, inl, inr, take, drop, take-append-drop, rules}
+use Rattle.std.proofs.Common.{◌≡◌, ◌∙◌, ◌++◌, ℕ, List, [], sym, ap, inl, inr, take, drop, rules}
 use Rattle.iv_text.specs.Lines.{lines}
-use Rattle.iv_text.specs.BedReading.{Reading, after, read_on, shown}
+use Rattle.iv_text.specs.BedReading.{after, shown}
 use Rattle.iv_text.proofs.BedReadingLemmas.{carried-lines, ended-rest, handed-on, refused-so, taken-so}
 use Rattle.iv_text.proofs.bed_reader.BedReader.end_line.Goals as goal
 
@@ -12,16 +12,12 @@ returns-in_err-take_lines-clause-err g c =
     let limit = c.args.limit in
     let all = c.args.lines.now in
     let size = c.first_end-size.result in
-    let read = shown k.as_record c.self.inside.read in
-    let tail : List ℕ = c.self.inside.tail.items in
-    let line_is : tail ++ take size all ≡ c.as_slice.result.now = sym (c.as_slice.ensures.value ∙ c.in_ok-keep.ensures.ok) in
+    let line_is : c.self.inside.tail.items ++ take size all ≡ c.as_slice.result.now = sym (c.as_slice.ensures.value ∙ c.in_ok-keep.ensures.ok) in
     handed-on c.from_residual-in_err-take_lines.result _ _ c.from_residual-in_err-take_lines.ensures.1
     (elim c.in_err-take_lines.ensures.err [
       | inl memory ↦ inl memory
       | inr refused ↦ inr (λ more.
-          ap (λ (r : Reading). read_on k.projected genome limit r (all ++ more)) (sym c.self.view_is)
-          ∙ ap (after k.projected genome limit read) (carried-lines k.projected genome limit tail all (take size all) (drop size all) more (sym (take-append-drop size all)) c.first_end-size.ensures.ended)
-          ∙ ap (λ (t : List ℕ). after k.projected genome limit read (lines t ++ lines (drop size all ++ more))) line_is
+          carried-lines k.projected genome limit c.args.self.now _ all c.as_slice.result.now size c.self.view_is line_is c.first_end-size.ensures.ended more
           ∙ refused-so k.held_of genome limit k.projected k.as_record law.again law.stands c.self.inside.read c.as_slice.result.now _ refused (lines (drop size all ++ more)))
     ])
 
@@ -33,13 +29,9 @@ returns-clause-ok g c = λ more.
     let limit = c.args.limit in
     let all = c.args.lines.now in
     let size = c.first_end-size.result in
-    let read = shown k.as_record c.self.inside.read in
-    let tail : List ℕ = c.self.inside.tail.items in
-    let line_is : tail ++ take size all ≡ c.as_slice.result.now = sym (c.as_slice.ensures.value ∙ c.in_ok-keep.ensures.ok) in
+    let line_is : c.self.inside.tail.items ++ take size all ≡ c.as_slice.result.now = sym (c.as_slice.ensures.value ∙ c.in_ok-keep.ensures.ok) in
     let cleared : c.clear.new.self.items ≡ [] = search rules in
-    ap (λ (r : Reading). read_on k.projected genome limit r (all ++ more)) (sym c.self.view_is)
-    ∙ ap (after k.projected genome limit read) (carried-lines k.projected genome limit tail all (take size all) (drop size all) more (sym (take-append-drop size all)) c.first_end-size.ensures.ended)
-    ∙ ap (λ (t : List ℕ). after k.projected genome limit read (lines t ++ lines (drop size all ++ more))) line_is
+    carried-lines k.projected genome limit c.args.self.now _ all c.as_slice.result.now size c.self.view_is line_is c.first_end-size.ensures.ended more
     ∙ taken-so k.held_of genome limit k.projected k.as_record law.again law.stands c.self.inside.read c.take_lines.new.self c.as_slice.result.now c.in_ok-take_lines.ensures.ok (lines (drop size all ++ more))
     ∙ sym (ap (λ (t : List ℕ). after k.projected genome limit (shown k.as_record c.take_lines.new.self) (lines (t ++ (drop size all ++ more)))) cleared)
 

@@ -1,4 +1,4 @@
-use Rattle.std.proofs.Common.{◌≡◌, ◌∙◌, ◌++◌, ℕ, List, [], sym, ap, inl, inr, drop, take-append-drop}
+use Rattle.std.proofs.Common.{◌≡◌, ◌∙◌, ◌++◌, ℕ, List, [], sym, ap, inl, inr, take-append-drop}
 use Rattle.iv_text.specs.Lines.{lines}
 use Rattle.iv_text.specs.BedReading.{Reading, after, shown}
 use Rattle.iv_text.proofs.BedReadingLemmas.{handed-on, piece-lines, refused-so, rest-whole, taken-so}
@@ -13,15 +13,13 @@ returns-in_err-take_lines-clause-err g c =
     let piece = c.args.piece.now in
     let all = c.split_at.result.0.now in
     let back = c.split_at.result.1.now in
-    let left = drop c.in_ok-taken.taken all in
+    let taken = c.in_ok-taken.taken in
     let is : piece ≡ all ++ back = sym ((λ i. c.split_at.ensures.front i ++ c.split_at.ensures.back i) ∙ take-append-drop c.last_end-end.result piece) in
     handed-on c.from_residual-in_err-take_lines.result _ _ c.from_residual-in_err-take_lines.ensures.1
     (elim c.in_err-take_lines.ensures.err [
       | inl memory ↦ inl memory
       | inr refused ↦ inr (λ more.
-          piece-lines k.projected genome limit c.args.self.now c.end_line.new.self piece all left back is c.in_ok-taken.ensures.ok c.in_ok-taken.ensures.tail c.in_ok-taken.ensures.ended more
-          ∙ ap (λ (r : Reading). after k.projected genome limit r.read (lines left ++ lines (back ++ more))) (sym c.self-2.view_is)
-          ∙ ap (λ (t : List ℕ). after k.projected genome limit (shown k.as_record c.self-2.inside.read) (lines t ++ lines (back ++ more))) (sym (rest-whole all c.in_ok-taken.taken))
+          piece-lines k.projected genome limit c.args.self.now c.end_line.new.self _ piece all _ back taken is c.in_ok-taken.ensures.ok c.in_ok-taken.ensures.tail c.in_ok-taken.ensures.ended c.self-2.view_is (rest-whole all taken) more
           ∙ refused-so k.held_of genome limit k.projected k.as_record law.again law.stands c.self-2.inside.read _ _ refused (lines (back ++ more)))
     ])
 
@@ -34,12 +32,10 @@ returns-clause-ok g c = λ more.
     let piece = c.args.piece.now in
     let all = c.split_at.result.0.now in
     let back = c.split_at.result.1.now in
-    let left = drop c.in_ok-taken.taken all in
+    let taken = c.in_ok-taken.taken in
     let is : piece ≡ all ++ back = sym ((λ i. c.split_at.ensures.front i ++ c.split_at.ensures.back i) ∙ take-append-drop c.last_end-end.result piece) in
     let none : c.self-2.inside.tail.items ≡ [] = ap (λ (r : Reading). r.tail) c.self-2.view_is ∙ c.in_ok-taken.ensures.tail in
     let tail : c.keep-2.new.tail.items ≡ back = c.in_ok-keep-2.ensures.ok ∙ ap (λ (t : List ℕ). t ++ back) none in
-    piece-lines k.projected genome limit c.args.self.now c.end_line.new.self piece all left back is c.in_ok-taken.ensures.ok c.in_ok-taken.ensures.tail c.in_ok-taken.ensures.ended more
-    ∙ ap (λ (r : Reading). after k.projected genome limit r.read (lines left ++ lines (back ++ more))) (sym c.self-2.view_is)
-    ∙ ap (λ (t : List ℕ). after k.projected genome limit (shown k.as_record c.self-2.inside.read) (lines t ++ lines (back ++ more))) (sym (rest-whole all c.in_ok-taken.taken))
+    piece-lines k.projected genome limit c.args.self.now c.end_line.new.self _ piece all _ back taken is c.in_ok-taken.ensures.ok c.in_ok-taken.ensures.tail c.in_ok-taken.ensures.ended c.self-2.view_is (rest-whole all taken) more
     ∙ taken-so k.held_of genome limit k.projected k.as_record law.again law.stands c.self-2.inside.read c.take_lines.new.self _ c.in_ok-take_lines.ensures.ok (lines (back ++ more))
     ∙ sym (ap (λ (t : List ℕ). after k.projected genome limit (shown k.as_record c.take_lines.new.self) (lines (t ++ more))) tail)

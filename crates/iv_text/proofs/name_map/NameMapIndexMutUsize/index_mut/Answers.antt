@@ -5,6 +5,6 @@ use Rattle.iv_text.proofs.name_map.NameMapIndexMutUsize.index_mut.Goals as goal
 
 pub returns : goal.returns
 returns g c = (
-  (refl, λ w. set-is (λ v. v.items) c.self.inside.named.entries c.args.place w ∙ ap (λ s. set_value_at s c.args.place w) c.self.view_is),
-  record { writes_back = tt; value = value-at (λ v. v.items) _ _ c.self.view_is c.args.place _ c.index_mut.ensures.value },
+  (refl, λ w. set-is (λ v. v.items) c.self.inside.named.entries c.args.index w ∙ ap (λ s. set_value_at s c.args.index w) c.self.view_is),
+  record { writes_back = tt; value = value-at (λ v. v.items) _ _ c.self.view_is c.args.index _ c.index_mut.ensures.value },
 )

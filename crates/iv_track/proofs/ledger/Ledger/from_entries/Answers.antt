@@ -1,6 +1,6 @@
 use Rattle.std.proofs.Common.{rules, refl, sym, ◌∙◌, subst, ◌≡◌}
 use Rattle.std.specs.Iterator.{Drains, Yields}
-use Rattle.iv_track.specs.Inside.Chunks.{joined}
+use Rattle.iv_track.specs.Inside.Chunks.{concatenated}
 use Rattle.iv_track.specs.Entries.{IsLedger}
 use Rattle.iv_track.proofs.MapLemmas.{whole_gathered}
 use Rattle.iv_track.proofs.ledger.Ledger.from_entries.Goals as goal
@@ -20,8 +20,8 @@ returns-clause-values g c =
     let es = c.loop-entry.yielded in
     let gave : Yields steps c.args.entries es c.loop-entry.entry-iterator = subst (λ it. Yields steps it es c.loop-entry.entry-iterator) (search rules) c.loop-entry.yielded_by in
     let drained : Drains steps c.args.entries es = (c.next.new.self, (c.loop-entry.entry-iterator, gave, search rules)) in
-    let all : joined c.in_ok-chunks.chunks.items ≡ es = c.in_ok-chunks.ensures.all ∙ c.loop-entry.invariant.all in
-    (joined c.in_ok-chunks.chunks.items, subst (Drains steps c.args.entries) (sym all) drained, λ k. refl)
+    let all : concatenated c.in_ok-chunks.chunks.items ≡ es = c.in_ok-chunks.ensures.all ∙ c.loop-entry.invariant.all in
+    (concatenated c.in_ok-chunks.chunks.items, subst (Drains steps c.args.entries) (sym all) drained, λ k. refl)
 
 pub returns-clause-ordered : goal.returns-clause-ordered
 returns-clause-ordered g c =
@@ -29,5 +29,5 @@ returns-clause-ordered g c =
     let es = c.loop-entry.yielded in
     let gave : Yields steps c.args.entries es c.loop-entry.entry-iterator = subst (λ it. Yields steps it es c.loop-entry.entry-iterator) (search rules) c.loop-entry.yielded_by in
     let drained : Drains steps c.args.entries es = (c.next.new.self, (c.loop-entry.entry-iterator, gave, search rules)) in
-    let all : joined c.in_ok-chunks.chunks.items ≡ es = c.in_ok-chunks.ensures.all ∙ c.loop-entry.invariant.all in
+    let all : concatenated c.in_ok-chunks.chunks.items ≡ es = c.in_ok-chunks.ensures.all ∙ c.loop-entry.invariant.all in
     subst (IsLedger g.K.Ord.cmp) (sym all) (c.requires.ascend es drained)

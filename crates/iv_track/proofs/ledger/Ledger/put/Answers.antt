@@ -1,5 +1,5 @@
 use Rattle.std.proofs.Common.{rules, arith, sym, ap, ◌∙◌, ◌≡◌, ◌++◌, ◌∷◌, Some}
-use Rattle.iv_track.specs.Inside.Chunks.{joined, before, from}
+use Rattle.iv_track.specs.Inside.Chunks.{concatenated, before, from}
 use Rattle.iv_track.proofs.RoomLemmas.{always_on_err}
 use Rattle.iv_track.proofs.MapLemmas.{entry_read, found_value, written_insert, whole_written, whole_inserted, gap_value, gap_insert}
 use Rattle.iv_track.proofs.ledger.Ledger.put.Goals as goal
@@ -36,12 +36,12 @@ pub returns-in_ok-put-in-Err-clause-ok : goal.returns-in_ok-put-in-Err-clause-ok
 returns-in_ok-put-in-Err-clause-ok g c =
     let at = c.in-Err.gap in
     let cs = c.self.inside.chunks.items in
-    let written : joined c.insert_at-put.new.chunks.items ≡ before cs at ++ (c.args.key, c.args.value) ∷ from cs at = search rules in
+    let written : concatenated c.insert_at-put.new.chunks.items ≡ before cs at ++ (c.args.key, c.args.value) ∷ from cs at = search rules in
     written ∙ sym (gap_insert c.in-Err.ensures.absent c.deref.ensures.value c.self.view_is c.args.value)
 
 pub returns-in_ok-put-in-Err-clause-ordered : goal.returns-in_ok-put-in-Err-clause-ordered
 returns-in_ok-put-in-Err-clause-ordered g c =
     let at = c.in-Err.gap in
     let cs = c.self.inside.chunks.items in
-    let written : joined c.insert_at-put.new.chunks.items ≡ before cs at ++ (c.args.key, c.args.value) ∷ from cs at = search rules in
+    let written : concatenated c.insert_at-put.new.chunks.items ≡ before cs at ++ (c.args.key, c.args.value) ∷ from cs at = search rules in
     (whole_inserted c.in-Err.ensures.absent c.deref.ensures.value c.self.view_is g.met.K.Ord.total c.args.value c.self.invariant (omega (arith, c.self.invariant.small, c.if-self-eq-MOST_ENTRIES.false)) written c.insert_at-put.ensures.filled).in_chunks.ordered

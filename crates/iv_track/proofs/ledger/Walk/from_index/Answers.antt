@@ -2,7 +2,7 @@ use Rattle.std.proofs.Common.{rules, arith, sym, ap, subst, ◌∙◌, ◌≡◌
 use Rattle.std.specs.Vec.{vec_items}
 use Rattle.std.specs.List.{between}
 use Rattle.std.proofs.lemmas.Slice.{between_to_end}
-use Rattle.iv_track.specs.Inside.Chunks.{joined}
+use Rattle.iv_track.specs.Inside.Chunks.{concatenated}
 use Rattle.iv_track.proofs.ChunkLemmas.{from_at}
 use Rattle.iv_track.proofs.ledger.Walk.from_index.Goals as goal
 
@@ -18,6 +18,6 @@ returns-in-Some g c =
     let items = c.deref.result.now in
     let first : between i (length items) items ≡ drop i (vec_items x) = between_to_end items i (length items) (omega arith) ∙ ap (drop i) c.deref.ensures.value in
     let others : between (n + 1) (length cs) cs ≡ drop (n + 1) cs = between_to_end cs (n + 1) (length cs) (omega arith) in
-    ap (λ xs. xs ++ joined (between (n + 1) (length cs) cs)) first
-    ∙ ap (λ ds. drop i (vec_items x) ++ joined ds) others
+    ap (λ xs. xs ++ concatenated (between (n + 1) (length cs) cs)) first
+    ∙ ap (λ ds. drop i (vec_items x) ++ concatenated ds) others
     ∙ sym (from_at cs n x lt is i (omega (arith, within, x.ok.0)))

@@ -1,17 +1,23 @@
 use Rattle.std.proofs.Common.{ℕ, List, ◌∙◌, ◌+◌, ◌<◌, ap, sym, subst, arith}
-use Rattle.std.specs.Prelude.{slice_index_or, slice_set}
+use Rattle.std.specs.Prelude.{All, slice_index_or, slice_set}
+use Rattle.std.specs.Map.{keys_of}
+use Rattle.std.proofs.lemmas.List.Elements.{All-cons, All-nil}
+use Rattle.iv_text.specs.RecordValue.{RecordValue, IsPlaced}
 use Rattle.iv_track.specs.Copies.{expanded}
 use Rattle.iv_track.specs.Inside.LengthClasses.{length_class}
 use Rattle.iv_track.specs.Lent.{value_of}
-use Rattle.iv_track.proofs.ClassLemmas.{AreCountedBut, counted-room, counted-next, counted-all}
+use Rattle.iv_track.proofs.ClassLemmas.{AreCountedBut, counted-begin, counted-room, counted-next, counted-all}
 use Rattle.iv_track.proofs.length_classes.LengthClasses.of.Goals as goal
+
+pub loop-lent-init : goal.loop-lent-init
+loop-lent-init g c = record { counted = counted-begin c.new-classes.result (expanded c.args.entries) c.new-classes.ensures; placed = λ h. h }
 
 pub add-requires-clause-room : goal.add-requires-clause-room
 add-requires-clause-room g c =
     let l = c.loop-lent in
     omega (
       arith,
-      counted-room l.classes l.entries c.advance.new.self (expanded c.args.entries) (value_of c.in-Some.lent) c.in-Some.copies l.invariant c.in-Some.ensures,
+      counted-room l.classes l.entries c.advance.new.self (expanded c.args.entries) (value_of c.in-Some.lent) c.in-Some.copies l.invariant.counted c.in-Some.ensures,
       ap {B = ℕ} (λ k. slice_index_or l.classes k 0) c.lent_class.ensures.is,
       c.requires,
     )
@@ -19,12 +25,20 @@ add-requires-clause-room g c =
 pub loop-lent-preserved : goal.loop-lent-preserved
 loop-lent-preserved g c =
     let l = c.loop-lent in
+    let rest = c.advance.new.self in
     let feature = value_of c.in-Some.lent in
     let copies = c.in-Some.copies in
     let within : length_class feature < 33 = omega (arith, c.lent_class.ensures.is, c.lent_class.ensures.within) in
-    subst (λ (counts : List ℕ). AreCountedBut counts (expanded c.advance.new.self) (expanded c.args.entries))
-    (sym (c.add.ensures ∙ ap (λ k. slice_set l.classes k (slice_index_or l.classes k 0 + copies)) c.lent_class.ensures.is))
-    (counted-next l.classes l.entries c.advance.new.self (expanded c.args.entries) feature copies l.invariant c.in-Some.ensures within)
+    record {
+      counted = subst (λ (counts : List ℕ). AreCountedBut counts (expanded rest) (expanded c.args.entries))
+          (sym (c.add.ensures ∙ ap (λ k. slice_set l.classes k (slice_index_or l.classes k 0 + copies)) c.lent_class.ensures.is))
+          (counted-next l.classes l.entries rest (expanded c.args.entries) feature copies l.invariant.counted c.in-Some.ensures within);
+      placed = λ h. l.invariant.placed (subst (λ (es : List (RecordValue × ℕ)). All IsPlaced (keys_of es)) (sym c.in-Some.ensures) (All-cons IsPlaced feature (keys_of rest) c.lent_class.ensures.placed h));
+    }
 
-pub returns : goal.returns
-returns g c = counted-all c.loop-lent.classes c.loop-lent.entries (expanded c.args.entries) c.loop-lent.invariant c.in_default.ensures.0
+pub returns-clause-classes : goal.returns-clause-classes
+returns-clause-classes g c = counted-all c.loop-lent.classes c.loop-lent.entries (expanded c.args.entries) c.loop-lent.invariant.counted c.in_default.ensures.0
+
+pub returns-clause-placed : goal.returns-clause-placed
+returns-clause-placed g c =
+    c.loop-lent.invariant.placed (subst (λ (es : List (RecordValue × ℕ)). All IsPlaced (keys_of es)) (sym c.in_default.ensures.0) (All-nil IsPlaced))

@@ -20,26 +20,26 @@ returns-in_default-clause-view g c =
 
 pub returns-clause-ok : goal.returns-clause-ok
 returns-clause-ok g c =
-    let is = placed-current c.args.name.now c.self.inside.views c.in-Some.place (sym c.in-Some.ensures.place) in
-    c.in_ok-refresh_at.ensures.ok ∙ subst (λ l. current_at c.in-Some.place (all_seen l) ≡ with_current (all_seen l) c.args.name.now) c.self.view_is is
+    let is = placed-current c.args.name.now c.self.inside.views c.in-Some.index (sym c.in-Some.ensures.index) in
+    c.in_ok-refresh_at.ensures.ok ∙ subst (λ l. current_at c.in-Some.index (all_seen l) ≡ with_current (all_seen l) c.args.name.now) c.self.view_is is
 
 pub returns-in_default-clause-ok : goal.returns-in_default-clause-ok
 returns-in_default-clause-ok g c =
     subst (λ l. all_seen l ≡ with_current (all_seen l) c.args.name.now) c.self.view_is
-    (unplaced c.args.name.now c.self.inside.views (sym c.in_default.ensures.place))
+    (unplaced c.args.name.now c.self.inside.views (sym c.in_default.ensures.index))
 
 pub returns-in_err-refresh_at-clause-stale : goal.returns-in_err-refresh_at-clause-stale
 returns-in_err-refresh_at-clause-stale g c =
     OnErr-all c.from_residual.result
-    (stale-named c.args.name.now _ _ c.in-Some.place _ c.self.view_is c.in-Some.ensures.place c.in-Some.ensures.value c.in_err-refresh_at.ensures.stale)
+    (stale-named c.args.name.now _ _ c.in-Some.index _ c.self.view_is c.in-Some.ensures.index c.in-Some.ensures.value c.in_err-refresh_at.ensures.stale)
 
 pub returns-in_default-clause-steps : goal.returns-in_default-clause-steps
 returns-in_default-clause-steps g c = inl refl
 
 pub returns-in_err-refresh_at-clause-steps : goal.returns-in_err-refresh_at-clause-steps
 returns-in_err-refresh_at-clause-steps g c =
-    named-stale _ _ c.args.name.now _ _ c.in-Some.place _ c.self.view_is c.in-Some.ensures.place c.in-Some.ensures.value c.refresh_at.ensures.steps
+    named-stale _ _ c.args.name.now _ _ c.in-Some.index _ c.self.view_is c.in-Some.ensures.index c.in-Some.ensures.value c.refresh_at.ensures.steps
 
 pub returns-clause-steps : goal.returns-clause-steps
 returns-clause-steps g c =
-    named-stale _ _ c.args.name.now _ _ c.in-Some.place _ c.self.view_is c.in-Some.ensures.place c.in-Some.ensures.value c.refresh_at.ensures.steps
+    named-stale _ _ c.args.name.now _ _ c.in-Some.index _ c.self.view_is c.in-Some.ensures.index c.in-Some.ensures.value c.refresh_at.ensures.steps

@@ -1,0 +1,105 @@
+-- Edits of the two tracks of a session.
+use Rattle.std.specs.Prelude.{All, IsSomeAnd}
+use Rattle.std.proofs.Common.{◌≡◌, ◌∙◌, ℕ, ◌<◌, List, [], ◌∷◌, Option, None, Some, length, arith, refl, sym, ap, subst}
+use Rattle.iv_text.specs.Genome.{Sequences}
+use Rattle.iv_text.specs.Ordered.{AreInOrder, copies}
+use Rattle.iv_text.specs.Read.{Fits}
+use Rattle.iv_text.specs.RecordValue.{RecordValue, record_cmp, records_total}
+use Rattle.iv_text.proofs.OrderedLemmas.{copies-added, length-added}
+use Rattle.iv_text.proofs.RecordLemmas.{rows_exact}
+use Rattle.iv_track.specs.Edits.{with_record, without_record, with_replaced}
+use Rattle.iv_track.specs.Tracked.{Tracked}
+use Rattle.iv_track.proofs.Counts.{length-removed, removed-added}
+use Rattle.iv_track.proofs.Edits.{All-added, All-removed, added-removed}
+use Rattle.iv_workspace.specs.Edits.{Allows, EditFits, FitsIn, edited}
+use Rattle.iv_workspace.specs.OpenViews.{Shown}
+use Rattle.iv_workspace.specs.States.{State}
+use Rattle.iv_workspace.specs.Inside.States.{IsTrackOn, AreServed, IsSession}
+use Rattle.iv_workspace.specs.Inside.ViewStates.{IsChanged}
+use Rattle.iv_workspace.specs.declared.session.edits.Edit.{Edit}
+use Rattle.iv_workspace.specs.declared.session.edits.Edit.TheVariants as edit
+use Rattle.iv_workspace.specs.declared.session.edits.Target.TheVariants as target
+use Rattle.iv_workspace.specs.declared.views.states.Change.{Change}
+use Rattle.iv_workspace.specs.declared.views.states.Change.TheVariants.{Added, Removed}
+
+-- ---- one track
+
+track-added : (g : Sequences) (t : Tracked) (r : RecordValue) → IsTrackOn g t → Fits g t.width r → length t.records < t.limit → IsTrackOn g (with_record r t)
+track-added g t r is fits room = record {
+  low = is.low;
+  high = is.high;
+  fit = All-added (Fits g t.width) t.records r is.fit fits;
+  few = omega (arith, length-added record_cmp t.records r);
+}
+
+track-removed : (g : Sequences) (t : Tracked) (r : RecordValue) → IsTrackOn g t → 0 < copies t.records r → IsTrackOn g (without_record r t)
+track-removed g t r is there = record {
+  low = is.low;
+  high = is.high;
+  fit = All-removed (Fits g t.width) t.records r is.fit;
+  few = omega (arith, length-removed record_cmp t.records r there, is.few);
+}
+
+-- after an edit that it allows, of records that fit, it is still a session's track
+pub track-edited : (g : Sequences) (t : Tracked) (e : Edit) → IsTrackOn g t → EditFits (Fits g t.width) e → Allows e t → IsTrackOn g (edited e t)
+track-edited g t (edit.Add r) is fits room = track-added g t r is fits room
+track-edited g t (edit.Remove r) is fits there = track-removed g t r is there
+track-edited g t (edit.Replace r q) is fits there =
+    track-added g (without_record r t) q (track-removed g t r is there) fits.1 (omega (arith, length-removed record_cmp t.records r there, is.few))
+
+-- a track before and after a copy of a record was added or taken out
+pub record Changed (change : Change) (g : Sequences) (old new : Tracked) (r : RecordValue) : Type 0 where
+  pub changed : IsChanged change r old.records new.records
+  pub fit : All (Fits g new.width) new.records
+  pub fits : Fits g new.width r
+
+pub changed-added : (g : Sequences) (old new : Tracked) (x r : RecordValue)
+    → x ≡ r → All (Fits g old.width) old.records → Fits g old.width r → new ≡ with_record x old → Changed Added g old new r
+changed-added g old new x r same fit fits is =
+    subst (λ (t : Tracked). Changed Added g old t r) (sym (is ∙ ap (λ (q : RecordValue). with_record q old) same))
+    (record { changed = refl; fit = All-added (Fits g old.width) old.records r fit fits; fits = fits })
+
+pub changed-removed : (g : Sequences) (old new : Tracked) (x r : RecordValue)
+    → x ≡ r → All (Fits g old.width) old.records → Fits g old.width r → AreInOrder old.records → 0 < copies old.records x → new ≡ without_record x old → Changed Removed g old new r
+changed-removed g old new x r same fit fits order there is =
+    let some : 0 < copies old.records r = subst (λ (q : RecordValue). 0 < copies old.records q) same there in
+    subst (λ (t : Tracked). Changed Removed g old t r) (sym (is ∙ ap (λ (q : RecordValue). without_record q old) same))
+    (record { changed = added-removed old.records r order some; fit = All-removed (Fits g old.width) old.records r fit; fits = fits })
+
+pub staged-there : (old mid : Tracked) (r q : RecordValue) → 0 < copies old.records r → mid ≡ with_record q old → 0 < copies mid.records r
+staged-there old mid r q there is = subst (λ (t : Tracked). 0 < copies t.records r) (sym is) (omega (arith, there, copies-added record_cmp old.records q r))
+
+-- a record was added, and then one copy of another taken out
+pub replaced-is : (old mid new : Tracked) (before r after q : RecordValue) → before ≡ r → after ≡ q → AreInOrder old.records → 0 < copies old.records before
+    → mid ≡ with_record after old → new ≡ without_record before mid → new ≡ with_replaced r q old
+replaced-is old mid new before r after q first next order there staged taken =
+    taken ∙ ap (without_record before) staged
+    ∙ ap (λ (l : List RecordValue). record old { records = l }) (removed-added record_cmp records_total rows_exact old.records after before order there)
+    ∙ ap (λ (x : RecordValue). with_replaced x after old) first
+    ∙ ap (λ (x : RecordValue). with_replaced r x old) next
+
+-- ---- the second file
+
+-- what an edit of it needs is that there is one and that the records fit it
+pub fits-second : (e : Edit) (inside s : State) → inside ≡ s → EditFits (FitsIn s target.Second) e → IsSomeAnd inside.second (λ t. EditFits (Fits inside.genome t.width) e)
+fits-second e inside s same fits = subst (λ (x : State). IsSomeAnd x.second (λ t. EditFits (Fits x.genome t.width) e)) (sym same) (by e s.second fits)
+  where
+    by : (e : Edit) (o : Option Tracked) → EditFits (λ r. IsSomeAnd o (λ t. Fits s.genome t.width r)) e → IsSomeAnd o (λ t. EditFits (Fits s.genome t.width) e)
+    by (edit.Add r) o fits = fits
+    by (edit.Remove r) o fits = fits
+    by (edit.Replace r q) None fits = fits.0
+    by (edit.Replace r q) (Some t) fits = fits
+
+-- views beside a second file are served, whatever it holds
+served-second : (second : Option Tracked) (u : Tracked) (views : List (List ℕ × Shown)) → AreServed second views → AreServed (Some u) views
+served-second second u [] served = tt
+served-second second u (v ∷ views) served = (λ needs. refl, served-second second u views served.1)
+
+pub session-second : (g : Sequences) (track : Tracked) (second : Option Tracked) (u : Tracked) (views : List (List ℕ × Shown)) → IsSession g track second views → IsTrackOn g u
+    → IsSession g track (Some u) views
+session-second g track second u views whole on = record {
+  track_is = whole.track_is;
+  second_is = on;
+  served = served-second second u views whole.served;
+  fresh = whole.fresh;
+}
