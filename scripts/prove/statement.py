@@ -10,7 +10,7 @@ from collections import Counter, defaultdict, namedtuple
 
 PROGRAM = ("iv_program", "run_program")
 LINES_OF_A_SCRIPT = ("iv_session", "ScriptLines")  # with these the first part begins
-BYTES = ("iv_text", "Bytes")  # names of bytes, which are lines of the glossary
+BYTES = ("iv_lines", "Bytes")  # names of bytes, which are lines of the glossary
 NOTICES = {("iv_args", "InfoRequests"), ("iv_args", "Texts")}  # what has a section of its own at the end
 # Several definitions of one file have a heading of their own if they are all that it has, or have so many lines; the second number is
 # for all that a part of the page has of the file.
@@ -166,7 +166,7 @@ These numbers are without {uncounted}: the first are lines of the glossary, and 
 
 ## Glossary
 
-The words of Rattle's standard library that definitions use, where each has a definition too, and the names of bytes, from [`iv_text/specs/Bytes.antt`](../crates/iv_text/specs/Bytes.antt). *New words* below a definition are those that no definition above uses.
+The words of Rattle's standard library that definitions use, where each has a definition too, and the names of bytes, from [`iv_lines/specs/Bytes.antt`](../crates/iv_lines/specs/Bytes.antt). *New words* below a definition are those that no definition above uses.
 
 {glossary}
 

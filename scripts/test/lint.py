@@ -39,7 +39,7 @@ MAKES_A_METER = {
 }
 # A list of items in several vectors may be longer than any one of them, so their number is looked at before it grows.
 FULL_COUNTS = {
-    "iv_text/src/batches.rt": (r"let Some\(len\) = self\.len\.checked_add\(1\) else \{", ""),
+    "iv_lines/src/batches.rt": (r"let Some\(len\) = self\.len\.checked_add\(1\) else \{", ""),
     "iv_track/src/ledger.rt": (r"if (?:self\.)?len == MOST_ENTRIES \{", "const MOST_ENTRIES: usize = 9_223_372_036_854_775_807;"),
 }
 # Under its own name it is found wherever it is made: `C::Meter::new()` too.

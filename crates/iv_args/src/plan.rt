@@ -4,10 +4,10 @@ ghost use Rattle.std.specs.Option.{option_copied, option_to_list};
 ghost use Rattle.iv_view.specs.Views.{read_arguments};
 ghost use Rattle.iv_args.specs.Arguments.{RunPlan, IsPlan, file_of, is_session, most_limit};
 ghost use Rattle.iv_args.specs.Inside.Drafts.{Makes, are_view_arguments, begun_by, drafted, has_needed_files, limit_said, viewed, width_said, with_value};
-ghost use Rattle.iv_text.specs.Widths.{IsWidth};
+ghost use Rattle.iv_lines.specs.Widths.{IsWidth};
 
 use crate::subcommand::{RunOption, Subcommand};
-use iv_text::{Fault, read_number};
+use iv_lines::{Fault, read_number};
 use iv_view::{Available, View, ViewFault};
 use std::alloc::{AllocError, Allocator, Global};
 use std::marker::Model;

@@ -4,7 +4,7 @@ use Rattle.std.specs.Map.Iter.{TakesFirst}
 use Rattle.std.specs.List.{take_while, prefix_len}
 use Rattle.std.specs.Option.{is_some}
 use Rattle.iv_cover.specs.declared.block.Block.{Block}
-use Rattle.iv_text.proofs.ListLemmas.{Mem}
+use Rattle.iv_lines.proofs.ListLemmas.{Mem}
 use Rattle.iv_blocks.specs.Inside.BlockCursor.{interval_of, ahead_of, BeginsElse, GivesPassing, drop_while, TakesForEach}
 use Rattle.iv_blocks.specs.KeptBlocks.{Entries}
 

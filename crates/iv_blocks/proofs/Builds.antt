@@ -3,14 +3,14 @@ use Rattle.std.proofs.Common.{ℕ, ◌+◌, ◌<◌, ◌≤◌, ◌≡◌, inl, 
 use Rattle.std.specs.List.Sorted.{IsStrictlySortedBy}
 use Rattle.std.specs.Option.{option_map, option_or}
 use Rattle.std.proofs.lemmas.Bool.{cases_eq, cases_lt, and_parts, and_from, false_from_ne_true}
-use Rattle.iv_text.specs.Genome.{Sequences, sequence_length}
-use Rattle.iv_text.specs.Named.{names_of}
-use Rattle.iv_text.specs.Read.{Fits}
-use Rattle.iv_text.specs.RecordValue.{RecordValue}
+use Rattle.iv_lines.specs.Genome.{Sequences, sequence_length}
+use Rattle.iv_lines.specs.Named.{names_of}
+use Rattle.iv_lines.specs.Read.{Fits}
+use Rattle.iv_lines.specs.RecordValue.{RecordValue}
 use Rattle.iv_track.specs.Entries.{IsLedger, value_at}
 use Rattle.iv_cover.specs.Blocks.{block_at}
 use Rattle.iv_cover.specs.TrackBlocks.{start_of, stop_of}
-use Rattle.iv_text.proofs.ListLemmas.{Mem, filter-agree, filter-filter, filter-none, all-mem, mem-all, same_tests}
+use Rattle.iv_lines.proofs.ListLemmas.{Mem, filter-agree, filter-filter, filter-none, all-mem, mem-all, same_tests}
 use Rattle.iv_blocks.specs.Inside.Groups.{is_in_group, starts_between, between, members_between, is_minus}
 use Rattle.iv_blocks.specs.Groups.{is_on_side, group, listed}
 use Rattle.iv_blocks.specs.KeptBlocks.{Key, key_cmp, Kept, Entries, KeptBlocks, kept_block, kept_at, name_of, AreBlocksOf}

@@ -11,19 +11,19 @@ use Rattle.std.proofs.Math.Bool.{and-true}
 use Rattle.std.proofs.lemmas.List.{map-append, length-map, take-append-drop}
 use Rattle.std.proofs.lemmas.List.Concat.{length-flat_map}
 use Rattle.std.proofs.lemmas.List.Sums.{sum-map}
-use Rattle.iv_text.specs.Genome.{Sequences, sequence_length}
-use Rattle.iv_text.specs.Named.{names_of}
-use Rattle.iv_text.specs.Ordered.{AreInOrder}
-use Rattle.iv_text.specs.Read.{Fits}
-use Rattle.iv_text.specs.RecordText.{record_text}
-use Rattle.iv_text.specs.RecordValue.{RecordValue, record_cmp}
+use Rattle.iv_lines.specs.Genome.{Sequences, sequence_length}
+use Rattle.iv_lines.specs.Named.{names_of}
+use Rattle.iv_lines.specs.Ordered.{AreInOrder}
+use Rattle.iv_lines.specs.Read.{Fits}
+use Rattle.iv_lines.specs.RecordText.{record_text}
+use Rattle.iv_lines.specs.RecordValue.{RecordValue, record_cmp}
 use Rattle.iv_cover.specs.Blocks.{blocks_below, block_at}
 use Rattle.iv_cover.specs.TrackBlocks.{start_of, stop_of}
-use Rattle.iv_text.specs.CoveredPositions.{on}
+use Rattle.iv_lines.specs.CoveredPositions.{on}
 use Rattle.iv_cover.specs.declared.block.Block.{Block}
 use Rattle.iv_cover.proofs.Groups.{mem-append}
-use Rattle.iv_text.proofs.PrecedesLemmas.{Precedes, precedes-from}
-use Rattle.iv_text.proofs.ListLemmas.{Mem, filter-agree, mem-filter}
+use Rattle.iv_lines.proofs.PrecedesLemmas.{Precedes, precedes-from}
+use Rattle.iv_lines.proofs.ListLemmas.{Mem, filter-agree, mem-filter}
 use Rattle.iv_blocks.specs.Inside.BlockCursor.{interval_of, starts_until, drop_while, BeginsElse}
 use Rattle.iv_blocks.specs.ClusterRows.{blocks_before, blocks_until, cluster_row}
 use Rattle.iv_blocks.specs.Inside.Groups.{is_in_group}

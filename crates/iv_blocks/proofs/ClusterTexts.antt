@@ -7,19 +7,19 @@ use Rattle.std.proofs.lemmas.Bool.{cases_Bool, cond-true, cond-false}
 use Rattle.std.proofs.lemmas.List.{map-append, length-map}
 use Rattle.std.proofs.lemmas.List.Concat.{flat_map-append, length-flat_map}
 use Rattle.std.proofs.lemmas.List.Sums.{sum-map}
-use Rattle.iv_text.specs.Genome.{Sequences, sequence_length, seq_count}
-use Rattle.iv_text.specs.Ordered.{AreInOrder}
-use Rattle.iv_text.specs.Read.{IsOnGenome}
-use Rattle.iv_text.specs.RecordValue.{RecordValue}
+use Rattle.iv_lines.specs.Genome.{Sequences, sequence_length, seq_count}
+use Rattle.iv_lines.specs.Ordered.{AreInOrder}
+use Rattle.iv_lines.specs.Read.{IsOnGenome}
+use Rattle.iv_lines.specs.RecordValue.{RecordValue}
 use Rattle.iv_cover.specs.Blocks.{blocks_below, is_block_start, block_stop, members}
 use Rattle.iv_cover.specs.Inside.RemainingBlocks.{is_joined, block_of, block_with, still_open, remaining_blocks}
 use Rattle.iv_cover.specs.TrackBlocks.{BlockWithMembers, start_of, stop_of, block_on, blocks_on, blocks_of}
-use Rattle.iv_text.specs.CoveredPositions.{on}
+use Rattle.iv_lines.specs.CoveredPositions.{on}
 use Rattle.iv_cover.proofs.RemainingLemmas.{remaining-joined, remaining-split_up}
 use Rattle.iv_cover.proofs.Cover.{home}
 use Rattle.iv_cover.proofs.WalkLemmas.{gathered, gathered-more, merge-all, on-in}
 use Rattle.iv_cover.proofs.Positions.{values, values-none, values-some}
-use Rattle.iv_text.proofs.ListLemmas.{Mem, mem-filter, mem-contains}
+use Rattle.iv_lines.proofs.ListLemmas.{Mem, mem-filter, mem-contains}
 use Rattle.iv_blocks.specs.ClusterRows.{blocks_before, cluster_row}
 use Rattle.iv_blocks.specs.Inside.Texts.{block_number, cluster_text}
 use Rattle.iv_blocks.proofs.KeptLemmas.{flat_map-flat_map}

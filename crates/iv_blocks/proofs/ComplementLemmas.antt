@@ -5,12 +5,12 @@ use Rattle.std.specs.Option.{option_map}
 use Rattle.std.proofs.lemmas.Bool.{and_from, and_left, and_parts, cases_eq, false_from_ne_true, or_right, cond-true, cond-false, lt-ltb, le-leb, ne_eqb}
 use Rattle.std.proofs.lemmas.List.Concat.{flat_map-append}
 use Rattle.std.proofs.lemmas.List.Sums.{length-filter}
-use Rattle.iv_text.specs.Genome.{Sequences, seq_count, sequence_name, sequence_length}
-use Rattle.iv_text.specs.Named.{names_of}
-use Rattle.iv_text.specs.Read.{Fits, IsOnGenome}
-use Rattle.iv_text.specs.RecordValue.{RecordValue}
+use Rattle.iv_lines.specs.Genome.{Sequences, seq_count, sequence_name, sequence_length}
+use Rattle.iv_lines.specs.Named.{names_of}
+use Rattle.iv_lines.specs.Read.{Fits, IsOnGenome}
+use Rattle.iv_lines.specs.RecordValue.{RecordValue}
 use Rattle.iv_cover.specs.Blocks.{block_stop, block_at, blocks_below}
-use Rattle.iv_text.specs.CoveredPositions.{covers}
+use Rattle.iv_lines.specs.CoveredPositions.{covers}
 use Rattle.iv_cover.specs.Depth.{depth}
 use Rattle.iv_cover.specs.Runs.{empty_runs}
 use Rattle.iv_cover.specs.TrackBlocks.{start_of, stop_of}
@@ -18,7 +18,7 @@ use Rattle.iv_cover.specs.declared.block.Block.{Block}
 use Rattle.iv_cover.proofs.Cover.{Free, Covered, some_start, block_at_start, block_at-some}
 use Rattle.iv_cover.proofs.Groups.{mem-left, mem-right, mem-append}
 use Rattle.iv_cover.proofs.Positions.{values, values-none, values-some, values-agree, values-none_from}
-use Rattle.iv_text.proofs.ListLemmas.{Mem, mem-filter_from, all-mem, filter-none, any-found, any-none, mem-place}
+use Rattle.iv_lines.proofs.ListLemmas.{Mem, mem-filter_from, all-mem, filter-none, any-found, any-none, mem-place}
 use Rattle.iv_blocks.specs.Inside.BlockCursor.{interval_of, gap_between, gaps_between, starts_until, drop_while, BeginsElse, sequence_text, texts}
 use Rattle.iv_blocks.specs.ComplementRows.{gap_row, gap_rows}
 use Rattle.iv_blocks.specs.Inside.Texts.{complement_text, is_shown}

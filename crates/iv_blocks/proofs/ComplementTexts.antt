@@ -3,9 +3,9 @@ use Rattle.std.proofs.Common.{◌≡◌, ℕ, Bool, false, not, List, [], ◌∷
 use Rattle.std.specs.List.{range_with_len}
 use Rattle.std.specs.Option.{option_map}
 use Rattle.std.proofs.lemmas.Bool.{cases_Bool}
-use Rattle.iv_text.specs.Genome.{Sequences, seq_count, sequence_length}
-use Rattle.iv_text.specs.Read.{IsOnGenome}
-use Rattle.iv_text.specs.RecordValue.{RecordValue}
+use Rattle.iv_lines.specs.Genome.{Sequences, seq_count, sequence_length}
+use Rattle.iv_lines.specs.Read.{IsOnGenome}
+use Rattle.iv_lines.specs.RecordValue.{RecordValue}
 use Rattle.iv_cover.specs.Blocks.{block_at, blocks_below}
 use Rattle.iv_cover.specs.Inside.RemainingBlocks.{is_joined, block_of, block_with, remaining_blocks}
 use Rattle.iv_cover.specs.TrackBlocks.{BlockWithMembers, start_of, stop_of, block_on, blocks_on, blocks_of}

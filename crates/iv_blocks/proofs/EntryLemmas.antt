@@ -15,7 +15,7 @@ use Rattle.std.proofs.lemmas.Map.{lookup-none}
 use Rattle.std.proofs.lemmas.Map.Entries.{none_below_head}
 use Rattle.std.proofs.lemmas.Map.Keys.{le_from_is_le}
 use Rattle.iv_cover.proofs.Positions.{range-more, values, values-none, values-some}
-use Rattle.iv_text.proofs.ListLemmas.{Mem, filter-agree, filter-none, filter-all}
+use Rattle.iv_lines.proofs.ListLemmas.{Mem, filter-agree, filter-none, filter-all}
 use Rattle.iv_track.proofs.EntryIndexLemmas.{le_then, zero_le}
 use Rattle.iv_track.specs.Entries.{IsLedger, value_at}
 use Rattle.iv_track.proofs.NumberOrder.{le-cmp}

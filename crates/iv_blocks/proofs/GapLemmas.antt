@@ -3,7 +3,7 @@ use Rattle.std.proofs.Common.{◌≡◌, ◌≢◌, ℕ, zero, suc, ◌+◌, ◌
 use Rattle.std.specs.List.{range_with_len, cons_option}
 use Rattle.std.specs.Option.{option_map}
 use Rattle.std.proofs.lemmas.Bool.{cases_lt, cases_eq, cases_Bool, lt-ltb, le-ltb, both_ways}
-use Rattle.iv_text.specs.RecordValue.{RecordValue}
+use Rattle.iv_lines.specs.RecordValue.{RecordValue}
 use Rattle.iv_cover.specs.Blocks.{is_block_start, block_stop, block_at}
 use Rattle.iv_cover.specs.Runs.{Run, empty_runs}
 use Rattle.iv_cover.specs.TrackBlocks.{start_of, stop_of}
@@ -11,7 +11,7 @@ use Rattle.iv_cover.specs.declared.block.Block.{Block}
 use Rattle.iv_cover.proofs.BlockLemmas.{covered-in_block}
 use Rattle.iv_cover.proofs.Cover.{Free, Covered, Lasting, IsBlock, cases_covered, block_at_start, block-test, block_at-some, block_at-none, block_unique, none_within}
 use Rattle.iv_cover.proofs.EmptyLemmas.{empty_runs-none, empty_runs-run, empty_runs-skip}
-use Rattle.iv_text.proofs.ListLemmas.{Mem}
+use Rattle.iv_lines.proofs.ListLemmas.{Mem}
 use Rattle.iv_blocks.specs.Inside.BlockCursor.{gap_between, gaps_between}
 
 -- positions of value 0, up to one of another value or the end, are a gap

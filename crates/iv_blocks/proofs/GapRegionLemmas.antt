@@ -4,11 +4,11 @@ use Rattle.std.specs.List.{flat_map}
 use Rattle.std.proofs.lemmas.Bool.{and_from, and_left, and_right, cases_Bool, cases_lt, cases_eq, cond-true, cond-false, false_from_ne_true, both_ways, ne_eqb}
 use Rattle.std.proofs.lemmas.List.Concat.{flat_map-append}
 use Rattle.std.proofs.lemmas.List.Elements.{filter-append}
-use Rattle.iv_text.specs.Genome.{Sequences, sequence_length}
-use Rattle.iv_text.specs.Named.{names_of}
-use Rattle.iv_text.specs.Read.{Fits}
-use Rattle.iv_text.specs.RecordValue.{RecordValue}
-use Rattle.iv_text.proofs.ListLemmas.{Mem, mem-contains, filter-none, any-found, any-at}
+use Rattle.iv_lines.specs.Genome.{Sequences, sequence_length}
+use Rattle.iv_lines.specs.Named.{names_of}
+use Rattle.iv_lines.specs.Read.{Fits}
+use Rattle.iv_lines.specs.RecordValue.{RecordValue}
+use Rattle.iv_lines.proofs.ListLemmas.{Mem, mem-contains, filter-none, any-found, any-at}
 use Rattle.iv_cover.specs.Blocks.{is_block_start}
 use Rattle.iv_cover.specs.Depth.{depth}
 use Rattle.iv_cover.specs.Runs.{Run, empty_runs}

@@ -3,19 +3,19 @@ use Rattle.std.proofs.Common.{◌≡◌, ◌⊎◌, inl, inr, ℕ, ◌+◌, ◌-
 use Rattle.std.specs.Option.{option_map, option_or}
 use Rattle.std.specs.Ordering.{is_le}
 use Rattle.std.proofs.lemmas.Bool.{cond-true, cond-false, cases_Bool, cases_lt, and_parts, and_from, both_ways, false_from_ne_true, false≢true}
-use Rattle.iv_text.specs.Genome.{Sequences, sequence_name}
-use Rattle.iv_text.specs.Named.{names_of}
-use Rattle.iv_text.specs.Ordered.{added}
-use Rattle.iv_text.specs.Read.{Fits}
-use Rattle.iv_text.specs.RecordValue.{RecordValue, record_cmp}
-use Rattle.iv_text.specs.declared.record_ref.Strand.{Strand}
-use Rattle.iv_text.specs.declared.record_ref.Strand.TheVariants.{Plus, Minus, Dot}
+use Rattle.iv_lines.specs.Genome.{Sequences, sequence_name}
+use Rattle.iv_lines.specs.Named.{names_of}
+use Rattle.iv_lines.specs.Ordered.{added}
+use Rattle.iv_lines.specs.Read.{Fits}
+use Rattle.iv_lines.specs.RecordValue.{RecordValue, record_cmp}
+use Rattle.iv_lines.specs.declared.record_ref.Strand.{Strand}
+use Rattle.iv_lines.specs.declared.record_ref.Strand.TheVariants.{Plus, Minus, Dot}
 use Rattle.iv_track.specs.Entries.{IsLedger, value_at}
 use Rattle.iv_track.specs.Steps.{TakesUpTo}
 use Rattle.iv_cover.specs.TrackBlocks.{start_of, stop_of}
 use Rattle.iv_cover.specs.Blocks.{block_at}
 use Rattle.iv_cover.specs.Inside.Blocks.{reaches}
-use Rattle.iv_text.proofs.ListLemmas.{Mem, any-at, mem-filter, mem-filter_from, all-mem, mem-all, filter-agree, filter-filter, filter-weaker, same_tests}
+use Rattle.iv_lines.proofs.ListLemmas.{Mem, any-at, mem-filter, mem-filter_from, all-mem, mem-all, filter-agree, filter-filter, filter-weaker, same_tests}
 use Rattle.iv_cover.proofs.Groups.{HasOneMore, one_more}
 use Rattle.iv_cover.proofs.BlockLemmas.{one_more-filter}
 use Rattle.iv_cover.proofs.Cover.{Covered, Lasting, IsBlock, starts_in, starts_in-true, stops_within}

@@ -3,15 +3,15 @@ use Rattle.std.proofs.Common.{ℕ, ◌+◌, ◌*◌, ◌<◌, ◌≤◌, max, �
 use Rattle.std.specs.Option.{option_map, option_or}
 use Rattle.std.proofs.lemmas.Bool.{cond-true, cond-false, cases_Bool, cases_lt, and_parts, and_from, and_left, and_right, false_from_ne_true}
 use Rattle.std.proofs.lemmas.List.Elements.{filter-append}
-use Rattle.iv_text.specs.Genome.{Sequences, sequence_name}
-use Rattle.iv_text.specs.Named.{names_of}
-use Rattle.iv_text.specs.Ordered.{AreInOrder}
-use Rattle.iv_text.specs.Read.{Fits}
-use Rattle.iv_text.specs.RecordValue.{RecordValue, record_cmp}
+use Rattle.iv_lines.specs.Genome.{Sequences, sequence_name}
+use Rattle.iv_lines.specs.Named.{names_of}
+use Rattle.iv_lines.specs.Ordered.{AreInOrder}
+use Rattle.iv_lines.specs.Read.{Fits}
+use Rattle.iv_lines.specs.RecordValue.{RecordValue, record_cmp}
 use Rattle.iv_track.specs.Entries.{IsLedger, value_at}
 use Rattle.iv_cover.specs.Blocks.{block_at}
 use Rattle.iv_cover.specs.TrackBlocks.{start_of, stop_of}
-use Rattle.iv_text.proofs.ListLemmas.{Mem, mem-filter, mem-filter_from, filter-agree, filter-filter, filter-none, all-mem, same_tests}
+use Rattle.iv_lines.proofs.ListLemmas.{Mem, mem-filter, mem-filter_from, filter-agree, filter-filter, filter-none, all-mem, same_tests}
 use Rattle.iv_cover.proofs.Groups.{mem-left, mem-right, mem-append}
 use Rattle.iv_cover.proofs.Cover.{Lasting, starts_in}
 use Rattle.iv_blocks.specs.Inside.Groups.{is_in_group, starts_between, between, between_on, members_between, is_apart, is_minus}
@@ -23,7 +23,7 @@ use Rattle.iv_blocks.specs.declared.options.BlockOptions.{BlockOptions}
 use Rattle.iv_blocks.proofs.Keys.{look-put, look-put_other}
 use Rattle.iv_blocks.proofs.NameLemmas.{name-same}
 use Rattle.iv_blocks.proofs.SweepLemmas.{shown, IsPut, put-first, put-join, put-open, put-all}
-use Rattle.iv_text.proofs.InOrderLemmas.{in_order-filter}
+use Rattle.iv_lines.proofs.InOrderLemmas.{in_order-filter}
 use Rattle.iv_blocks.proofs.MembersLemmas.{between-true, between-from, in_group-on, in_order-parts}
 
 -- ---- records of a range

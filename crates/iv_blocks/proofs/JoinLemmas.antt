@@ -2,7 +2,7 @@
 use Rattle.std.proofs.Common.{◌≡◌, ◌⊎◌, inl, inr, ℕ, zero, suc, ◌+◌, ◌-◌, ◌<◌, ◌≤◌, max, true, if◌then◌else◌, ◌==◌, List, length, filter, Option, Some, None, refl, sym, ap, ◌∙◌, arith, eq-eqb, ne_eqb}
 use Rattle.std.specs.Option.{is_some}
 use Rattle.std.proofs.lemmas.Bool.{cond-true, cond-false, cases_lt, cases_eq, false_from_ne_true}
-use Rattle.iv_text.proofs.ListLemmas.{Mem, filter-weaker, filter-weaker_more}
+use Rattle.iv_lines.proofs.ListLemmas.{Mem, filter-weaker, filter-weaker_more}
 use Rattle.iv_cover.proofs.Cover.{starts_in, starts_in-true, starts_in-from}
 use Rattle.iv_blocks.specs.KeptBlocks.{Kept}
 use Rattle.iv_blocks.specs.Inside.Lookups.{IsFirstBlock}

@@ -5,16 +5,16 @@ use Rattle.std.specs.Option.{option_map, unwrap_or}
 use Rattle.std.proofs.lemmas.Bool.{and_parts, and_right}
 use Rattle.std.proofs.lemmas.List.Concat.{flat_map-append}
 use Rattle.std.proofs.lemmas.Option.{slice_get-map}
-use Rattle.iv_text.specs.Genome.{Sequences, seq_count, sequence_name, sequence_length}
-use Rattle.iv_text.specs.Named.{names_of}
-use Rattle.iv_text.specs.Read.{Fits}
-use Rattle.iv_text.specs.RecordValue.{RecordValue}
+use Rattle.iv_lines.specs.Genome.{Sequences, seq_count, sequence_name, sequence_length}
+use Rattle.iv_lines.specs.Named.{names_of}
+use Rattle.iv_lines.specs.Read.{Fits}
+use Rattle.iv_lines.specs.RecordValue.{RecordValue}
 use Rattle.iv_cover.specs.Blocks.{block_at, blocks_below}
 use Rattle.iv_cover.specs.TrackBlocks.{start_of, stop_of}
 use Rattle.iv_cover.proofs.Cover.{no_start-test, block_at-none}
 use Rattle.iv_cover.proofs.WalkLemmas.{blocks-none}
 use Rattle.iv_cover.proofs.Positions.{values-agree}
-use Rattle.iv_text.proofs.ListLemmas.{Mem, mem-filter, all-mem, filter-none}
+use Rattle.iv_lines.proofs.ListLemmas.{Mem, mem-filter, all-mem, filter-none}
 use Rattle.iv_blocks.specs.Inside.Groups.{is_in_group}
 use Rattle.iv_blocks.specs.Groups.{is_on_side, group, sides, listed}
 use Rattle.iv_blocks.specs.KeptBlocks.{Key, Kept, Entries, AreBlocksOf, kept_at, kept_block, name_of}

@@ -4,13 +4,13 @@ use Rattle.std.specs.Ordering.{is_le, ordering_then}
 use Rattle.std.proofs.lemmas.Bool.{cond-true, cond-false, cases_Bool, and_parts, and_from, and_left, false_from_ne_true}
 use Rattle.std.proofs.lemmas.Cmp.{ranked, by_ranked}
 use Rattle.std.proofs.lemmas.Map.Keys.{le_from_is_le}
-use Rattle.iv_text.specs.Ordered.{AreInOrder}
-use Rattle.iv_text.specs.RecordValue.{RecordValue, record_cmp}
+use Rattle.iv_lines.specs.Ordered.{AreInOrder}
+use Rattle.iv_lines.specs.RecordValue.{RecordValue, record_cmp}
 use Rattle.iv_track.specs.Tracked.{is_from}
 use Rattle.iv_track.proofs.NumberOrder.{le-cmp}
-use Rattle.iv_text.proofs.InOrderLemmas.{all-recursion, recursion-all, in_order-filter}
-use Rattle.iv_text.proofs.ListLemmas.{Mem, mem-filter, filter-agree, filter-filter, filter-none, same_tests}
-use Rattle.iv_text.proofs.PrecedesLemmas.{Precedes, precedes-from}
+use Rattle.iv_lines.proofs.InOrderLemmas.{all-recursion, recursion-all, in_order-filter}
+use Rattle.iv_lines.proofs.ListLemmas.{Mem, mem-filter, filter-agree, filter-filter, filter-none, same_tests}
+use Rattle.iv_lines.proofs.PrecedesLemmas.{Precedes, precedes-from}
 use Rattle.iv_blocks.specs.Inside.MembersLeft.{MembersLeft, IsAhead}
 use Rattle.iv_blocks.specs.Inside.Groups.{is_in_group, starts_between, between_on, members_between, is_apart, is_minus}
 use Rattle.iv_blocks.specs.Groups.{is_on_side}

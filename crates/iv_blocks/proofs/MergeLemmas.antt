@@ -4,10 +4,10 @@ use Rattle.std.specs.Prelude.{codes, decimal}
 use Rattle.std.specs.List.{flat_map, range_with_len}
 use Rattle.std.proofs.lemmas.List.Folds.{flat_map-map}
 use Rattle.std.proofs.lemmas.List.{length-map}
-use Rattle.iv_text.specs.Genome.{Sequences, seq_count, sequence_name}
-use Rattle.iv_text.specs.Named.{names_of}
-use Rattle.iv_text.specs.Read.{Fits}
-use Rattle.iv_text.specs.RecordValue.{RecordValue}
+use Rattle.iv_lines.specs.Genome.{Sequences, seq_count, sequence_name}
+use Rattle.iv_lines.specs.Named.{names_of}
+use Rattle.iv_lines.specs.Read.{Fits}
+use Rattle.iv_lines.specs.RecordValue.{RecordValue}
 use Rattle.iv_blocks.specs.Groups.{sides}
 use Rattle.iv_blocks.specs.KeptBlocks.{Key, Kept, Entries, AreBlocksOf}
 use Rattle.iv_blocks.specs.MergeRows.{side_blocks, all_blocks}

@@ -2,8 +2,8 @@
 use Rattle.std.proofs.Common.{◌≡◌, ℕ, List, [], Option, ap}
 use Rattle.std.specs.Option.{unwrap_or}
 use Rattle.std.proofs.lemmas.Option.{slice_get-map}
-use Rattle.iv_text.specs.Genome.{Sequences, sequence_name}
-use Rattle.iv_text.specs.Named.{names_of}
+use Rattle.iv_lines.specs.Genome.{Sequences, sequence_name}
+use Rattle.iv_lines.specs.Named.{names_of}
 use Rattle.iv_blocks.specs.KeptBlocks.{name_of}
 
 pub name-same : (g : Sequences) (rank : ℕ) → name_of (names_of g) rank ≡ sequence_name g rank

@@ -2,13 +2,13 @@
 use Rattle.std.proofs.Common.{ℕ, ◌+◌, ◌<◌, ◌≤◌, max, ◌≡◌, ◌⊎◌, inl, inr, List, [], ◌∷◌, ◌++◌, length, filter, true, ◌==◌, ◌&&◌, refl, sym, ap, ap₂, subst, ◌∙◌, arith, eqb-true}
 use Rattle.std.specs.Ordering.{is_le}
 use Rattle.std.proofs.lemmas.Bool.{cond-true, cond-false, cases_lt, and_parts, and_from, false_from_ne_true}
-use Rattle.iv_text.specs.Genome.{Sequences}
-use Rattle.iv_text.specs.Ordered.{AreInOrder}
-use Rattle.iv_text.specs.RecordValue.{RecordValue, record_cmp}
+use Rattle.iv_lines.specs.Genome.{Sequences}
+use Rattle.iv_lines.specs.Ordered.{AreInOrder}
+use Rattle.iv_lines.specs.RecordValue.{RecordValue, record_cmp}
 use Rattle.iv_cover.specs.TrackBlocks.{start_of, stop_of}
-use Rattle.iv_text.proofs.InOrderLemmas.{all-recursion, in_order-filter}
-use Rattle.iv_text.proofs.ListLemmas.{Mem, any-found, filter-all, filter-none, filter-weaker}
-use Rattle.iv_text.proofs.PrecedesLemmas.{precedes-from}
+use Rattle.iv_lines.proofs.InOrderLemmas.{all-recursion, in_order-filter}
+use Rattle.iv_lines.proofs.ListLemmas.{Mem, any-found, filter-all, filter-none, filter-weaker}
+use Rattle.iv_lines.proofs.PrecedesLemmas.{precedes-from}
 use Rattle.iv_cover.proofs.Groups.{mem-left, mem-right, mem-append}
 use Rattle.iv_cover.proofs.Cover.{Lasting, covered_from, free-covered, free-past_last}
 use Rattle.iv_blocks.specs.Inside.Groups.{starts_between, between_on, members_between}

@@ -5,20 +5,20 @@ use Rattle.std.specs.Option.{option_map}
 use Rattle.std.specs.Prelude.{sum}
 use Rattle.std.proofs.lemmas.Bool.{cases_lt, cases_eq, both_ways, cond-true, false_from_ne_true}
 use Rattle.std.proofs.lemmas.List.Sums.{sum-map, sum_by-append, sum_by-cons}
-use Rattle.iv_text.specs.Genome.{Sequences, sequence_length}
-use Rattle.iv_text.specs.Read.{IsOnGenome}
-use Rattle.iv_text.specs.RecordValue.{RecordValue}
+use Rattle.iv_lines.specs.Genome.{Sequences, sequence_length}
+use Rattle.iv_lines.specs.Read.{IsOnGenome}
+use Rattle.iv_lines.specs.RecordValue.{RecordValue}
 use Rattle.iv_cover.specs.BlockTerms.{BelongsTo}
 use Rattle.iv_cover.specs.Blocks.{is_block_start, block_at, block_stop, members}
 use Rattle.iv_cover.specs.TrackBlocks.{start_of, stop_of}
-use Rattle.iv_text.specs.CoveredPositions.{on}
+use Rattle.iv_lines.specs.CoveredPositions.{on}
 use Rattle.iv_cover.proofs.BlockLemmas.{blocks-home}
 use Rattle.iv_cover.proofs.Cover.{home, home-le, home-last, home-starts}
 use Rattle.iv_cover.proofs.Last.{last-is}
 use Rattle.iv_cover.proofs.Meanings.{member-means}
 use Rattle.iv_cover.proofs.WalkLemmas.{on-from}
 use Rattle.iv_cover.proofs.Positions.{range-more, values, values-none, values-some}
-use Rattle.iv_text.proofs.ListLemmas.{Mem, contains-mem, mem-contains, all-mem}
+use Rattle.iv_lines.proofs.ListLemmas.{Mem, contains-mem, mem-contains, all-mem}
 use Rattle.iv_blocks.specs.ClusterRows.{blocks_before}
 use Rattle.iv_blocks.specs.Inside.Texts.{block_number}
 

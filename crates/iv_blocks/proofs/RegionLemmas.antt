@@ -13,11 +13,11 @@ use Rattle.std.proofs.lemmas.List.{length-map}
 use Rattle.std.proofs.lemmas.List.Elements.{filter-append}
 use Rattle.std.proofs.lemmas.List.Folds.{flat_map-map}
 use Rattle.std.proofs.lemmas.Map.Keys.{le_from_is_le}
-use Rattle.iv_text.specs.Genome.{Sequences, sequence_name, sequence_length}
-use Rattle.iv_text.specs.Named.{names_of}
-use Rattle.iv_text.specs.Read.{Fits}
-use Rattle.iv_text.specs.RecordValue.{RecordValue}
-use Rattle.iv_text.proofs.ListLemmas.{Mem, mem-filter, all-mem, filter-agree, filter-none}
+use Rattle.iv_lines.specs.Genome.{Sequences, sequence_name, sequence_length}
+use Rattle.iv_lines.specs.Named.{names_of}
+use Rattle.iv_lines.specs.Read.{Fits}
+use Rattle.iv_lines.specs.RecordValue.{RecordValue}
+use Rattle.iv_lines.proofs.ListLemmas.{Mem, mem-filter, all-mem, filter-agree, filter-none}
 use Rattle.iv_track.specs.Entries.{IsLedger, value_at}
 use Rattle.iv_cover.specs.TrackBlocks.{start_of, stop_of}
 use Rattle.iv_cover.proofs.Cover.{Lasting, IsBlock, ends_before}

@@ -3,14 +3,14 @@ use Rattle.std.proofs.Common.{ℕ, ◌+◌, ◌≤◌, ◌≡◌, Bool, true, fa
 use Rattle.std.proofs.lemmas.Bool.{cond-true, cond-false}
 use Rattle.std.proofs.lemmas.List.Elements.{filter-append}
 use Rattle.std.specs.Prelude.{slice_get}
-use Rattle.iv_text.specs.RecordValue.{RecordValue}
+use Rattle.iv_lines.specs.RecordValue.{RecordValue}
 use Rattle.iv_blocks.specs.Inside.Groups.{is_on}
 use Rattle.iv_blocks.specs.declared.group.Side.TheVariants.{Both}
 use Rattle.iv_cover.specs.declared.block.Block.{Block}
 use Rattle.iv_cover.specs.TrackBlocks.{BlockWithMembers, with_members}
 use Rattle.iv_cover.specs.Inside.RemainingBlocks.{is_joined, remaining_blocks}
 use Rattle.iv_cover.proofs.RemainingLemmas.{remaining-joined, remaining-split_up}
-use Rattle.iv_text.proofs.ListLemmas.{filter-weaker, filter-all}
+use Rattle.iv_lines.proofs.ListLemmas.{filter-weaker, filter-all}
 use Rattle.iv_blocks.proofs.ComingLemmas.{drop-next}
 
 pub few : {X : Type 0} (p : X → Bool) (xs : List X) → length (filter p xs) ≤ length xs

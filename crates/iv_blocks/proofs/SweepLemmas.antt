@@ -3,7 +3,7 @@ use Rattle.std.proofs.Common.{ℕ, ◌+◌, ◌<◌, ◌≤◌, max, ◌≡◌, 
 use Rattle.std.specs.Option.{option_map, option_or}
 use Rattle.std.proofs.lemmas.Bool.{cond-true, cond-false, cases_lt, cases_eq}
 use Rattle.iv_cover.specs.Blocks.{block_at}
-use Rattle.iv_text.proofs.ListLemmas.{Mem}
+use Rattle.iv_lines.proofs.ListLemmas.{Mem}
 use Rattle.iv_cover.proofs.Groups.{one_pushed}
 use Rattle.iv_cover.proofs.Cover.{Lasting, lasting-fewer, starts_in, block_at-some, block_at-none}
 use Rattle.iv_cover.proofs.Swept.{IsLastBlock, last-first, last-join, last-open, first-before, join-before, open-before}

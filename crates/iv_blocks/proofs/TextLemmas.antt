@@ -2,17 +2,17 @@
 use Rattle.std.proofs.Common.{ℕ, suc, ◌+◌, ◌-◌, ◌<◌, ◌≡◌, ◌==◌, Bool, true, List, [], ◌++◌, map, filter, None, sym, ap, ◌∙◌, All, append-nil, arith, eq-eqb}
 use Rattle.std.specs.List.{flat_map, range_with_len}
 use Rattle.std.proofs.lemmas.List.Folds.{flat_map-map}
-use Rattle.iv_text.specs.Genome.{Sequences, seq_count, sequence_name, sequence_length}
-use Rattle.iv_text.specs.Ordered.{AreInOrder}
-use Rattle.iv_text.specs.Read.{IsOnGenome}
-use Rattle.iv_text.specs.RecordValue.{RecordValue, record_cmp}
+use Rattle.iv_lines.specs.Genome.{Sequences, seq_count, sequence_name, sequence_length}
+use Rattle.iv_lines.specs.Ordered.{AreInOrder}
+use Rattle.iv_lines.specs.Read.{IsOnGenome}
+use Rattle.iv_lines.specs.RecordValue.{RecordValue, record_cmp}
 use Rattle.iv_cover.specs.Blocks.{blocks_below}
 use Rattle.iv_cover.specs.Inside.RemainingBlocks.{remaining_blocks}
 use Rattle.iv_cover.specs.TrackBlocks.{BlockWithMembers, start_of, stop_of, block_on, blocks_on}
-use Rattle.iv_text.specs.CoveredPositions.{on}
-use Rattle.iv_text.proofs.InOrderLemmas.{in_order-filter}
+use Rattle.iv_lines.specs.CoveredPositions.{on}
+use Rattle.iv_lines.proofs.InOrderLemmas.{in_order-filter}
 use Rattle.iv_cover.proofs.WalkLemmas.{gathered-more, gathered-none_from, merge-all, on-none, blocks-none}
-use Rattle.iv_text.proofs.ListLemmas.{all-mem, mem-all, filter-filter, filter-all}
+use Rattle.iv_lines.proofs.ListLemmas.{all-mem, mem-all, filter-filter, filter-all}
 use Rattle.iv_blocks.specs.Groups.{group, is_on_side, listed, sides}
 use Rattle.iv_blocks.specs.Inside.Groups.{is_in_group, is_on}
 use Rattle.iv_blocks.specs.Inside.Texts.{side_rows}

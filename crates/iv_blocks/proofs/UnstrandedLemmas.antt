@@ -4,14 +4,14 @@ use Rattle.std.specs.Iterator.{Drains, YieldsFirst}
 use Rattle.std.specs.List.{flat_map, range_with_len}
 use Rattle.std.proofs.lemmas.Iterator.Consumers.{YieldsList-from_shown}
 use Rattle.std.proofs.lemmas.List.Elements.{All-weaker}
-use Rattle.iv_text.specs.Genome.{Sequences, seq_count, sequence_length}
-use Rattle.iv_text.specs.Named.{names_of}
-use Rattle.iv_text.specs.Read.{Fits, IsOnGenome}
-use Rattle.iv_text.specs.RecordValue.{RecordValue}
+use Rattle.iv_lines.specs.Genome.{Sequences, seq_count, sequence_length}
+use Rattle.iv_lines.specs.Named.{names_of}
+use Rattle.iv_lines.specs.Read.{Fits, IsOnGenome}
+use Rattle.iv_lines.specs.RecordValue.{RecordValue}
 use Rattle.iv_cover.specs.Blocks.{blocks_below}
 use Rattle.iv_cover.specs.TrackBlocks.{BlockWithMembers, start_of, stop_of, block_on, blocks_on, blocks_of, with_members}
-use Rattle.iv_text.specs.CoveredPositions.{on}
-use Rattle.iv_text.proofs.ListLemmas.{filter-agree}
+use Rattle.iv_lines.specs.CoveredPositions.{on}
+use Rattle.iv_lines.proofs.ListLemmas.{filter-agree}
 use Rattle.iv_track.specs.Entries.{IsLedger, value_at}
 use Rattle.iv_track.proofs.CountedLemmas.{given-items}
 use Rattle.iv_cover.specs.Inside.RemainingBlocks.{remaining_blocks, is_joined}

@@ -1,11 +1,11 @@
 -- The rows of a cluster.
 use Rattle.std.specs.Prelude.{ℕ, ◌+◌, ◌++◌, List, length, map, sum, codes, decimal}
 use Rattle.std.specs.List.{range_with_len}
-use Rattle.iv_text.specs.Genome.{Sequences, sequence_length}
-use Rattle.iv_text.specs.RecordText.{record_text}
-use Rattle.iv_text.specs.RecordValue.{RecordValue}
+use Rattle.iv_lines.specs.Genome.{Sequences, sequence_length}
+use Rattle.iv_lines.specs.RecordText.{record_text}
+use Rattle.iv_lines.specs.RecordValue.{RecordValue}
 use Rattle.iv_cover.specs.Blocks.{blocks_below}
-use Rattle.iv_text.specs.CoveredPositions.{on}
+use Rattle.iv_lines.specs.CoveredPositions.{on}
 use Rattle.iv_cover.specs.TrackBlocks.{start_of, stop_of}
 
 -- how many blocks start below a position of the sequence of this rank

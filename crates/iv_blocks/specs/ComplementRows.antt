@@ -1,8 +1,8 @@
 -- The rows of a complement.
 use Rattle.std.specs.Prelude.{ℕ, ◌++◌, ◌==◌, Bool, ◌||◌, not, List, [], Option, codes, decimal, if◌then◌else◌}
 use Rattle.std.specs.List.{flat_map, list_any}
-use Rattle.iv_text.specs.Genome.{Sequences, sequence_name, sequence_length}
-use Rattle.iv_text.specs.RecordValue.{RecordValue}
+use Rattle.iv_lines.specs.Genome.{Sequences, sequence_name, sequence_length}
+use Rattle.iv_lines.specs.RecordValue.{RecordValue}
 use Rattle.iv_track.specs.Parts.{intervals_in}
 use Rattle.iv_track.specs.declared.region.Region.{Region}
 use Rattle.iv_cover.specs.Depth.{depth}

@@ -1,13 +1,13 @@
 -- Which records of a track may be in one block.
 use Rattle.std.specs.Prelude.{ℕ, ◌-◌, ◌++◌, length, replicate, ◌==◌, ◌&&◌, Bool, true, false, not, List, [], ◌∷◌, filter, take, Option, None, Some, if◌then◌else◌}
-use Rattle.iv_text.specs.RecordValue.{RecordValue}
-use Rattle.iv_text.specs.declared.record_ref.Strand.{Strand}
+use Rattle.iv_lines.specs.RecordValue.{RecordValue}
+use Rattle.iv_lines.specs.declared.record_ref.Strand.{Strand}
 use Rattle.iv_cover.specs.declared.column.Column.TheVariants.{Sequence}
 use Rattle.iv_cover.specs.declared.column.ColumnSummary.{ColumnSummary}
 use Rattle.iv_cover.specs.declared.op.Op.TheVariants.{Count}
 use Rattle.iv_blocks.specs.declared.options.BlockOptions.{BlockOptions}
 use Rattle.iv_blocks.specs.declared.options.Summaries.{Summaries}
-use Rattle.iv_text.specs.declared.record_ref.Strand.TheVariants.{Plus, Minus, Dot}
+use Rattle.iv_lines.specs.declared.record_ref.Strand.TheVariants.{Plus, Minus, Dot}
 
 -- the strand is the minus strand, or the plus strand
 abbrev pub is_strand : Bool → Option Strand → Bool

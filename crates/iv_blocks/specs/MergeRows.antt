@@ -1,8 +1,8 @@
 -- The rows of a merge.
 use Rattle.std.specs.Prelude.{ℕ, ◌++◌, Bool, List, Option, codes, decimal}
 use Rattle.std.specs.List.{flat_map, range_with_len}
-use Rattle.iv_text.specs.Genome.{Sequences, seq_count, sequence_name, sequence_length}
-use Rattle.iv_text.specs.RecordValue.{RecordValue}
+use Rattle.iv_lines.specs.Genome.{Sequences, seq_count, sequence_name, sequence_length}
+use Rattle.iv_lines.specs.RecordValue.{RecordValue}
 use Rattle.iv_track.specs.Parts.{intervals_in}
 use Rattle.iv_track.specs.declared.region.Region.{Region}
 use Rattle.iv_cover.specs.Blocks.{blocks_below}

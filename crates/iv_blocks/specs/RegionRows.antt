@@ -1,8 +1,8 @@
 -- The blocks and gaps that share a position with a region, by which the steps of its print are counted.
 use Rattle.std.specs.Prelude.{ℕ, ◌&&◌, nat_lt, Bool, List, filter}
 use Rattle.std.specs.List.{flat_map}
-use Rattle.iv_text.specs.Genome.{Sequences}
-use Rattle.iv_text.specs.RecordValue.{RecordValue}
+use Rattle.iv_lines.specs.Genome.{Sequences}
+use Rattle.iv_lines.specs.RecordValue.{RecordValue}
 use Rattle.iv_cover.specs.Runs.{Run}
 use Rattle.iv_blocks.specs.ComplementRows.{gaps}
 use Rattle.iv_blocks.specs.Groups.{sides}

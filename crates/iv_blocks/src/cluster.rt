@@ -2,8 +2,8 @@
 ghost use Rattle.std.specs.Prelude.{◌≡◌, ◌<◌, ◌+◌, ◌^◌, All, length};
 ghost use Rattle.std.specs.List.{take_while};
 ghost use Rattle.iv_bytes.specs.Sinks.{Puts};
-ghost use Rattle.iv_text.specs.Named.{names_of};
-ghost use Rattle.iv_text.specs.Read.{Fits};
+ghost use Rattle.iv_lines.specs.Named.{names_of};
+ghost use Rattle.iv_lines.specs.Read.{Fits};
 ghost use Rattle.iv_track.specs.Steps.{TakesUpTo};
 ghost use Rattle.iv_blocks.specs.Inside.BlockCursor.{starts_until, drop_while, TakesForEach};
 ghost use Rattle.iv_blocks.specs.Inside.Texts.{cluster_text};
@@ -14,7 +14,7 @@ ghost use Rattle.iv_blocks.specs.MergeRows.{all_blocks};
 use crate::block_cursor::{BlockCursor, BlocksAhead};
 use crate::blocks::Blocks;
 use iv_bytes::{Sink, WriteFault};
-use iv_text::{Genome, put_numbered};
+use iv_lines::{Genome, put_numbered};
 use iv_track::{Meter, Track};
 use std::alloc::Allocator;
 

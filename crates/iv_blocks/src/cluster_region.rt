@@ -1,8 +1,8 @@
 //! The rows of a cluster in one region.
 ghost use Rattle.std.specs.Prelude.{◌≡◌, ◌<◌, ◌+◌, All, length};
 ghost use Rattle.iv_bytes.specs.Sinks.{Puts};
-ghost use Rattle.iv_text.specs.Named.{names_of};
-ghost use Rattle.iv_text.specs.Read.{Fits};
+ghost use Rattle.iv_lines.specs.Named.{names_of};
+ghost use Rattle.iv_lines.specs.Read.{Fits};
 ghost use Rattle.iv_track.specs.Regions.{near};
 ghost use Rattle.iv_track.specs.Steps.{TakesUpTo};
 ghost use Rattle.iv_blocks.specs.ClusterRows.{blocks_until};
@@ -14,7 +14,7 @@ use crate::block_cursor::BlockCursor;
 use crate::blocks::Blocks;
 use crate::cluster::count_until;
 use iv_bytes::{Sink, WriteFault};
-use iv_text::{Genome, put_numbered};
+use iv_lines::{Genome, put_numbered};
 use iv_track::{Meter, Region, Track};
 use std::alloc::Allocator;
 

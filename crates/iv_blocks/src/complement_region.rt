@@ -2,9 +2,9 @@
 ghost use Rattle.std.specs.Prelude.{◌≡◌, ◌+◌, ◌<◌, ◌≤◌, ◌==◌, ◌&&◌, ◌||◌, nat_le, ℕ, [], Some, All, length, if◌then◌else◌};
 ghost use Rattle.std.specs.List.{flat_map};
 ghost use Rattle.iv_bytes.specs.Sinks.{Puts};
-ghost use Rattle.iv_text.specs.Genome.{sequence_name};
-ghost use Rattle.iv_text.specs.Named.{names_of};
-ghost use Rattle.iv_text.specs.Read.{Fits};
+ghost use Rattle.iv_lines.specs.Genome.{sequence_name};
+ghost use Rattle.iv_lines.specs.Named.{names_of};
+ghost use Rattle.iv_lines.specs.Read.{Fits};
 ghost use Rattle.iv_track.specs.Steps.{TakesUpTo};
 ghost use Rattle.iv_blocks.specs.ComplementRows.{gap_row};
 ghost use Rattle.iv_blocks.specs.Groups.{plain_options};
@@ -18,7 +18,7 @@ use crate::blocks::Blocks;
 use crate::complement::put_gap;
 use crate::group::{Group, Side};
 use iv_bytes::{Sink, WriteFault};
-use iv_text::Genome;
+use iv_lines::Genome;
 use iv_track::{Meter, Track};
 use std::alloc::Allocator;
 

@@ -1,7 +1,7 @@
 //! The blocks of a track as the entries of a ledger, made in one walk over its records: with their results, or if none are kept.
 ghost use Rattle.std.specs.Prelude.{◌≡◌, ◌++◌, ◌∷◌, [], None, false, map, IfOk, OnOk};
 ghost use Rattle.std.specs.Iterator.{item_count};
-ghost use Rattle.iv_text.specs.Ordered.{AreInOrder};
+ghost use Rattle.iv_lines.specs.Ordered.{AreInOrder};
 ghost use Rattle.iv_cover.specs.Inside.RemainingBlocks.{remaining_blocks};
 ghost use Rattle.iv_cover.specs.TrackBlocks.{with_members};
 ghost use Rattle.iv_blocks.specs.Groups.{listed};
@@ -11,7 +11,7 @@ use crate::group::Key;
 use crate::kept_block::KeptBlock;
 use crate::options::BlockOptions;
 use iv_cover::{Block, BlockWalk, results_in};
-use iv_text::{Batches, Genome};
+use iv_lines::{Batches, Genome};
 use iv_track::{Meter, Track, TrackRecord};
 use std::alloc::{AllocError, Allocator};
 use std::marker::Model;

@@ -1,12 +1,12 @@
 //! Lemmas on the definitions: functions that do nothing, whose contracts are the lemmas.
 ghost use Rattle.std.specs.Prelude.{◌≡◌, ◌↔◌, ◌<◌, ◌≤◌, ℕ, List, All, Contains};
-ghost use Rattle.iv_text.specs.Genome.{Sequences};
-ghost use Rattle.iv_text.specs.Read.{IsOnGenome};
-ghost use Rattle.iv_text.specs.RecordValue.{RecordValue};
+ghost use Rattle.iv_lines.specs.Genome.{Sequences};
+ghost use Rattle.iv_lines.specs.Read.{IsOnGenome};
+ghost use Rattle.iv_lines.specs.RecordValue.{RecordValue};
 ghost use Rattle.iv_cover.specs.BlockTerms.{BelongsTo};
 ghost use Rattle.iv_cover.specs.Depth.{depth};
 ghost use Rattle.iv_cover.specs.Runs.{Run, empty_runs};
-ghost use Rattle.iv_text.specs.CoveredPositions.{on};
+ghost use Rattle.iv_lines.specs.CoveredPositions.{on};
 ghost use Rattle.iv_blocks.specs.Inside.Texts.{block_number};
 
 /// The gaps of a sequence are exactly the maximal intervals on which the records' depth is 0.

@@ -1,8 +1,8 @@
 //! The rows of a merge.
 ghost use Rattle.std.specs.Prelude.{◌≡◌, ◌++◌, ◌+◌, All, length, codes, decimal};
 ghost use Rattle.iv_bytes.specs.Sinks.{Puts};
-ghost use Rattle.iv_text.specs.Named.{names_of};
-ghost use Rattle.iv_text.specs.Read.{Fits};
+ghost use Rattle.iv_lines.specs.Named.{names_of};
+ghost use Rattle.iv_lines.specs.Read.{Fits};
 ghost use Rattle.iv_track.specs.Steps.{TakesUpTo};
 ghost use Rattle.iv_blocks.specs.KeptBlocks.{AreBlocksOf};
 ghost use Rattle.iv_blocks.specs.MergeRows.{all_blocks};
@@ -12,7 +12,7 @@ use crate::block_ledger::BlockEntry;
 use crate::blocks::Blocks;
 use crate::group::FIRST_KEY;
 use iv_bytes::{Sink, WriteFault, put_pieces};
-use iv_text::{Genome, RowBuffer};
+use iv_lines::{Genome, RowBuffer};
 use iv_track::{Meter, Track};
 use std::alloc::Allocator;
 

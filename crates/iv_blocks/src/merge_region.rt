@@ -2,9 +2,9 @@
 ghost use Rattle.std.specs.Prelude.{◌≡◌, ◌+◌, ◌*◌, ◌<◌, All, length};
 ghost use Rattle.std.specs.List.{flat_map};
 ghost use Rattle.iv_bytes.specs.Sinks.{Puts};
-ghost use Rattle.iv_text.specs.Genome.{sequence_name};
-ghost use Rattle.iv_text.specs.Named.{names_of};
-ghost use Rattle.iv_text.specs.Read.{Fits};
+ghost use Rattle.iv_lines.specs.Genome.{sequence_name};
+ghost use Rattle.iv_lines.specs.Named.{names_of};
+ghost use Rattle.iv_lines.specs.Read.{Fits};
 ghost use Rattle.iv_track.specs.Steps.{TakesUpTo};
 ghost use Rattle.iv_blocks.specs.Groups.{listed, sides};
 ghost use Rattle.iv_blocks.specs.Inside.Groups.{is_minus};
@@ -20,7 +20,7 @@ use crate::group::{Group, Side};
 use crate::merge::put_block;
 use crate::repair::of_group;
 use iv_bytes::{Sink, WriteFault};
-use iv_text::Genome;
+use iv_lines::Genome;
 use iv_track::{Meter, Track};
 use std::alloc::Allocator;
 

@@ -1,8 +1,8 @@
 //! A merge of the records of a text.
 ghost use Rattle.std.specs.Prelude.{◌≡◌, ◌≤◌, All, IfOk, length, filter, vec_capacity};
 ghost use Rattle.iv_bytes.specs.Sinks.{Puts};
-ghost use Rattle.iv_text.specs.Ordered.{AreInOrder};
-ghost use Rattle.iv_text.specs.Read.{IsOnGenome};
+ghost use Rattle.iv_lines.specs.Ordered.{AreInOrder};
+ghost use Rattle.iv_lines.specs.Read.{IsOnGenome};
 ghost use Rattle.iv_cover.specs.Results.{HasRoom};
 ghost use Rattle.iv_blocks.specs.Groups.{listed};
 ghost use Rattle.iv_blocks.specs.Inside.Groups.{is_on};
@@ -14,8 +14,8 @@ use crate::options::BlockOptions;
 use crate::side_blocks::{SideBlock, SideBlocks};
 use iv_bytes::{Sink, WriteFault, put_all};
 use iv_cover::{ColumnSummary, Value, asks_distinct, put_results};
+use iv_lines::{Genome, RowBuffer};
 use iv_locators::TextRecords;
-use iv_text::{Genome, RowBuffer};
 use std::alloc::{AllocError, Allocator, Global};
 use std::marker::Model;
 
@@ -30,7 +30,7 @@ pub struct MergeSweep<'t, A: Allocator = Global> {
 
 impl<'t, A: Allocator> Model for MergeSweep<'t, A> {
     ghost use Rattle.std.specs.Prelude.{List, length, vec_capacity};
-    ghost use Rattle.iv_text.specs.RecordValue.{RecordValue};
+    ghost use Rattle.iv_lines.specs.RecordValue.{RecordValue};
     ghost use Rattle.iv_blocks.specs.Groups.{listed};
     ghost use Rattle.iv_blocks.specs.declared.options.BlockOptions.{BlockOptions};
     ghost use Rattle.iv_cover.specs.Results.{HasRoom};

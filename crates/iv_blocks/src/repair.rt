@@ -1,8 +1,8 @@
 //! The parts of a repair: blocks that are looked up, joined, taken out and inserted.
 ghost use Rattle.std.specs.Prelude.{◌≡◌, ◌≢◌, ◌+◌, ◌-◌, ◌*◌, ◌<◌, ◌≤◌, ℕ, max, None, true, All, IfOk, MatchOption, OnOk, OnErr, length};
-ghost use Rattle.iv_text.specs.Genome.{sequence_name};
-ghost use Rattle.iv_text.specs.Named.{names_of};
-ghost use Rattle.iv_text.specs.Read.{Fits};
+ghost use Rattle.iv_lines.specs.Genome.{sequence_name};
+ghost use Rattle.iv_lines.specs.Named.{names_of};
+ghost use Rattle.iv_lines.specs.Read.{Fits};
 ghost use Rattle.iv_track.specs.Entries.{IsLedger};
 ghost use Rattle.iv_track.specs.Steps.{TakesUpTo};
 ghost use Rattle.iv_cover.specs.Columns.{results_over};
@@ -17,7 +17,7 @@ use crate::blocks::{Blocks, bounds_of};
 use crate::group::{Group, Key, Members, Side};
 use crate::kept_block::KeptBlock;
 use iv_cover::results;
-use iv_text::Genome;
+use iv_lines::Genome;
 use iv_track::{Meter, Track, TrackRecord};
 use std::alloc::{AllocError, Allocator};
 

@@ -1,10 +1,10 @@
 //! The records of a text on one side, and their blocks, one after another.
 ghost use Rattle.std.specs.Prelude.{◌≡◌, ◌∷◌, ◌+◌, ◌^◌, ◌<◌, ◌≤◌, length, take, drop, filter, map, None, true, List, All};
 ghost use Rattle.std.specs.Iterator.{YieldsFirst, item_count};
-ghost use Rattle.iv_text.specs.Genome.{Sequences};
-ghost use Rattle.iv_text.specs.Ordered.{AreInOrder};
-ghost use Rattle.iv_text.specs.Read.{IsOnGenome};
-ghost use Rattle.iv_text.specs.RecordValue.{RecordValue};
+ghost use Rattle.iv_lines.specs.Genome.{Sequences};
+ghost use Rattle.iv_lines.specs.Ordered.{AreInOrder};
+ghost use Rattle.iv_lines.specs.Read.{IsOnGenome};
+ghost use Rattle.iv_lines.specs.RecordValue.{RecordValue};
 ghost use Rattle.iv_cover.specs.Columns.{column_value};
 ghost use Rattle.iv_cover.specs.Inside.RemainingBlocks.{remaining_blocks};
 ghost use Rattle.iv_cover.specs.TrackBlocks.{blocks_of, with_members};
@@ -155,7 +155,7 @@ pub(crate) struct SideRecords<'t> {
 
 impl<'t> Model for SideRecords<'t> {
     ghost use Rattle.std.specs.Prelude.{List, filter};
-    ghost use Rattle.iv_text.specs.RecordValue.{RecordValue};
+    ghost use Rattle.iv_lines.specs.RecordValue.{RecordValue};
     ghost use Rattle.iv_blocks.specs.Inside.Groups.{is_on};
 
     ghost Value = { List RecordValue };

@@ -3,9 +3,9 @@ ghost use Rattle.std.specs.Prelude.{◌≡◌, ◌∷◌, map, None, Some, List,
 ghost use Rattle.std.specs.Iterator.{YieldsFirst, item_count};
 ghost use Rattle.std.specs.List.{flat_map};
 ghost use Rattle.iv_bytes.specs.Sinks.{Puts};
-ghost use Rattle.iv_text.specs.Genome.{Sequences};
-ghost use Rattle.iv_text.specs.Ordered.{AreInOrder};
-ghost use Rattle.iv_text.specs.Read.{IsOnGenome};
+ghost use Rattle.iv_lines.specs.Genome.{Sequences};
+ghost use Rattle.iv_lines.specs.Ordered.{AreInOrder};
+ghost use Rattle.iv_lines.specs.Read.{IsOnGenome};
 ghost use Rattle.iv_locators.specs.Inside.Spans.{record_of_span, span_records};
 ghost use Rattle.iv_cover.specs.Inside.RemainingBlocks.{remaining_blocks};
 ghost use Rattle.iv_cover.specs.TrackBlocks.{GivesFirst, blocks_of};
@@ -19,8 +19,8 @@ use crate::complement::put_gaps;
 use crate::side_blocks::{SideBlocks, SideRecords};
 use iv_bytes::{Sink, WriteFault};
 use iv_cover::Block;
+use iv_lines::{Genome, put_interval, put_numbered};
 use iv_locators::{Span, TextRecords};
-use iv_text::{Genome, put_interval, put_numbered};
 use std::alloc::Allocator;
 use std::marker::Model;
 

@@ -2,12 +2,12 @@
 use Rattle.std.proofs.Common.{◌≡◌, ◌≤◌, ℕ, List, [], ◌∷◌, length, IfSome, Option, None, Some, Result, Ok, Err, refl, sym, ap, ◌∙◌, ◌⊎◌, inl, inr, IfOk, IfErr}
 use Rattle.std.specs.Prelude.{All, map}
 use Rattle.std.specs.Option.{option_map}
-use Rattle.iv_text.specs.Genome.{Sequences}
+use Rattle.iv_lines.specs.Genome.{Sequences}
 use Rattle.iv_text.specs.BedFile.{Bed}
-use Rattle.iv_text.specs.Chains.{if_ok}
+use Rattle.iv_lines.specs.Chains.{if_ok}
 use Rattle.iv_text.specs.BedReading.{projected_bed}
-use Rattle.iv_text.specs.Read.{Fits}
-use Rattle.iv_text.specs.RecordValue.{RecordValue}
+use Rattle.iv_lines.specs.Read.{Fits}
+use Rattle.iv_lines.specs.RecordValue.{RecordValue}
 use Rattle.iv_text.proofs.BedReadingLemmas.{fit-all}
 use Rattle.iv_workspace.specs.States.{State, begun}
 use Rattle.iv_run.specs.declared.fault.CliFault.{CliFault}

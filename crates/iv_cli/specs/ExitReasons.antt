@@ -3,9 +3,9 @@ use Rattle.std.specs.Prelude.{ℕ, ◌++◌, ◌==◌, nat_le, Bool, if◌then�
 use Rattle.std.specs.Option.{is_some, option_and_then, unwrap_or}
 use Rattle.std.specs.declared.io.ErrorKind.{ErrorKind}
 use Rattle.std.specs.declared.io.ErrorKind.TheVariants.{OutOfMemory}
-use Rattle.iv_text.specs.Fault.{fault_text, load_text}
-use Rattle.iv_text.specs.declared.fault.Fault.{Fault}
-use Rattle.iv_text.specs.declared.fault.Fault.TheVariants as refused
+use Rattle.iv_lines.specs.Fault.{fault_text, load_text}
+use Rattle.iv_lines.specs.declared.fault.Fault.{Fault}
+use Rattle.iv_lines.specs.declared.fault.Fault.TheVariants as refused
 use Rattle.iv_session.specs.declared.script.Summary.{Summary}
 use Rattle.iv_session.specs.declared.script.RunFault.{RunFault}
 use Rattle.iv_session.specs.declared.script.RunCause.{RunCause}

@@ -1,6 +1,6 @@
 -- The session that the files of a run begin.
 use Rattle.std.specs.Prelude.{ℕ, List, Option, Result, Ok}
-use Rattle.iv_text.specs.Chains.{if_ok}
+use Rattle.iv_lines.specs.Chains.{if_ok}
 use Rattle.iv_workspace.specs.States.{State, begun}
 use Rattle.iv_run.specs.Loading.{parsed}
 use Rattle.iv_run.specs.declared.fault.CliFault.{CliFault}

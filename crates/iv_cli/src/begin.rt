@@ -8,8 +8,9 @@ ghost use Rattle.iv_run.specs.RunFiles.{AreAllWanted, AreOf, IsParsed};
 ghost use Rattle.iv_cli.specs.Loading.{loaded};
 
 use iv_args::Plan;
+use iv_lines::Record;
 use iv_run::{CliFault, HeldRecords, Inputs, LoadedFiles, ParsedFile, RunFiles, sound_files};
-use iv_text::{BedBatches, Record};
+use iv_text::BedBatches;
 use iv_workspace::Session;
 use std::alloc::Allocator;
 

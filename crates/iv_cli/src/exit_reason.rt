@@ -6,9 +6,9 @@ ghost use Rattle.iv_cli.specs.ExitReasons.{status_of, ending_of, ending_of_run, 
 use itoa::Buffer;
 use iv_args::{Plan, Slot};
 use iv_bytes::{Sink, WriteFault, put_pieces};
+use iv_lines::{Fault, LoadFault, load_text};
 use iv_run::{CliFault, FileFault};
 use iv_session::{RunCause, RunFault, Summary};
-use iv_text::{Fault, LoadFault, load_text};
 use std::alloc::{AllocError, Allocator};
 use std::io::{self, ErrorKind};
 

@@ -15,9 +15,9 @@ use Rattle.std.specs.declared.cmp.Ordering.TheVariants.{Less, Equal, Greater}
 use Rattle.std.proofs.lemmas.List.Sorted.{Contains-permutation, IsPermutation-sym}
 use Rattle.std.proofs.lemmas.Map.Text.{is_eq-slice_cmp}
 use Rattle.std.proofs.lemmas.Slice.Eq.{bytes_eq-Decides}
-use Rattle.iv_text.specs.Bytes.{comma}
-use Rattle.iv_text.specs.Ordered.{InOrder}
-use Rattle.iv_text.proofs.OrderedLemmas.{in_order-sorted}
+use Rattle.iv_lines.specs.Bytes.{comma}
+use Rattle.iv_lines.specs.Ordered.{InOrder}
+use Rattle.iv_lines.proofs.OrderedLemmas.{in_order-sorted}
 use Rattle.iv_cover.specs.Summaries.{with_value, different}
 use Rattle.iv_cover.proofs.DifferentLemmas.{one_list, ascends-different, different-has, different-from}
 use Rattle.iv_cover.specs.Inside.Results.{after_commas}

@@ -3,7 +3,7 @@ use Rattle.std.proofs.Common.{◌≡◌, ℕ, ◌<◌, ◌≤◌, ◌==◌, List
 use Rattle.std.proofs.lemmas.Bool.{cases_lt}
 use Rattle.iv_cover.specs.Runs.{Run, Tiles, runs, empty_runs}
 use Rattle.iv_cover.proofs.RunsLemmas.{Tiles-runs, runs-none}
-use Rattle.iv_text.proofs.ListLemmas.{Mem, contains-mem, mem-contains, mem-filter, mem-filter_from}
+use Rattle.iv_lines.proofs.ListLemmas.{Mem, contains-mem, mem-contains, mem-filter, mem-filter_from}
 use Rattle.iv_cover.proofs.TilesLemmas.{tiles-position, tiles-run, tiles-bounds, tiles-apart, tiles-one}
 
 module _ (f : ℕ → ℕ) (from to : ℕ) where

@@ -1,7 +1,7 @@
 -- The greatest of some numbers.
 use Rattle.std.proofs.Common.{ℕ, ◌≤◌, map, arith, ◌≡◌, inl, inr, List, [], ◌∷◌, refl, ap}
 use Rattle.std.proofs.lemmas.Bool.{cases_lt}
-use Rattle.iv_text.proofs.ListLemmas.{Mem}
+use Rattle.iv_lines.proofs.ListLemmas.{Mem}
 use Rattle.iv_cover.specs.Blocks.{greatest}
 
 pub greatest-bounds : {X : Type 0} (f : X → ℕ) (xs : List X) (q : X) → Mem q xs → f q ≤ greatest (map f xs)

@@ -8,8 +8,8 @@ use Rattle.std.proofs.lemmas.Bool.{ne_eqb, and_parts}
 use Rattle.std.proofs.lemmas.Bool.Decides.{nat_tests}
 use Rattle.std.proofs.lemmas.Fmt.{digits_decimal, digits_value-decimal, length-decimal-le, decimal_nonempty}
 use Rattle.std.proofs.lemmas.Str.Parse.{IsNumeralModel, numerals_by_fold, tells_all_ascii_digits}
-use Rattle.iv_text.specs.Number.{number_up_to}
-use Rattle.iv_text.specs.Inside.Number.{decimal_from}
+use Rattle.iv_lines.specs.Number.{number_up_to}
+use Rattle.iv_lines.specs.Inside.Number.{decimal_from}
 use Rattle.iv_cover.specs.ParsedNumber.{spelled, spelled_as}
 use Rattle.iv_cover.specs.Summaries.{number_of}
 use Rattle.iv_cover.specs.declared.number.ParsedNumber.TheVariants.{Missing, Number}

@@ -2,7 +2,7 @@
 use Rattle.std.proofs.Common.{◌≡◌, ℕ, ◌<◌, ◌≤◌, List, [], ◌∷◌, ◌⊎◌, refl, sym, ◌∙◌, ap, subst, arith, inl, inr}
 use Rattle.std.proofs.lemmas.Bool.{cases_lt}
 use Rattle.iv_cover.specs.Runs.{Run, BeginsOther, Tiles}
-use Rattle.iv_text.proofs.ListLemmas.{Mem}
+use Rattle.iv_lines.proofs.ListLemmas.{Mem}
 
 -- each position is in a run
 pub tiles-position : (f : ℕ → ℕ) (from to p : ℕ) (xs : List Run) → Tiles f from to xs → from ≤ p → p < to

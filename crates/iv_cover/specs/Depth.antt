@@ -1,6 +1,6 @@
 -- How many records cover a position.
 use Rattle.std.specs.Prelude.{ℕ, ◌==◌, ◌&&◌, nat_le, nat_lt, List, count_by}
-use Rattle.iv_text.specs.RecordValue.{RecordValue}
+use Rattle.iv_lines.specs.RecordValue.{RecordValue}
 
 -- how many records cover position p of the sequence of this rank, copies counted
 abbrev pub depth : List RecordValue → ℕ → ℕ → ℕ

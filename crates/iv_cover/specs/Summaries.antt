@@ -9,8 +9,8 @@ use Rattle.std.specs.Str.{bytes_eq}
 use Rattle.std.specs.Ordering.{nat_cmp}
 use Rattle.std.specs.Cmp.Lexicographic.{slice_cmp}
 use Rattle.std.specs.declared.cmp.Ordering.TheVariants.{Less, Equal, Greater}
-use Rattle.iv_text.specs.Bytes.{minus_sign, comma}
-use Rattle.iv_text.specs.Number.{number_up_to}
+use Rattle.iv_lines.specs.Bytes.{minus_sign, comma}
+use Rattle.iv_lines.specs.Number.{number_up_to}
 use Rattle.iv_cover.specs.declared.op.Op.{Op}
 use Rattle.iv_cover.specs.declared.op.Op.TheVariants.{Count, Sum, Min, Max, Collapse, Distinct}
 

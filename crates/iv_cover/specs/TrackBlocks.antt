@@ -1,9 +1,9 @@
 -- The blocks of a track's records, with the records that are in them, sequence by sequence.
 use Rattle.std.specs.Prelude.{◌≡◌, ℕ, List, [], ◌∷◌, map, Option, None, Some}
 use Rattle.std.specs.List.{flat_map, range_with_len}
-use Rattle.iv_text.specs.CoveredPositions.{on}
-use Rattle.iv_text.specs.Genome.{Sequences, sequence_length, seq_count}
-use Rattle.iv_text.specs.RecordValue.{RecordValue}
+use Rattle.iv_lines.specs.CoveredPositions.{on}
+use Rattle.iv_lines.specs.Genome.{Sequences, sequence_length, seq_count}
+use Rattle.iv_lines.specs.RecordValue.{RecordValue}
 use Rattle.iv_cover.specs.declared.block.Block.{Block}
 use Rattle.iv_cover.specs.Blocks.{blocks_below}
 

@@ -1,12 +1,12 @@
 //! A block of records, and the blocks of a walk over records.
 ghost use Rattle.std.specs.Prelude.{◌≡◌, ◌+◌, ◌==◌, ◌&&◌, nat_le, max, All};
-ghost use Rattle.iv_text.specs.Genome.{Sequences};
-ghost use Rattle.iv_text.specs.Ordered.{AreInOrder};
-ghost use Rattle.iv_text.specs.Read.{IsOnGenome};
-ghost use Rattle.iv_text.specs.RecordValue.{IsPlaced};
+ghost use Rattle.iv_lines.specs.Genome.{Sequences};
+ghost use Rattle.iv_lines.specs.Ordered.{AreInOrder};
+ghost use Rattle.iv_lines.specs.Read.{IsOnGenome};
+ghost use Rattle.iv_lines.specs.RecordValue.{IsPlaced};
 ghost use Rattle.iv_cover.specs.TrackBlocks.{blocks_of, GivesFirst};
 
-use iv_text::BedRecord;
+use iv_lines::BedRecord;
 use iv_track::{Meter, TrackRecord, TrackRecords};
 use std::alloc::{Allocator, Global};
 use std::marker::Model;

@@ -1,13 +1,13 @@
 //! The contract of the states of kept views.
 ghost use Rattle.std.specs.Prelude.{◌≡◌, ℕ, List, All, IfOk, OnOk};
-ghost use Rattle.iv_text.specs.Named.{names_of};
-ghost use Rattle.iv_text.specs.Ordered.{added as with_one};
-ghost use Rattle.iv_text.specs.Read.{Fits};
-ghost use Rattle.iv_text.specs.RecordValue.{RecordValue};
+ghost use Rattle.iv_lines.specs.Named.{names_of};
+ghost use Rattle.iv_lines.specs.Ordered.{added as with_one};
+ghost use Rattle.iv_lines.specs.Read.{Fits};
+ghost use Rattle.iv_lines.specs.RecordValue.{RecordValue};
 ghost use Rattle.iv_track.specs.Steps.{TakesUpTo};
 ghost use Rattle.iv_cover.specs.Kept.{IsRightWithout};
 
-use iv_text::{Genome, RecordRef};
+use iv_lines::{Genome, RecordRef};
 use iv_track::{Meter, Track};
 use std::alloc::{AllocError, Allocator};
 

@@ -10,7 +10,7 @@ ghost use Rattle.iv_cover.specs.Summaries.{number_of, numbers_of};
 use crate::column::Column;
 use crate::value::Value;
 use crate::values::Values;
-use iv_text::{RecordRef, read_digits};
+use iv_lines::{RecordRef, read_digits};
 
 /// The most digits of a number.
 const MOST_DIGITS: usize = 15;

@@ -5,7 +5,7 @@ ghost use Rattle.iv_cover.specs.Inside.Values.{kind_text};
 
 use crate::column::Column;
 use itoa::write_digits;
-use iv_text::{RecordRef, strand_bytes};
+use iv_lines::{RecordRef, strand_bytes};
 use std::marker::Model;
 
 /// The value of a record's column, which takes no memory. Its model is its text.

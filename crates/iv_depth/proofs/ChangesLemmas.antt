@@ -3,8 +3,8 @@ use Rattle.std.proofs.Common.{◌≡◌, ◌≢◌, All, sym, ap, ◌∙◌, ℕ
 use Rattle.std.specs.Prelude.{ℤ, pos, negsuc, ◌+ℤ◌, if◌then◌else◌}
 use Rattle.std.proofs.lemmas.Int.{ints}
 use Rattle.std.proofs.lemmas.Bool.{cases_lt, lt-leb, le-leb, lt-ltb, le-ltb}
-use Rattle.iv_text.specs.RecordValue.{RecordValue}
-use Rattle.iv_text.specs.CoveredPositions.{covers}
+use Rattle.iv_lines.specs.RecordValue.{RecordValue}
+use Rattle.iv_lines.specs.CoveredPositions.{covers}
 use Rattle.iv_cover.proofs.DepthLemmas.{depth-cons}
 use Rattle.std.specs.Map.{lookup, remove_entry, set_value, values_of}
 use Rattle.std.specs.Cmp.{IsTotalOrder}

@@ -5,7 +5,7 @@ use Rattle.std.proofs.lemmas.Bool.{lt-ltb}
 use Rattle.iv_cover.specs.Runs.{Run, runs}
 use Rattle.iv_cover.proofs.RunsLemmas.{Tiles-runs}
 use Rattle.iv_cover.proofs.TilesLemmas.{tiles-position, tiles-run}
-use Rattle.iv_text.proofs.ListLemmas.{Mem, mem-filter, mem-filter_from}
+use Rattle.iv_lines.proofs.ListLemmas.{Mem, mem-filter, mem-filter_from}
 use Rattle.iv_depth.specs.DepthRows.{covered_runs}
 
 pub covered-held : (f : ℕ → ℕ) (to p : ℕ) → p < to → 0 < f p → (run : Run) × Mem run (covered_runs f 0 to) × (run.start ≤ p) × (p < run.stop)

@@ -7,13 +7,13 @@ use Rattle.std.proofs.lemmas.Bool.Decides.{eqb_tells}
 use Rattle.std.proofs.lemmas.List.Elements.{All-head, All-tail}
 use Rattle.std.proofs.lemmas.List.Sums.{count_by-le-length}
 use Rattle.std.specs.Ordering.{is_le}
-use Rattle.iv_text.specs.Genome.{Sequences, seq_count, sequence_name, sequence_length}
-use Rattle.iv_text.specs.Ordered.{added}
+use Rattle.iv_lines.specs.Genome.{Sequences, seq_count, sequence_name, sequence_length}
+use Rattle.iv_lines.specs.Ordered.{added}
 use Rattle.std.specs.List.{AllByRecursion}
-use Rattle.iv_text.specs.Read.{Fits, IsOnGenome}
-use Rattle.iv_text.specs.RecordValue.{RecordValue, record_cmp}
-use Rattle.iv_text.proofs.OrderedLemmas.{length-added}
-use Rattle.iv_text.specs.CoveredPositions.{covers}
+use Rattle.iv_lines.specs.Read.{Fits, IsOnGenome}
+use Rattle.iv_lines.specs.RecordValue.{RecordValue, record_cmp}
+use Rattle.iv_lines.proofs.OrderedLemmas.{length-added}
+use Rattle.iv_lines.specs.CoveredPositions.{covers}
 use Rattle.iv_cover.specs.Depth.{depth}
 use Rattle.iv_depth.specs.Changes.{Entries, AreChangesOf}
 use Rattle.iv_depth.specs.Inside.Changes.{AreChanges}

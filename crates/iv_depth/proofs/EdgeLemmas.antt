@@ -7,17 +7,17 @@ use Rattle.std.proofs.lemmas.List.{length-map, map-id}
 use Rattle.std.proofs.lemmas.List.Sums.{length-filter, count_by-le-length, sum_by-cons}
 use Rattle.std.proofs.lemmas.Simd.{map-map}
 use Rattle.std.specs.Ordering.{is_le}
-use Rattle.iv_text.specs.Genome.{Sequences, sequence_length}
-use Rattle.iv_text.specs.Ordered.{AreInOrder}
-use Rattle.iv_text.specs.Read.{IsOnGenome}
-use Rattle.iv_text.specs.RecordValue.{RecordValue, record_cmp}
+use Rattle.iv_lines.specs.Genome.{Sequences, sequence_length}
+use Rattle.iv_lines.specs.Ordered.{AreInOrder}
+use Rattle.iv_lines.specs.Read.{IsOnGenome}
+use Rattle.iv_lines.specs.RecordValue.{RecordValue, record_cmp}
 use Rattle.iv_cover.specs.Depth.{depth}
-use Rattle.iv_text.specs.CoveredPositions.{on, covers}
+use Rattle.iv_lines.specs.CoveredPositions.{on, covers}
 use Rattle.iv_cover.specs.TrackBlocks.{start_of, stop_of}
 use Rattle.iv_cover.proofs.DepthLemmas.{depth-cons}
-use Rattle.iv_text.proofs.InOrderLemmas.{all-recursion}
-use Rattle.iv_text.proofs.PrecedesLemmas.{Precedes, precedes-from}
-use Rattle.iv_text.proofs.ListLemmas.{Mem}
+use Rattle.iv_lines.proofs.InOrderLemmas.{all-recursion}
+use Rattle.iv_lines.proofs.PrecedesLemmas.{Precedes, precedes-from}
+use Rattle.iv_lines.proofs.ListLemmas.{Mem}
 use Rattle.iv_locators.proofs.SequenceLemmas.{is_from, from-here}
 use Rattle.iv_locators.specs.Inside.Spans.{record_of_span, span_records}
 use Rattle.iv_locators.specs.declared.span.Span.{Span}

@@ -1,7 +1,7 @@
 -- The text of the definition, sequence by sequence.
 use Rattle.std.proofs.Common.{◌≡◌, ℕ, zero, suc, ◌+◌, ◌-◌, ◌<◌, ◌≤◌, ◌++◌, List, [], refl, arith}
 use Rattle.std.specs.List.{flat_map, range_with_len}
-use Rattle.iv_text.specs.Genome.{Sequences, seq_count}
+use Rattle.iv_lines.specs.Genome.{Sequences, seq_count}
 use Rattle.iv_depth.specs.Inside.Texts.{sequence_text, text_by}
 use Rattle.iv_depth.specs.declared.depth_rows.DepthOutput.{DepthOutput}
 

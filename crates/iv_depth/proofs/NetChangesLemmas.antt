@@ -19,8 +19,8 @@ use Rattle.std.proofs.lemmas.List.Sums.{sum_by_push}
 use Rattle.std.proofs.lemmas.Map.{lookup-none}
 use Rattle.std.proofs.lemmas.Map.Entries.{lookup_head, lookup_tail, none_below_head, none_past_head}
 use Rattle.std.proofs.lemmas.Map.Keys.{IsDistinct-from_sorted, sorted_tail}
-use Rattle.iv_text.specs.RecordValue.{RecordValue, IsPlaced}
-use Rattle.iv_text.specs.CoveredPositions.{covers}
+use Rattle.iv_lines.specs.RecordValue.{RecordValue, IsPlaced}
+use Rattle.iv_lines.specs.CoveredPositions.{covers}
 use Rattle.iv_cover.specs.Depth.{depth}
 use Rattle.iv_track.proofs.NumberOrder.{pair_total, pair_exact}
 use Rattle.iv_track.specs.Entries.{IsLedger, value_at, pair_cmp}

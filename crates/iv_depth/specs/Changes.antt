@@ -1,7 +1,7 @@
 -- Net changes of depth, by key. This is the state of a kept view, as seen by proofs; the rows are defined without it.
 use Rattle.std.specs.Prelude.{◌≡◌, ◌≢◌, ℕ, ◌==◌, ◌&&◌, nat_le, Bool, List, [], ◌∷◌, ℤ, pos, ◌+ℤ◌, All, if◌then◌else◌}
 use Rattle.std.specs.Map.{values_of}
-use Rattle.iv_text.specs.RecordValue.{RecordValue}
+use Rattle.iv_lines.specs.RecordValue.{RecordValue}
 use Rattle.iv_track.specs.Entries.{IsLedger, pair_cmp}
 use Rattle.iv_cover.specs.Depth.{depth}
 

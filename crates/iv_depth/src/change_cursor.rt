@@ -1,7 +1,7 @@
 //! Changes of depth that remain, and a walk over those that are kept, sequence by sequence.
 ghost use Rattle.std.specs.Prelude.{◌≡◌, ◌<◌, ℕ, OnSome};
 ghost use Rattle.std.specs.Map.Iter.{TakesFirst};
-ghost use Rattle.iv_text.specs.Genome.{Sequences};
+ghost use Rattle.iv_lines.specs.Genome.{Sequences};
 ghost use Rattle.iv_track.specs.Steps.{TakesUpTo};
 ghost use Rattle.iv_track.specs.Inside.Steps.{TakesForEach};
 ghost use Rattle.iv_depth.specs.Inside.DepthChanges.{Gives};

@@ -1,12 +1,12 @@
 //! Changes of depth, and their edits.
 ghost use Rattle.std.specs.Prelude.{◌≡◌, ◌≢◌, ℤ, pos, negsuc, ◌≤ℤ◌, ◌^◌, List, ◌∷◌, Some, OnOk};
-ghost use Rattle.iv_text.specs.RecordValue.{RecordValue};
+ghost use Rattle.iv_lines.specs.RecordValue.{RecordValue};
 ghost use Rattle.iv_track.specs.Entries.{pair_cmp, value_at};
 ghost use Rattle.iv_track.specs.Steps.{TakesUpTo};
 ghost use Rattle.iv_depth.specs.Changes.{AreChangesOf};
 ghost use Rattle.iv_depth.specs.Inside.Changes.{AreChanges, Bumps, Shifts};
 
-use iv_text::RecordRef;
+use iv_lines::RecordRef;
 use iv_track::{Ledger, Meter};
 use std::alloc::{AllocError, Allocator};
 

@@ -1,8 +1,8 @@
 //! Changes of depth: the state of a kept view.
 ghost use Rattle.std.specs.Prelude.{◌≡◌, ◌<◌, ◌≤◌, ◌+◌, ◌*◌, All, length};
 ghost use Rattle.iv_bytes.specs.Sinks.{Puts};
-ghost use Rattle.iv_text.specs.Genome.{sequence_length};
-ghost use Rattle.iv_text.specs.Read.{Fits};
+ghost use Rattle.iv_lines.specs.Genome.{sequence_length};
+ghost use Rattle.iv_lines.specs.Read.{Fits};
 ghost use Rattle.iv_cover.specs.Depth.{depth};
 ghost use Rattle.iv_track.specs.Steps.{TakesUpTo};
 ghost use Rattle.iv_depth.specs.Changes.{AreChangesOf};
@@ -17,7 +17,7 @@ use crate::net_changes::edges_of;
 use crate::region::{length_of, put_region};
 use iv_bytes::{Sink, WriteFault};
 use iv_cover::Kept;
-use iv_text::{Genome, RecordRef};
+use iv_lines::{Genome, RecordRef};
 use iv_track::{Ledger, Meter, Track};
 use std::alloc::{AllocError, Allocator, Global};
 use std::marker::Model;

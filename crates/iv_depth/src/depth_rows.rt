@@ -12,7 +12,7 @@ ghost use Rattle.iv_track.specs.Inside.Steps.{TakesForEach};
 use crate::change_cursor::{ChangeCursor, DepthChanges};
 use crate::changes::Changes;
 use iv_bytes::{Sink, WriteFault};
-use iv_text::{Genome, RowBuffer};
+use iv_lines::{Genome, RowBuffer};
 use iv_track::Meter;
 use std::alloc::Allocator;
 

@@ -1,8 +1,8 @@
 //! Rows of depth from the intervals of records.
 ghost use Rattle.std.specs.Prelude.{◌≡◌, ◌≤◌, All, IfOk, length};
 ghost use Rattle.iv_bytes.specs.Sinks.{Puts};
-ghost use Rattle.iv_text.specs.Ordered.{AreInOrder};
-ghost use Rattle.iv_text.specs.Read.{IsOnGenome};
+ghost use Rattle.iv_lines.specs.Ordered.{AreInOrder};
+ghost use Rattle.iv_lines.specs.Read.{IsOnGenome};
 ghost use Rattle.iv_locators.specs.Inside.Spans.{span_records};
 ghost use Rattle.iv_depth.specs.Inside.Texts.{depth_text};
 ghost use Rattle.iv_depth.specs.Inside.Edges.{AreStopsOf};
@@ -11,13 +11,13 @@ use crate::change_cursor::DepthChanges;
 use crate::depth_rows::{DepthOutput, put_sequence};
 use crate::edges::Edges;
 use iv_bytes::{Sink, WriteFault};
+use iv_lines::Genome;
 use iv_locators::{Span, order_nearly, split_sequence};
-use iv_text::Genome;
 use std::alloc::{AllocError, Allocator, Global};
 use std::marker::Model;
 
 impl<'a> DepthChanges for Edges<'a, Span, u32> {
-    ghost use Rattle.iv_text.specs.Genome.{sequence_length};
+    ghost use Rattle.iv_lines.specs.Genome.{sequence_length};
     ghost use Rattle.iv_depth.specs.Inside.Edges.{IsAhead, edge_count};
 
     type Meter = ();
@@ -45,7 +45,7 @@ pub struct DepthSweep<'s, A: Allocator = Global> {
 
 impl<'s, A: Allocator> Model for DepthSweep<'s, A> {
     ghost use Rattle.std.specs.Prelude.{List, ◌≡◌, length};
-    ghost use Rattle.iv_text.specs.RecordValue.{RecordValue};
+    ghost use Rattle.iv_lines.specs.RecordValue.{RecordValue};
     ghost use Rattle.iv_locators.specs.Inside.Spans.{span_records};
 
     ghost Value = { List RecordValue };

@@ -4,8 +4,8 @@ use Rattle.std.proofs.lemmas.Bool.{or_from, cases_lt}
 use Rattle.std.proofs.lemmas.Bool.Decides.{nat_tests}
 use Rattle.std.proofs.lemmas.List.Folds.{list_any_more}
 use Rattle.std.specs.List.{list_any}
-use Rattle.iv_text.proofs.BedReadingLemmas.{rest-whole}
-use Rattle.iv_text.proofs.BlockLemmas.{is_outside}
+use Rattle.iv_lines.proofs.PieceLemmas.{rest-whole}
+use Rattle.iv_lines.proofs.BlockLemmas.{is_outside}
 use Rattle.iv_fasta.specs.Inside.Fasta.{is_no_base}
 
 -- the text begins with so many bases

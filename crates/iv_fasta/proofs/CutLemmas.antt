@@ -11,7 +11,7 @@ use Rattle.std.proofs.lemmas.Bool.{cond-true, cond-false}
 use Rattle.std.proofs.lemmas.List.Quantifiers.{position-Some}
 use Rattle.std.proofs.lemmas.Option.{slice_get-get_or, slice_get-map, get_or_from_slice_get}
 use Rattle.std.specs.Str.{bytes_eq}
-use Rattle.iv_text.specs.Named.{names_of, name_index}
+use Rattle.iv_lines.specs.Named.{names_of, name_index}
 use Rattle.iv_fasta.specs.FastaReading.{Summary, Summaries, with_part}
 use Rattle.iv_fasta.specs.Inside.BaseRanges.{EndsWithin}
 use Rattle.iv_fasta.specs.Inside.Drafts.{sequence_at, NamedHeaders, first_number, number_at, cut, AreRising}

@@ -2,11 +2,11 @@
 use Rattle.std.proofs.Common.{◌≡◌, ℕ, List, [], ◌∷◌, true, false, Ok, Err, Some, None, map, refl}
 use Rattle.std.specs.Fmt.{digits}
 use Rattle.std.specs.Prelude.{codes}
-use Rattle.iv_text.specs.Genome.{Sequences}
-use Rattle.iv_text.specs.RecordValue.{RecordValue}
-use Rattle.iv_text.specs.declared.fault.LoadCause.TheVariants as cause
-use Rattle.iv_text.specs.declared.record_ref.Strand.{Strand}
-use Rattle.iv_text.specs.declared.record_ref.Strand.TheVariants.{Plus, Minus, Dot}
+use Rattle.iv_lines.specs.Genome.{Sequences}
+use Rattle.iv_lines.specs.RecordValue.{RecordValue}
+use Rattle.iv_lines.specs.declared.fault.LoadCause.TheVariants as cause
+use Rattle.iv_lines.specs.declared.record_ref.Strand.{Strand}
+use Rattle.iv_lines.specs.declared.record_ref.Strand.TheVariants.{Plus, Minus, Dot}
 use Rattle.iv_fasta.specs.Complement.{complement}
 use Rattle.iv_fasta.specs.Fasta.{Bases, after_fasta_line, fasta_of}
 use Rattle.iv_fasta.specs.FastaRows.{fasta_text}

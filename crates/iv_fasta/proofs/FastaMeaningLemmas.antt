@@ -2,16 +2,16 @@
 use Rattle.std.proofs.Common.{◌≡◌, ◌↔◌, ◌⊎◌, inl, inr, ℕ, ◌+◌, ◌++◌, ◌==◌, ◌&&◌, Bool, true, false, not, cond, List, [], ◌∷◌, Option, None, Some, Result, Ok, Err, length, find, is_some, append_assoc, append-nil, refl, sym, ◌∙◌, ap, ap₂, subst, arith}
 use Rattle.std.specs.List.{list_any, concat}
 use Rattle.std.proofs.lemmas.Bool.{cond-true, cond-false, eqb-true}
-use Rattle.iv_text.specs.Chains.{if_ok}
-use Rattle.iv_text.specs.FileMeaning.{HaveNoCause, IsFirstFault}
-use Rattle.iv_text.specs.Genome.{Sequences}
-use Rattle.iv_text.specs.GenomeFile.{bad_name}
-use Rattle.iv_text.specs.Lines.{lines}
-use Rattle.iv_text.specs.Named.{name_index}
-use Rattle.iv_text.specs.declared.fault.LoadCause.{LoadCause}
-use Rattle.iv_text.specs.declared.fault.LoadCause.TheVariants as cause
-use Rattle.iv_text.specs.declared.fault.LoadFault.{LoadFault}
-use Rattle.iv_text.proofs.FileMeaningLemmas.{AreSteps, looked, ok-err, run-fault, run-value, same-err, same-ok}
+use Rattle.iv_lines.specs.Chains.{if_ok}
+use Rattle.iv_lines.specs.FileMeaning.{HaveNoCause, IsFirstFault}
+use Rattle.iv_lines.specs.Genome.{Sequences}
+use Rattle.iv_lines.specs.GenomeFile.{bad_name}
+use Rattle.iv_lines.specs.Lines.{lines}
+use Rattle.iv_lines.specs.Named.{name_index}
+use Rattle.iv_lines.specs.declared.fault.LoadCause.{LoadCause}
+use Rattle.iv_lines.specs.declared.fault.LoadCause.TheVariants as cause
+use Rattle.iv_lines.specs.declared.fault.LoadFault.{LoadFault}
+use Rattle.iv_lines.proofs.FileMeaningLemmas.{AreSteps, looked, ok-err, run-fault, run-value, same-err, same-ok}
 use Rattle.iv_fasta.specs.Fasta.{Found, Stretch, Bases, header_name, has_wrong_length, with_bases, after_fasta_line, fasta_of}
 use Rattle.iv_fasta.specs.Inside.Fasta.{is_no_base}
 use Rattle.iv_fasta.specs.Inside.FastaMeaning.{is_header, before_header, sequences_from, sequences_said, line_cause, HaveRightLengths, IsFirstWrongLength, with_lengths, by_rank}

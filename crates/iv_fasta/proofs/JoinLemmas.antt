@@ -5,8 +5,8 @@ use Rattle.std.specs.List.{concat}
 use Rattle.std.proofs.lemmas.Bool.{cond-true, cond-false, ne_eqb}
 use Rattle.std.proofs.lemmas.List.{length_push}
 use Rattle.std.proofs.lemmas.List.Elements.{All-head, All-tail}
-use Rattle.iv_text.specs.declared.fault.LoadCause.{LoadCause}
-use Rattle.iv_text.proofs.FileMeaningLemmas.{all-step}
+use Rattle.iv_lines.specs.declared.fault.LoadCause.{LoadCause}
+use Rattle.iv_lines.proofs.FileMeaningLemmas.{all-step}
 use Rattle.iv_fasta.specs.Fasta.{Stretch, Found, header_name, with_bases, after_fasta_line}
 use Rattle.iv_fasta.specs.Inside.Drafts.{after_fasta_lines}
 use Rattle.iv_fasta.specs.Inside.Fasta.{IsNewHeader, IsBaseLine, with_joined}

@@ -7,11 +7,11 @@ use Rattle.std.proofs.lemmas.Option.{slice_get-map, slice_get_within, get_or_fro
 use Rattle.std.specs.Map.{lookup}
 use Rattle.std.specs.Option.{option_map, unwrap_or}
 use Rattle.std.specs.Str.{bytes_eq}
-use Rattle.iv_text.specs.Genome.{Sequences, AreRanked, length_at}
-use Rattle.iv_text.specs.Named.{name_index}
-use Rattle.iv_text.specs.Read.{length_of}
-use Rattle.iv_text.specs.declared.fault.LoadCause.TheVariants as cause
-use Rattle.iv_text.specs.declared.fault.LoadFault.{LoadFault}
+use Rattle.iv_lines.specs.Genome.{Sequences, AreRanked, length_at}
+use Rattle.iv_lines.specs.Named.{name_index}
+use Rattle.iv_lines.specs.Read.{length_of}
+use Rattle.iv_lines.specs.declared.fault.LoadCause.TheVariants as cause
+use Rattle.iv_lines.specs.declared.fault.LoadFault.{LoadFault}
 use Rattle.iv_fasta.specs.Fasta.{Stretch, Found, Bases, has_wrong_length, bases_of, HasLengthsOf}
 use Rattle.iv_fasta.specs.FastaReading.{Summary, Summaries, Wanted, only, has_other_count, held_by_rank, ended}
 use Rattle.iv_fasta.specs.Inside.FastaMeaning.{differs, by_rank}

@@ -6,16 +6,16 @@ use Rattle.std.proofs.lemmas.List.{drop-drop, drop-append-le}
 use Rattle.std.specs.List.{list_any, onto_first}
 use Rattle.std.specs.Prelude.{IfOk, IfErr}
 use Rattle.std.specs.Option.{is_some}
-use Rattle.iv_text.specs.Fault.{fault_at}
-use Rattle.iv_text.specs.GenomeFile.{bad_name}
-use Rattle.iv_text.specs.Named.{name_index}
-use Rattle.iv_text.specs.Genome.{Sequences}
-use Rattle.iv_text.specs.Lines.{lines, begins_with}
-use Rattle.iv_text.specs.Inside.BedReading.{EndsAtFeed}
-use Rattle.iv_text.proofs.BedReadingLemmas.{lines-fed, lines-ended, ended-rest}
-use Rattle.iv_text.specs.declared.fault.LoadCause.{LoadCause}
-use Rattle.iv_text.specs.declared.fault.LoadCause.TheVariants as cause
-use Rattle.iv_text.specs.declared.fault.LoadFault.{LoadFault}
+use Rattle.iv_lines.specs.Fault.{fault_at}
+use Rattle.iv_lines.specs.GenomeFile.{bad_name}
+use Rattle.iv_lines.specs.Named.{name_index}
+use Rattle.iv_lines.specs.Genome.{Sequences}
+use Rattle.iv_lines.specs.Lines.{lines, begins_with}
+use Rattle.iv_lines.specs.Inside.Pieces.{EndsAtFeed}
+use Rattle.iv_lines.proofs.PieceLemmas.{lines-fed, lines-ended, ended-rest}
+use Rattle.iv_lines.specs.declared.fault.LoadCause.{LoadCause}
+use Rattle.iv_lines.specs.declared.fault.LoadCause.TheVariants as cause
+use Rattle.iv_lines.specs.declared.fault.LoadFault.{LoadFault}
 use Rattle.iv_fasta.specs.Fasta.{header_name}
 use Rattle.iv_fasta.specs.FastaReading.{Draft, Progress, Summaries, Wanted, is_held, with_part, with_rest, with_header, after_line, after_lines, after_rest, said}
 use Rattle.iv_fasta.specs.Inside.Fasta.{is_no_base}

@@ -6,20 +6,20 @@ use Rattle.std.specs.Option.{is_some, option_map, unwrap_or}
 use Rattle.std.specs.Map.{lookup}
 use Rattle.std.proofs.lemmas.Bool.{cond-true}
 use Rattle.std.proofs.lemmas.Slice.Eq.{bytes_eq-Decides}
-use Rattle.iv_text.specs.Chains.{if_ok}
-use Rattle.iv_text.specs.Lines.{lines, begins_with}
+use Rattle.iv_lines.specs.Chains.{if_ok}
+use Rattle.iv_lines.specs.Lines.{lines, begins_with}
 use Rattle.std.specs.Str.{bytes_eq}
-use Rattle.iv_text.specs.Named.{names_of, name_index}
-use Rattle.iv_text.specs.Genome.{Sequences, AreRanked}
-use Rattle.iv_text.specs.GenomeFile.{bad_name}
+use Rattle.iv_lines.specs.Named.{names_of, name_index}
+use Rattle.iv_lines.specs.Genome.{Sequences, AreRanked}
+use Rattle.iv_lines.specs.GenomeFile.{bad_name}
 use Rattle.iv_fasta.specs.Fasta.{Stretch, Found, header_sign, header_name, with_bases, after_fasta_line, Bases, bases_of, has_wrong_length, fasta_of}
 use Rattle.iv_fasta.specs.FastaReading.{Draft, Summary, Summaries, Wanted, is_wanted, is_held, only, only_from, only_or_fault, with_part, with_rest, with_header, after_line, after_lines, said, has_other_count, held_by_rank, ended}
 use Rattle.iv_fasta.specs.Inside.FastaMeaning.{with_lengths, by_rank}
 use Rattle.iv_fasta.specs.Inside.Fasta.{is_no_base}
 use Rattle.iv_fasta.specs.Inside.Drafts.{begun_with, with_sequence, with_base_line, after_fasta_lines}
-use Rattle.iv_text.specs.declared.fault.LoadCause.{LoadCause}
-use Rattle.iv_text.specs.declared.fault.LoadCause.TheVariants as cause
-use Rattle.iv_text.specs.declared.fault.LoadFault.{LoadFault}
+use Rattle.iv_lines.specs.declared.fault.LoadCause.{LoadCause}
+use Rattle.iv_lines.specs.declared.fault.LoadCause.TheVariants as cause
+use Rattle.iv_lines.specs.declared.fault.LoadFault.{LoadFault}
 
 module _ (g : Sequences) (wanted : Wanted) where
   abbrev pub held : List ℕ → Bool

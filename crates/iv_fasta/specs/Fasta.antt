@@ -4,16 +4,16 @@ use Rattle.std.specs.List.{list_any, before_first}
 use Rattle.std.specs.Map.{lookup}
 use Rattle.std.specs.Option.{is_some, option_map, unwrap_or}
 use Rattle.std.specs.Str.{bytes_eq}
-use Rattle.iv_text.specs.Bytes.{tab, space}
-use Rattle.iv_text.specs.Chains.{if_ok, after_all}
-use Rattle.iv_text.specs.Lines.{lines, begins_with}
-use Rattle.iv_text.specs.Named.{name_index}
-use Rattle.iv_text.specs.Genome.{Sequences, length_at}
-use Rattle.iv_text.specs.Read.{length_of}
-use Rattle.iv_text.specs.GenomeFile.{bad_name}
-use Rattle.iv_text.specs.declared.fault.LoadCause.{LoadCause}
-use Rattle.iv_text.specs.declared.fault.LoadFault.{LoadFault}
-use Rattle.iv_text.specs.declared.fault.LoadCause.TheVariants as cause
+use Rattle.iv_lines.specs.Bytes.{tab, space}
+use Rattle.iv_lines.specs.Chains.{if_ok, after_all}
+use Rattle.iv_lines.specs.Lines.{lines, begins_with}
+use Rattle.iv_lines.specs.Named.{name_index}
+use Rattle.iv_lines.specs.Genome.{Sequences, length_at}
+use Rattle.iv_lines.specs.Read.{length_of}
+use Rattle.iv_lines.specs.GenomeFile.{bad_name}
+use Rattle.iv_lines.specs.declared.fault.LoadCause.{LoadCause}
+use Rattle.iv_lines.specs.declared.fault.LoadFault.{LoadFault}
+use Rattle.iv_lines.specs.declared.fault.LoadCause.TheVariants as cause
 
 -- what is under a name: the number of its header's line, and its bases, joined over their lines
 pub record Stretch : Type 0 where

@@ -1,10 +1,10 @@
 -- The rows of getfasta.
 use Rattle.std.specs.Prelude.{ℕ, ◌++◌, List, [], ◌∷◌, Option, None, Some, map, reverse, codes, decimal, slice_range, if◌then◌else◌}
 use Rattle.std.specs.List.{flat_map}
-use Rattle.iv_text.specs.Genome.{Sequences, sequence_name}
-use Rattle.iv_text.specs.RecordValue.{RecordValue, strand_byte}
-use Rattle.iv_text.specs.declared.record_ref.Strand.{Strand}
-use Rattle.iv_text.specs.declared.record_ref.Strand.TheVariants.{Minus}
+use Rattle.iv_lines.specs.Genome.{Sequences, sequence_name}
+use Rattle.iv_lines.specs.RecordValue.{RecordValue, strand_byte}
+use Rattle.iv_lines.specs.declared.record_ref.Strand.{Strand}
+use Rattle.iv_lines.specs.declared.record_ref.Strand.TheVariants.{Minus}
 use Rattle.iv_fasta.specs.Complement.{complement}
 use Rattle.iv_fasta.specs.Fasta.{Bases, bases_of}
 use Rattle.iv_fasta.specs.declared.rows.FastaOutput.{FastaOutput}

@@ -1,13 +1,13 @@
 //! The bases of sequences.
 ghost use Rattle.std.specs.Prelude.{None, slice_get, ◌≡◌, ◌⊎◌, Ok, Err, IfOk, IfErr, All, length, slice_range};
 ghost use Rattle.std.specs.Option.{is_some, option_map, option_copied, unwrap_or};
-ghost use Rattle.iv_text.specs.declared.fault.LoadCause.TheVariants as cause;
+ghost use Rattle.iv_lines.specs.declared.fault.LoadCause.TheVariants as cause;
 ghost use Rattle.iv_fasta.specs.Inside.BaseRanges.{placed, IsPlacedWithin};
 ghost use Rattle.iv_fasta.specs.Fasta.{fasta_of, bases_of, HasLengthsOf};
 
 use crate::fasta_reader::FastaReader;
 use crate::held_sequences::BaseRange;
-use iv_text::{Genome, LoadFault};
+use iv_lines::{Genome, LoadFault};
 use std::alloc::{Allocator, Global};
 use std::marker::Model;
 

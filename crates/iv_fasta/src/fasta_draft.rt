@@ -1,8 +1,8 @@
 //! What is held of a FASTA file of which some bytes were read.
 ghost use Rattle.std.specs.Prelude.{◌≡◌, ◌≢◌, ◌≤◌, ◌<◌, ◌+◌, ◌^◌, ◌⊎◌, ◌++◌, ◌==◌, ◌||◌, not, ℕ, List, Bool, cond, [], None, Some, false, true, Ok, Err, IfOk, IfErr, OnOk, All, length, slice_index};
 ghost use Rattle.std.specs.Option.{option_map};
-ghost use Rattle.iv_text.specs.declared.fault.LoadCause.TheVariants as cause;
-ghost use Rattle.iv_text.specs.Genome.{Sequences};
+ghost use Rattle.iv_lines.specs.declared.fault.LoadCause.TheVariants as cause;
+ghost use Rattle.iv_lines.specs.Genome.{Sequences};
 ghost use Rattle.iv_fasta.specs.FastaReading.{is_held, said, with_header, ended};
 ghost use Rattle.iv_fasta.specs.Inside.BaseRanges.{placed, IsPlacedWithin};
 ghost use Rattle.iv_fasta.specs.Inside.Drafts.{begun_with, lacks_a_header, refusal_of, with_line_end, Reads, Refuses, IsInLine, TakesBytes};
@@ -10,7 +10,7 @@ ghost use Rattle.iv_fasta.specs.Inside.Drafts.{begun_with, lacks_a_header, refus
 use crate::base_counts::{count_bases, is_bad};
 use crate::header_lines::{ended_line, name_in};
 use crate::held_sequences::{BaseRange, HeldSequences, wants};
-use iv_text::{Genome, LoadCause, LoadFault, is_bad_name};
+use iv_lines::{Genome, LoadCause, LoadFault, is_bad_name};
 use std::alloc::Allocator;
 use std::marker::Model;
 

@@ -1,15 +1,15 @@
 //! A FASTA file that comes in pieces.
 ghost use Rattle.std.specs.Prelude.{◌≡◌, ◌<◌, ◌≤◌, ◌+◌, ◌^◌, ◌⊎◌, ◌++◌, ℕ, List, [], length, drop, Ok, Err, IfOk, IfErr, OnOk};
 ghost use Rattle.std.specs.Option.{option_map};
-ghost use Rattle.iv_text.specs.Genome.{Sequences, AreRanked};
-ghost use Rattle.iv_text.specs.declared.fault.LoadCause.TheVariants as cause;
+ghost use Rattle.iv_lines.specs.Genome.{Sequences, AreRanked};
+ghost use Rattle.iv_lines.specs.declared.fault.LoadCause.TheVariants as cause;
 ghost use Rattle.iv_fasta.specs.Fasta.{fasta_of};
 ghost use Rattle.iv_fasta.specs.FastaReading.{read_on, only_or_fault, size_of};
 
 use crate::fasta::Fasta;
 use crate::fasta_draft::FastaDraft;
 use bstr::ByteSlice;
-use iv_text::{Genome, LoadFault};
+use iv_lines::{Genome, LoadFault};
 use std::alloc::Allocator;
 use std::marker::Model;
 use std::mem;

@@ -1,12 +1,12 @@
 //! The headers of a FASTA file.
 ghost use Rattle.std.specs.Prelude.{◌≡◌, ◌<◌, ◌≤◌, ◌∷◌, ◌++◌, ℕ, List, [], true, false, IfNone, IfSome, length, drop};
 ghost use Rattle.std.specs.List.{before_first};
-ghost use Rattle.iv_text.specs.Lines.{lines};
+ghost use Rattle.iv_lines.specs.Lines.{lines};
 ghost use Rattle.iv_fasta.specs.Fasta.{header_name};
 ghost use Rattle.iv_fasta.specs.Inside.Fasta.{is_blank};
 
 use bstr::ByteSlice;
-use iv_text::split_line;
+use iv_lines::split_line;
 
 /// Whether a name ends before this byte.
 fn ends_name(b: u8) -> bool

@@ -3,15 +3,15 @@ ghost use Rattle.std.specs.Prelude.{◌≡◌, ◌≤◌, ◌<◌, ◌+◌, ◌^
 ghost use Rattle.std.specs.Map.{lookup};
 ghost use Rattle.std.specs.Option.{option_map, is_some};
 ghost use Rattle.std.specs.Str.{bytes_eq};
-ghost use Rattle.iv_text.specs.Named.{name_index};
-ghost use Rattle.iv_text.specs.declared.fault.LoadCause.TheVariants as cause;
+ghost use Rattle.iv_lines.specs.Named.{name_index};
+ghost use Rattle.iv_lines.specs.declared.fault.LoadCause.TheVariants as cause;
 ghost use Rattle.iv_fasta.specs.Fasta.{bases_of};
 ghost use Rattle.iv_fasta.specs.FastaReading.{Summary, Wanted, is_wanted, only, with_part, has_other_count, held_by_rank, ended};
 ghost use Rattle.iv_fasta.specs.Inside.FastaMeaning.{differs as differs_in};
 ghost use Rattle.iv_fasta.specs.Inside.BaseRanges.{bases_at, placed, EndsWithin, IsPlacedWithin};
 ghost use Rattle.iv_fasta.specs.Inside.Drafts.{cut, number_at, AreRising, AreRising-prop, sequence_at};
 
-use iv_text::{ContentSeed, Genome, LoadCause, LoadFault, NameMap};
+use iv_lines::{ContentSeed, Genome, LoadCause, LoadFault, NameMap};
 use std::alloc::{AllocError, Allocator};
 use std::hash::{DefaultHasher, Hasher};
 

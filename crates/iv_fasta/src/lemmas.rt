@@ -1,10 +1,10 @@
 //! Lemmas on the definitions: functions that do nothing, whose contracts are the lemmas.
 ghost use Rattle.std.specs.Prelude.{◌≡◌, ◌↔◌, ◌⊎◌, ◌+◌, ◌++◌, ◌∷◌, ℕ, List, true, Ok, Err, All, length};
-ghost use Rattle.iv_text.specs.FileMeaning.{HaveNoCause, IsFirstFault};
-ghost use Rattle.iv_text.specs.Genome.{Sequences};
-ghost use Rattle.iv_text.specs.Lines.{lines};
-ghost use Rattle.iv_text.specs.RecordValue.{RecordValue};
-ghost use Rattle.iv_text.specs.declared.fault.LoadFault.{LoadFault};
+ghost use Rattle.iv_lines.specs.FileMeaning.{HaveNoCause, IsFirstFault};
+ghost use Rattle.iv_lines.specs.Genome.{Sequences};
+ghost use Rattle.iv_lines.specs.Lines.{lines};
+ghost use Rattle.iv_lines.specs.RecordValue.{RecordValue};
+ghost use Rattle.iv_lines.specs.declared.fault.LoadFault.{LoadFault};
 ghost use Rattle.iv_fasta.specs.Fasta.{Bases, Found, fasta_of};
 ghost use Rattle.iv_fasta.specs.FastaReading.{Wanted, is_wanted, only};
 ghost use Rattle.iv_fasta.specs.FastaRows.{fasta_rows};

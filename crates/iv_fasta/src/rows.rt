@@ -7,7 +7,7 @@ ghost use Rattle.iv_fasta.specs.Complement.{complement as complement_of};
 
 use crate::fasta::Fasta;
 use iv_bytes::{Sink, WriteFault, put_all, put_pieces};
-use iv_text::{BedRecord, Genome, Strand};
+use iv_lines::{BedRecord, Genome, Strand};
 use std::alloc::Allocator;
 
 /// How getfasta shows records: the options `-s` and `-tab` of bedtools getfasta.

@@ -6,7 +6,7 @@ use crate::records::{
 };
 use crate::values::{SPACES_AWAY, is_spaced, put_length, put_no_number, put_spaced};
 use iv_args::Slot;
-use iv_text::{Fault, LoadCause, LoadFault};
+use iv_lines::{Fault, LoadCause, LoadFault};
 use std::alloc::AllocError;
 
 /// How many columns of a quoted line are shown.

@@ -7,7 +7,7 @@ use crate::options::{is_comma, value_after};
 use crate::words::put_words;
 use iv_args::{Plan, Slot};
 use iv_cli::ExitReason;
-use iv_text::{Fault, LoadCause, LoadFault, read_number};
+use iv_lines::{Fault, LoadCause, LoadFault, read_number};
 use std::alloc::{AllocError, Global};
 
 /// Which page says how larger data is cut.

@@ -1,7 +1,7 @@
 //! Files that are looked at again.
 use crate::records::{count_columns, first_record};
 use iv_args::{Plan, Slot};
-use iv_text::lines_of;
+use iv_lines::lines_of;
 use std::alloc::{AllocError, Global};
 use std::io::{self, BufRead, BufReader, Read};
 

@@ -4,7 +4,7 @@ use crate::hint::{Escaped, Hint, say, shown};
 use crate::options::{is_comma, value_after};
 use crate::records::{alike_in, column, is_digits, is_record, length_in};
 use iv_args::{Slot, Subcommand};
-use iv_text::{lines_of, split_first_column};
+use iv_lines::{lines_of, split_first_column};
 use std::alloc::AllocError;
 
 /// How many lines of a file are looked at, and how many bytes at most.

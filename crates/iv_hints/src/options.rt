@@ -5,7 +5,7 @@ use crate::nearest::Nearest;
 use crate::records::count_of;
 use crate::vocabulary::{lists, text_for};
 use iv_args::{OptionUsage, OptionValue, RUNS, RunUsage, Subcommand};
-use iv_text::read_number;
+use iv_lines::read_number;
 use std::alloc::{AllocError, Global};
 
 /// Operations of a summary.

@@ -1,5 +1,5 @@
 //! Columns of lines, and what a genome file says of a name.
-use iv_text::{lines_of, split_first_column};
+use iv_lines::{lines_of, split_first_column};
 
 /// The column of a line with this number, counted from 0.
 pub(crate) fn column(line: &[u8], number: usize) -> Option<&[u8]> {

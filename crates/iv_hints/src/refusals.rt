@@ -12,7 +12,7 @@ use crate::values::{COMMENT, is_spaced, put_length, put_no_number, put_spaced};
 use crate::vocabulary::is_between;
 use crate::words::put_view;
 use iv_args::{Plan, Slot};
-use iv_text::{Fault, lines_of, read_number};
+use iv_lines::{Fault, lines_of, read_number};
 use std::alloc::{AllocError, Global};
 
 /// How many bytes of the front of a file are looked at for a refused line.

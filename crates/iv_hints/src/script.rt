@@ -1,6 +1,6 @@
 //! What is kept of a script while it runs: the lines that were read last, and how often each kind of message was written.
 use crate::records::count_of;
-use iv_text::{Fault, read_number};
+use iv_lines::{Fault, read_number};
 use std::alloc::{AllocError, Global};
 
 /// How many bytes are kept of a line before the piece that was read last.

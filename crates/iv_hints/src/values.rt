@@ -1,7 +1,7 @@
 //! What is wrong with a value, and what to do about it in a file.
 use crate::hint::{Escaped, Hint, say, shown};
 use crate::records::is_digits;
-use iv_text::read_number;
+use iv_lines::read_number;
 use std::alloc::AllocError;
 
 /// What the columns of a BED file are.

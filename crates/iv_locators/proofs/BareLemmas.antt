@@ -7,13 +7,13 @@ use Rattle.std.specs.declared.cmp.Ordering.{Ordering}
 use Rattle.std.specs.declared.cmp.Ordering.TheVariants.{Less, Equal, Greater}
 use Rattle.std.proofs.lemmas.List.Elements.{All-from_recursion, recursion_from_All}
 use Rattle.std.proofs.lemmas.List.Sums.{sum_by-cons}
-use Rattle.iv_text.specs.Genome.{Sequences}
+use Rattle.iv_lines.specs.Genome.{Sequences}
 use Rattle.iv_text.specs.BedReading.{IsProjected}
-use Rattle.iv_text.specs.Ordered.{added, ordered, AreInOrder}
-use Rattle.iv_text.specs.Read.{IsOnGenome}
-use Rattle.iv_text.specs.RecordValue.{RecordValue, record_cmp}
-use Rattle.iv_text.specs.Inside.RecordValue.{beside_cmp}
-use Rattle.iv_text.proofs.OrderedLemmas.{ordered-in_order, rows-alone}
+use Rattle.iv_lines.specs.Ordered.{added, ordered, AreInOrder}
+use Rattle.iv_lines.specs.Read.{IsOnGenome}
+use Rattle.iv_lines.specs.RecordValue.{RecordValue, record_cmp}
+use Rattle.iv_lines.specs.Inside.RecordValue.{beside_cmp}
+use Rattle.iv_lines.proofs.OrderedLemmas.{ordered-in_order, rows-alone}
 use Rattle.iv_locators.specs.Locators.{bare}
 use Rattle.iv_locators.specs.Inside.Locators.{record_at, records_at}
 use Rattle.iv_locators.specs.declared.locator.Locator.{Locator}

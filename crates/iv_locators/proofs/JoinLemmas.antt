@@ -8,9 +8,9 @@ use Rattle.std.proofs.lemmas.Bool.{and_cases, and_parts, eqb-true, eqb-false, le
 use Rattle.std.proofs.lemmas.Bool.Decides.{nat_tests}
 use Rattle.std.proofs.lemmas.List.Elements.{All-from_recursion, recursion_from_All, All-map}
 use Rattle.std.proofs.lemmas.List.Kept.{AllPairs-cons}
-use Rattle.iv_text.specs.Ordered.{AreInOrder}
-use Rattle.iv_text.specs.RecordValue.{RecordValue, record_cmp}
-use Rattle.iv_text.proofs.PrecedesLemmas.{precedes-from}
+use Rattle.iv_lines.specs.Ordered.{AreInOrder}
+use Rattle.iv_lines.specs.RecordValue.{RecordValue, record_cmp}
+use Rattle.iv_lines.proofs.PrecedesLemmas.{precedes-from}
 use Rattle.iv_locators.specs.Cover.{is_covered}
 use Rattle.iv_locators.specs.Inside.Cover.{AreApart}
 use Rattle.iv_locators.specs.Inside.Joins.{touches, grown, joined_locators, joined_from}

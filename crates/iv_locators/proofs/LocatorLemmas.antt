@@ -4,13 +4,13 @@ use Rattle.std.specs.Prelude.{IsSome}
 use Rattle.std.proofs.lemmas.Bool.Decides.{nat_tests}
 use Rattle.std.proofs.lemmas.List.{drop_all, drop-drop}
 use Rattle.std.proofs.lemmas.List.Elements.{All-nil, All-cons}
-use Rattle.iv_text.proofs.BedReadingLemmas.{rest-whole}
-use Rattle.iv_text.proofs.JoinedLemmas.{tabs-columns, whole-printed, with_tabs}
-use Rattle.iv_text.specs.Fields.{columns}
-use Rattle.iv_text.specs.Lines.{lines}
-use Rattle.iv_text.specs.Read.{column}
-use Rattle.iv_text.specs.RecordText.{joined_record, rest_text}
-use Rattle.iv_text.specs.RecordValue.{RecordValue, strand_of}
+use Rattle.iv_lines.proofs.PieceLemmas.{rest-whole}
+use Rattle.iv_lines.proofs.JoinedLemmas.{tabs-columns, whole-printed, with_tabs}
+use Rattle.iv_lines.specs.Fields.{columns}
+use Rattle.iv_lines.specs.Lines.{lines}
+use Rattle.iv_lines.specs.Read.{column}
+use Rattle.iv_lines.specs.RecordText.{joined_record, rest_text}
+use Rattle.iv_lines.specs.RecordValue.{RecordValue, strand_of}
 use Rattle.iv_locators.specs.Inside.Locators.{HasAllColumns, line_at, record_at}
 use Rattle.iv_locators.specs.declared.locator.Locator.{Locator}
 

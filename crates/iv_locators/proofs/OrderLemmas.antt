@@ -16,11 +16,11 @@ use Rattle.std.specs.declared.cmp.Ordering.{Ordering}
 use Rattle.std.specs.declared.cmp.Ordering.TheVariants.{Less, Equal, Greater}
 use Rattle.std.specs.Cmp.Lexicographic.{slice_cmp}
 use Rattle.std.specs.Option.{option_cmp}
-use Rattle.iv_text.proofs.OrderedLemmas.{ordered-sorted}
-use Rattle.iv_text.specs.Ordered.{ordered}
-use Rattle.iv_text.specs.RecordValue.{RecordValue, record_cmp, records_total}
-use Rattle.iv_text.specs.Inside.RecordValue.{strand_cmp, beside_cmp}
-use Rattle.iv_text.specs.declared.record_ref.Strand.{Strand}
+use Rattle.iv_lines.proofs.OrderedLemmas.{ordered-sorted}
+use Rattle.iv_lines.specs.Ordered.{ordered}
+use Rattle.iv_lines.specs.RecordValue.{RecordValue, record_cmp, records_total}
+use Rattle.iv_lines.specs.Inside.RecordValue.{strand_cmp, beside_cmp}
+use Rattle.iv_lines.specs.declared.record_ref.Strand.{Strand}
 
 pub then_equal : (o : Ordering) → ordering_then o Equal ≡ o
 then_equal Less = refl

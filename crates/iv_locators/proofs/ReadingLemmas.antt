@@ -6,19 +6,19 @@ use Rattle.std.proofs.lemmas.Bool.{eqb-true}
 use Rattle.std.proofs.lemmas.Bool.Decides.{nat_tests}
 use Rattle.std.proofs.lemmas.List.{drop_all, get_or_past}
 use Rattle.std.proofs.lemmas.List.Elements.{All-nil, All-cons, All-head, All-tail}
-use Rattle.iv_text.proofs.ReadLemmas.{hit}
+use Rattle.iv_lines.proofs.ReadLemmas.{hit}
 use Rattle.iv_text.proofs.BedReadingLemmas.{begun-sound, fit-all, kept-all, rows-all, sound-kept, whole-file}
-use Rattle.iv_text.specs.Fields.{columns}
-use Rattle.iv_text.specs.Genome.{Sequences}
+use Rattle.iv_lines.specs.Fields.{columns}
+use Rattle.iv_lines.specs.Genome.{Sequences}
 use Rattle.iv_text.specs.BedReading.{AreSoundLines, Held, RefusesLines, Shows, TakesLines, after, begun, byte_after, none_held, shown, finished}
-use Rattle.iv_text.specs.Lines.{lines}
-use Rattle.iv_text.specs.Read.{read, feature, has_fault, faults, column, Fits}
-use Rattle.iv_text.specs.Chains.{unless_fault}
-use Rattle.iv_text.specs.RecordValue.{RecordValue, strand_of}
+use Rattle.iv_lines.specs.Lines.{lines}
+use Rattle.iv_lines.specs.Read.{read, feature, has_fault, faults, column, Fits}
+use Rattle.iv_lines.specs.Chains.{unless_fault}
+use Rattle.iv_lines.specs.RecordValue.{RecordValue, strand_of}
 use Rattle.iv_text.specs.BedFile.{Draft, bed_of}
-use Rattle.iv_text.specs.declared.fault.Fault.{Fault}
-use Rattle.iv_text.specs.declared.fault.Fault.TheVariants as fault
-use Rattle.iv_text.specs.declared.fault.LoadFault.{LoadFault}
+use Rattle.iv_lines.specs.declared.fault.Fault.{Fault}
+use Rattle.iv_lines.specs.declared.fault.Fault.TheVariants as fault
+use Rattle.iv_lines.specs.declared.fault.LoadFault.{LoadFault}
 use Rattle.iv_locators.proofs.LocatorLemmas.{line-is, line-whole}
 use Rattle.iv_locators.specs.Inside.Locators.{HasAllColumns, HasBase, line_at, locator_at, row_of, record_at, records_at}
 use Rattle.iv_locators.specs.Inside.Drafts.{AreLocators}

@@ -4,13 +4,13 @@ use Rattle.std.specs.List.{AllByRecursion}
 use Rattle.std.specs.List.Sorted.{IsPartitionedBy, IsPartitionPoint}
 use Rattle.std.proofs.lemmas.Bool.{and_parts, and_from, le-ltb, ne_eqb, leb-false}
 use Rattle.std.proofs.lemmas.List.Elements.{All-head, All-tail}
-use Rattle.iv_text.specs.Ordered.{AreInOrder}
-use Rattle.iv_text.specs.RecordValue.{RecordValue, record_cmp}
+use Rattle.iv_lines.specs.Ordered.{AreInOrder}
+use Rattle.iv_lines.specs.RecordValue.{RecordValue, record_cmp}
 use Rattle.std.specs.Ordering.{is_le}
-use Rattle.iv_text.specs.CoveredPositions.{on}
-use Rattle.iv_text.proofs.ListLemmas.{same_tests, mem-all, mem-filter, filter-filter, filter-agree, filter-all}
-use Rattle.iv_text.proofs.InOrderLemmas.{in_order-filter}
-use Rattle.iv_text.proofs.PrecedesLemmas.{precedes-from}
+use Rattle.iv_lines.specs.CoveredPositions.{on}
+use Rattle.iv_lines.proofs.ListLemmas.{same_tests, mem-all, mem-filter, filter-filter, filter-agree, filter-all}
+use Rattle.iv_lines.proofs.InOrderLemmas.{in_order-filter}
+use Rattle.iv_lines.proofs.PrecedesLemmas.{precedes-from}
 
 module _ {X : Type 0} (feature : X → RecordValue) (rank : ℕ) where
   -- each of these records is on this sequence or a later one

@@ -3,11 +3,11 @@ use Rattle.std.proofs.Common.{◌≡◌, List, [], sym, subst}
 use Rattle.std.specs.Prelude.{All}
 use Rattle.std.proofs.lemmas.List.Elements.{All-from_recursion, recursion_from_All}
 use Rattle.iv_text.specs.BedFile.{Bed}
-use Rattle.iv_text.specs.Genome.{Sequences}
-use Rattle.iv_text.specs.Ordered.{ordered, AreInOrder}
-use Rattle.iv_text.specs.Read.{Fits, IsOnGenome}
-use Rattle.iv_text.specs.RecordValue.{RecordValue, record_cmp}
-use Rattle.iv_text.proofs.OrderedLemmas.{all-all_added, ordered-in_order}
+use Rattle.iv_lines.specs.Genome.{Sequences}
+use Rattle.iv_lines.specs.Ordered.{ordered, AreInOrder}
+use Rattle.iv_lines.specs.Read.{Fits, IsOnGenome}
+use Rattle.iv_lines.specs.RecordValue.{RecordValue, record_cmp}
+use Rattle.iv_lines.proofs.OrderedLemmas.{all-all_added, ordered-in_order}
 
 -- what all records of a list have, those of the list in order have
 pub ordered-all : (P : RecordValue → Type 0) (records : List RecordValue) → All P records → All P (ordered records)

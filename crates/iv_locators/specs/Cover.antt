@@ -1,8 +1,8 @@
 -- What records cover.
 use Rattle.std.specs.Prelude.{ℕ, Bool, List}
 use Rattle.std.specs.List.{list_any}
-use Rattle.iv_text.specs.RecordValue.{RecordValue}
-use Rattle.iv_text.specs.CoveredPositions.{covers}
+use Rattle.iv_lines.specs.RecordValue.{RecordValue}
+use Rattle.iv_lines.specs.CoveredPositions.{covers}
 
 -- whether some record covers position p, from 0, of the sequence of this rank
 abbrev pub is_covered : List RecordValue → ℕ → ℕ → Bool

@@ -1,6 +1,6 @@
 -- Records without their columns after the third.
 use Rattle.std.specs.Prelude.{[], None}
-use Rattle.iv_text.specs.RecordValue.{RecordValue}
+use Rattle.iv_lines.specs.RecordValue.{RecordValue}
 
 -- the record in three columns: its interval, and nothing else
 abbrev pub bare : RecordValue → RecordValue

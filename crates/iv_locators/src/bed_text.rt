@@ -1,21 +1,22 @@
 //! The records of a BED file as locators into its text.
 ghost use Rattle.std.specs.Prelude.{◌≡◌, [], cond, ◌<◌, ◌≤◌, ◌^◌, ◌⊎◌, ℕ, All, length, map, Ok, Err, IfOk, IfErr, OnOk};
 ghost use Rattle.iv_text.specs.BedFile.{bed_of};
-ghost use Rattle.iv_text.specs.Ordered.{AreInOrder, ordered};
-ghost use Rattle.iv_text.specs.Read.{Fits};
-ghost use Rattle.iv_text.specs.declared.fault.LoadCause.TheVariants as cause;
+ghost use Rattle.iv_lines.specs.Ordered.{AreInOrder, ordered};
+ghost use Rattle.iv_lines.specs.Read.{Fits};
+ghost use Rattle.iv_lines.specs.declared.fault.LoadCause.TheVariants as cause;
 ghost use Rattle.iv_locators.specs.Inside.Joins.{grown, joined_locators, touches};
 ghost use Rattle.iv_locators.specs.Cover.{is_covered};
 ghost use Rattle.iv_locators.specs.Inside.Cover.{AreApart};
 ghost use Rattle.iv_locators.specs.Inside.Drafts.{AreLocators};
 ghost use Rattle.iv_locators.specs.Inside.Locators.{HasBase, records_at};
 ghost use Rattle.iv_locators.specs.Locators.{bare};
-ghost use Rattle.iv_text.specs.Widths.{IsWidth};
+ghost use Rattle.iv_lines.specs.Widths.{IsWidth};
 
 use crate::locator::Locator;
 use crate::order::{are_in_order, compare, order_locators};
 use crate::text_records::TextRecords;
-use iv_text::{BedLines, Genome, LoadFault};
+use iv_lines::{Genome, LoadFault};
+use iv_text::BedLines;
 use std::alloc::{AllocError, Allocator, Global};
 use std::marker::Model;
 

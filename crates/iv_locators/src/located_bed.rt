@@ -2,15 +2,15 @@
 ghost use Rattle.std.specs.Prelude.{◌≡◌, ◌<◌, ◌≤◌, ◌^◌, ◌⊎◌, ◌||◌, ◌==◌, ℕ, All, [], length, Ok, Err, IfOk, IfErr, OnOk};
 ghost use Rattle.std.specs.List.{list_any};
 ghost use Rattle.iv_text.specs.BedFile.{bed_of};
-ghost use Rattle.iv_text.specs.Read.{Fits};
-ghost use Rattle.iv_text.specs.Widths.{IsWidth};
-ghost use Rattle.iv_text.specs.declared.fault.LoadCause.TheVariants as cause;
+ghost use Rattle.iv_lines.specs.Read.{Fits};
+ghost use Rattle.iv_lines.specs.Widths.{IsWidth};
+ghost use Rattle.iv_lines.specs.declared.fault.LoadCause.TheVariants as cause;
 ghost use Rattle.iv_locators.specs.Inside.Locators.{HasBase, records_at};
 ghost use Rattle.iv_locators.specs.Inside.Ranks.{has_rank, is_at, is_marked};
 
 use crate::bed_text::{BedText, locate};
 use crate::locator::Locator;
-use iv_text::{Genome, LoadFault};
+use iv_lines::{Genome, LoadFault};
 use std::alloc::{AllocError, Allocator, Global};
 use std::marker::Model;
 use std::mem;

@@ -1,16 +1,16 @@
 //! Locators of records: their intervals, and where their lines begin; and the columns of these lines.
 ghost use Rattle.std.specs.Prelude.{◌≡◌, ◌<◌, ◌≤◌, ◌⊎◌, MatchOption, [], None, cond, drop, nat_le, refl};
-ghost use Rattle.iv_text.specs.Fields.{columns as columns_of};
-ghost use Rattle.iv_text.specs.Read.{column};
-ghost use Rattle.iv_text.specs.RecordValue.{strand_of};
+ghost use Rattle.iv_lines.specs.Fields.{columns as columns_of};
+ghost use Rattle.iv_lines.specs.Read.{column};
+ghost use Rattle.iv_lines.specs.RecordValue.{strand_of};
 ghost use Rattle.iv_locators.specs.Locators.{bare};
 ghost use Rattle.iv_locators.specs.Inside.Locators.{locator_at, row_of, line_at, record_at};
 
 use crate::span::Span;
-use iv_text::{
-    Batches, FastLine, Fields, FromRecord, RecordRef, Strand, columns, read_strand,
-    split_first_column, split_line,
+use iv_lines::{
+    Batches, Fields, RecordRef, Strand, columns, read_strand, split_first_column, split_line,
 };
+use iv_text::{FastLine, FromRecord};
 use std::alloc::{AllocError, Allocator};
 
 /// A record's interval, and where its line begins in the text of its file.

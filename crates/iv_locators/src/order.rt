@@ -4,8 +4,8 @@ ghost use Rattle.std.specs.List.Sorted.{IsPermutation};
 ghost use Rattle.std.specs.Cmp.Lexicographic.{slice_cmp};
 ghost use Rattle.std.specs.Option.{option_cmp};
 ghost use Rattle.std.specs.Ordering.{nat_cmp, ordering_then};
-ghost use Rattle.iv_text.specs.RecordValue.{record_cmp};
-ghost use Rattle.iv_text.specs.Inside.RecordValue.{strand_cmp, beside_cmp};
+ghost use Rattle.iv_lines.specs.RecordValue.{record_cmp};
+ghost use Rattle.iv_lines.specs.Inside.RecordValue.{strand_cmp, beside_cmp};
 ghost use Rattle.iv_locators.specs.Inside.Drafts.{AreInOrder, locator_of};
 ghost use Rattle.iv_locators.specs.Inside.Locators.{record_at};
 

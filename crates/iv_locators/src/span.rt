@@ -1,15 +1,16 @@
 //! The intervals of records, and the order of a track among them.
 ghost use Rattle.std.specs.Prelude.{◌≡◌, ◌↔◌, ◌≤◌, nat_lt, All, IsTrue, filter, refl};
 ghost use Rattle.std.specs.List.Sorted.{IsSortedBy};
-ghost use Rattle.iv_text.specs.CoveredPositions.{on};
-ghost use Rattle.iv_text.specs.Ordered.{AreInOrder, ordered};
-ghost use Rattle.iv_text.specs.RecordValue.{record_cmp};
+ghost use Rattle.iv_lines.specs.CoveredPositions.{on};
+ghost use Rattle.iv_lines.specs.Ordered.{AreInOrder, ordered};
+ghost use Rattle.iv_lines.specs.RecordValue.{record_cmp};
 ghost use Rattle.iv_locators.specs.Locators.{bare};
 ghost use Rattle.iv_locators.specs.Inside.Locators.{span_of};
 ghost use Rattle.iv_locators.specs.Inside.Spans.{record_of_span, span_lt, span_records};
 
 use crate::order::order_neighbors;
-use iv_text::{Batches, FastLine, FromRecord, RecordRef};
+use iv_lines::{Batches, RecordRef};
+use iv_text::{FastLine, FromRecord};
 use std::alloc::{AllocError, Allocator};
 use std::cmp::Ordering;
 

@@ -1,14 +1,14 @@
 //! Records whose columns are read from their lines when they are wanted.
 ghost use Rattle.std.specs.Prelude.{◌≡◌, ◌<◌, ◌≤◌, ◌==◌, nat_lt, [], ◌∷◌, All, MatchOption, filter, length, map, slice_get, take, drop};
 ghost use Rattle.std.specs.Iterator.{YieldsFirst, item_count};
-ghost use Rattle.iv_text.specs.RecordValue.{IsPlaced};
-ghost use Rattle.iv_text.specs.Ordered.{AreInOrder};
-ghost use Rattle.iv_text.specs.CoveredPositions.{on};
+ghost use Rattle.iv_lines.specs.RecordValue.{IsPlaced};
+ghost use Rattle.iv_lines.specs.Ordered.{AreInOrder};
+ghost use Rattle.iv_lines.specs.CoveredPositions.{on};
 ghost use Rattle.iv_locators.specs.Inside.Locators.{HasAllColumns, HasBase, record_at, records_at, span_in, span_of};
 
 use crate::locator::{Locator, joined_columns_of, optional_columns_of};
 use crate::span::Span;
-use iv_text::{BedRecord, RecordRef, Strand};
+use iv_lines::{BedRecord, RecordRef, Strand};
 use std::marker::Model;
 
 /// A record of a text: its interval is 0-based and half-open, its other columns are slices of the text.
@@ -23,7 +23,7 @@ pub struct TextRecord<'t> {
 }
 
 impl<'t> Model for TextRecord<'t> {
-    ghost use Rattle.iv_text.specs.RecordValue.{RecordValue};
+    ghost use Rattle.iv_lines.specs.RecordValue.{RecordValue};
     ghost use Rattle.iv_locators.specs.Inside.Locators.{HasAllColumns, HasBase, record_at};
 
     ghost Value = { RecordValue };
@@ -117,7 +117,7 @@ pub struct TextRecords<'t> {
 
 impl<'t> Model for TextRecords<'t> {
     ghost use Rattle.std.specs.Prelude.{All, List};
-    ghost use Rattle.iv_text.specs.RecordValue.{RecordValue};
+    ghost use Rattle.iv_lines.specs.RecordValue.{RecordValue};
     ghost use Rattle.iv_locators.specs.Inside.Locators.{HasAllColumns, HasBase, records_at};
 
     ghost Value = { List RecordValue };

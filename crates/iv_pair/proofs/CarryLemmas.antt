@@ -3,12 +3,12 @@ use Rattle.std.proofs.Common.{◌≡◌, ℕ, ◌+◌, ◌-◌, ◌<◌, ◌≤�
 use Rattle.std.specs.Prelude.{filter}
 use Rattle.std.proofs.lemmas.Bool.{cases_lt, false_from_ne_true}
 use Rattle.std.proofs.lemmas.List.Elements.{All-nil, All-weaker, filter-append, filter_passes}
-use Rattle.iv_text.specs.RecordValue.{RecordValue, record_cmp}
-use Rattle.iv_text.specs.Ordered.{AreInOrder}
-use Rattle.iv_text.proofs.InOrderLemmas.{in_order-filter}
+use Rattle.iv_lines.specs.RecordValue.{RecordValue, record_cmp}
+use Rattle.iv_lines.specs.Ordered.{AreInOrder}
+use Rattle.iv_lines.proofs.InOrderLemmas.{in_order-filter}
 use Rattle.iv_track.specs.Tracked.{is_from}
-use Rattle.iv_text.specs.CoveredPositions.{covers}
-use Rattle.iv_text.proofs.ListLemmas.{all-mem, filter-all}
+use Rattle.iv_lines.specs.CoveredPositions.{covers}
+use Rattle.iv_lines.proofs.ListLemmas.{all-mem, filter-all}
 use Rattle.iv_track.specs.Regions.{overlaps, hits}
 use Rattle.iv_pair.specs.Inside.Lengths.{AreUpTo}
 use Rattle.iv_pair.specs.Inside.HitFinder.{held, keeps, IsOnward, HitAlike, AllCover, AllBegun, IsPlaced}

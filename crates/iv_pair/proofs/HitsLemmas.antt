@@ -4,11 +4,11 @@ use Rattle.std.specs.Prelude.{filter}
 use Rattle.std.proofs.lemmas.Bool.{and_parts, lt-ltb, ltb-true, le-leb, leb-true}
 use Rattle.std.proofs.lemmas.List.Sums.{length-filter, count_by-le-length}
 use Rattle.std.proofs.lemmas.Map.Views.{exact_unsigned_eq}
-use Rattle.iv_text.specs.Ordered.{AreInOrder}
-use Rattle.iv_text.specs.RecordValue.{RecordValue}
+use Rattle.iv_lines.specs.Ordered.{AreInOrder}
+use Rattle.iv_lines.specs.RecordValue.{RecordValue}
 use Rattle.iv_track.specs.Tracked.{is_from}
-use Rattle.iv_text.specs.CoveredPositions.{covers}
-use Rattle.iv_text.proofs.ListLemmas.{all-mem}
+use Rattle.iv_lines.specs.CoveredPositions.{covers}
+use Rattle.iv_lines.proofs.ListLemmas.{all-mem}
 use Rattle.iv_track.specs.Regions.{overlaps, hits}
 use Rattle.iv_pair.specs.Hits.{hits_of}
 use Rattle.iv_pair.specs.Inside.Lengths.{AreUpTo}

@@ -18,10 +18,10 @@ use Rattle.std.proofs.lemmas.Map.Keys.{sorted_head, sorted_tail}
 use Rattle.std.proofs.lemmas.Map.{keys-set_value}
 use Rattle.std.proofs.lemmas.Map.Views.{All-keys-insert_entry, All-values-insert_entry, All-map-remove_entry, All-values-set_value, IfSome-lookup_from_All}
 use Rattle.std.proofs.lemmas.Bool.{cases_lt}
-use Rattle.iv_text.specs.Ordered.{added_by, AreInOrder, added, copies, ordered}
-use Rattle.iv_text.specs.Inside.Ordered.{copies_by}
-use Rattle.iv_text.specs.RecordValue.{RecordValue, record_cmp}
-use Rattle.iv_text.proofs.OrderedLemmas.{copies-added, length-all_added}
+use Rattle.iv_lines.specs.Ordered.{added_by, AreInOrder, added, copies, ordered}
+use Rattle.iv_lines.specs.Inside.Ordered.{copies_by}
+use Rattle.iv_lines.specs.RecordValue.{RecordValue, record_cmp}
+use Rattle.iv_lines.proofs.OrderedLemmas.{copies-added, length-all_added}
 use Rattle.iv_track.specs.Copies.{removed_by, expanded}
 use Rattle.iv_track.specs.Entries.{IsLedger, value_at, last_until, pair_cmp}
 use Rattle.iv_track.specs.Tracked.{Tracked, removed}

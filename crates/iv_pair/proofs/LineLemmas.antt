@@ -5,8 +5,8 @@ use Rattle.std.specs.Iterator.{AlwaysYields}
 use Rattle.std.specs.List.{flat_map}
 use Rattle.iv_bytes.specs.Sinks.{SinkState, FailsIn, Puts, Takes}
 use Rattle.iv_bytes.proofs.PutLemmas.{Underway, Underway-begin, Underway-fails, Underway-more}
-use Rattle.iv_text.specs.Genome.{Sequences}
-use Rattle.iv_text.specs.RecordValue.{RecordValue}
+use Rattle.iv_lines.specs.Genome.{Sequences}
+use Rattle.iv_lines.specs.RecordValue.{RecordValue}
 use Rattle.iv_pair.specs.Hits.{hits_of}
 use Rattle.iv_pair.specs.IntersectRows.{intersect_rows}
 use Rattle.iv_pair.specs.Inside.HitLines.{AllOverlap, Overlaps, hit_line}

@@ -2,8 +2,8 @@
 use Rattle.std.proofs.Common.{◌≡◌, ◌<◌, ◌≤◌, ◌&&◌, ◌==◌, true, false, nat_lt, inl, inr, arith, eq-eqb}
 use Rattle.std.specs.Ordering.{is_le}
 use Rattle.std.proofs.lemmas.Bool.{and_parts, and_from, and_cases, or_parts, ltb-true, ltb-false, eqb-true, eqb-false, lt-ltb, false_from_ne_true}
-use Rattle.iv_text.specs.RecordValue.{RecordValue, record_cmp}
-use Rattle.iv_text.proofs.PrecedesLemmas.{precedes-from}
+use Rattle.iv_lines.specs.RecordValue.{RecordValue, record_cmp}
+use Rattle.iv_lines.proofs.PrecedesLemmas.{precedes-from}
 use Rattle.iv_track.specs.Regions.{overlaps}
 use Rattle.iv_track.proofs.RegionLemmas.{overlaps_parts, overlaps_from}
 use Rattle.iv_pair.specs.Inside.PairSweeps.{reaches, is_past, Precedes, Covers}

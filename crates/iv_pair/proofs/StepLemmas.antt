@@ -3,9 +3,9 @@ use Rattle.std.proofs.Common.{◌≡◌, ◌<◌, Bool, true, false, cond, List,
 use Rattle.std.specs.Prelude.{filter}
 use Rattle.std.specs.Ordering.{is_le}
 use Rattle.std.proofs.lemmas.List.Elements.{All-from_recursion, All-weaker, All-filter, All-head, All-tail, filter-append, filter_passes}
-use Rattle.iv_text.specs.RecordValue.{RecordValue, record_cmp}
-use Rattle.iv_text.specs.Ordered.{AreInOrder}
-use Rattle.iv_text.proofs.ListLemmas.{all-mem, filter-all}
+use Rattle.iv_lines.specs.RecordValue.{RecordValue, record_cmp}
+use Rattle.iv_lines.specs.Ordered.{AreInOrder}
+use Rattle.iv_lines.proofs.ListLemmas.{all-mem, filter-all}
 use Rattle.iv_track.specs.Regions.{overlaps}
 use Rattle.iv_pair.specs.Hits.{hits_of}
 use Rattle.iv_track.proofs.PlaceLemmas.{filter-implied}

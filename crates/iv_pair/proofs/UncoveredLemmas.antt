@@ -7,14 +7,14 @@ use Rattle.std.proofs.lemmas.Bool.{cases_lt, lt-ltb, le-ltb}
 use Rattle.std.proofs.lemmas.List.Concat.{flat_map-append}
 use Rattle.iv_bytes.specs.Sinks.{SinkState, Takes, FailsIn}
 use Rattle.iv_bytes.proofs.PutLemmas.{Underway, Underway-begin, Underway-ends, Underway-fails, Underway-more}
-use Rattle.iv_text.specs.Ordered.{AreInOrder}
-use Rattle.iv_text.specs.RecordValue.{RecordValue, record_cmp}
-use Rattle.iv_text.specs.CoveredPositions.{covers}
+use Rattle.iv_lines.specs.Ordered.{AreInOrder}
+use Rattle.iv_lines.specs.RecordValue.{RecordValue, record_cmp}
+use Rattle.iv_lines.specs.CoveredPositions.{covers}
 use Rattle.iv_cover.specs.Depth.{depth}
 use Rattle.iv_cover.specs.Runs.{Run, empty_runs}
 use Rattle.iv_cover.proofs.DepthLemmas.{depth-cons}
 use Rattle.iv_cover.proofs.EmptyLemmas.{empty_runs-none, empty_runs-skip, empty_runs-run}
-use Rattle.iv_text.proofs.PrecedesLemmas.{precedes-from}
+use Rattle.iv_lines.proofs.PrecedesLemmas.{precedes-from}
 use Rattle.iv_track.specs.Regions.{overlaps, hits}
 use Rattle.iv_track.proofs.RegionLemmas.{overlaps_parts, overlaps_from}
 use Rattle.iv_pair.proofs.HitsLemmas.{covers_parts, covers_from}

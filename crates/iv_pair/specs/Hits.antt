@@ -1,6 +1,6 @@
 -- Which records of a second file share a position with a record.
 use Rattle.std.specs.Prelude.{List}
-use Rattle.iv_text.specs.RecordValue.{RecordValue}
+use Rattle.iv_lines.specs.RecordValue.{RecordValue}
 use Rattle.iv_track.specs.Regions.{hits}
 
 -- the records that share a position with a record

@@ -1,9 +1,9 @@
 -- The rows of an intersect.
 use Rattle.std.specs.Prelude.{ℕ, ◌++◌, List, [], ◌∷◌, min, max, length, codes, decimal}
 use Rattle.std.specs.List.{flat_map}
-use Rattle.iv_text.specs.Genome.{Sequences}
-use Rattle.iv_text.specs.RecordText.{record_text}
-use Rattle.iv_text.specs.RecordValue.{RecordValue, part}
+use Rattle.iv_lines.specs.Genome.{Sequences}
+use Rattle.iv_lines.specs.RecordText.{record_text}
+use Rattle.iv_lines.specs.RecordValue.{RecordValue, part}
 use Rattle.iv_pair.specs.declared.intersect.IntersectOutput.{IntersectOutput}
 use Rattle.iv_pair.specs.declared.intersect.IntersectOutput.TheVariants.{Shared, SharedAndHit, Whole, WholeAndHit, IfHit, IfNoHit, Count}
 

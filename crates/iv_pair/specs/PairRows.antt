@@ -1,8 +1,8 @@
 -- The rows of an intersect or a subtract.
 use Rattle.std.specs.Prelude.{ℕ, if◌then◌else◌, List}
 use Rattle.std.specs.List.{flat_map}
-use Rattle.iv_text.specs.Genome.{Sequences}
-use Rattle.iv_text.specs.RecordValue.{RecordValue, part}
+use Rattle.iv_lines.specs.Genome.{Sequences}
+use Rattle.iv_lines.specs.RecordValue.{RecordValue, part}
 use Rattle.iv_track.specs.Regions.{hits}
 use Rattle.iv_cover.specs.Depth.{depth}
 use Rattle.iv_cover.specs.Runs.{empty_runs}

@@ -2,7 +2,7 @@
 ghost use Rattle.std.specs.Prelude.{◌≡◌, ◌<◌, ◌≤◌, IfOk, count_by, length, map};
 ghost use Rattle.std.specs.List.Sorted.{IsPermutation};
 ghost use Rattle.iv_bytes.specs.Sinks.{Puts};
-ghost use Rattle.iv_text.specs.Ordered.{AreInOrder};
+ghost use Rattle.iv_lines.specs.Ordered.{AreInOrder};
 ghost use Rattle.iv_pair.specs.Inside.Counts.{EndsAscend, StartsAscend, end_by, end_of, is_before, is_up_to, place_before};
 ghost use Rattle.iv_pair.specs.PairRows.{pair_text};
 ghost use Rattle.iv_pair.specs.declared.intersect.IntersectOutput.TheVariants.{Count};
@@ -10,8 +10,8 @@ ghost use Rattle.iv_pair.specs.declared.pair_rows.PairOutput.TheVariants.{Inters
 
 use crate::intersect::put_count;
 use iv_bytes::{Sink, WriteFault};
+use iv_lines::{BedRecord, Genome};
 use iv_locators::{Locator, TextRecords};
-use iv_text::{BedRecord, Genome};
 use std::alloc::{AllocError, Allocator, Global};
 use std::marker::Model;
 

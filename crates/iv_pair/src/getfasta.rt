@@ -4,7 +4,7 @@ ghost use Rattle.iv_fasta.specs.FastaRows.{fasta_text};
 
 use iv_bytes::{Sink, WriteFault};
 use iv_fasta::{Fasta, FastaOutput, put_fasta};
-use iv_text::Genome;
+use iv_lines::Genome;
 use iv_track::{Meter, Track};
 use std::alloc::Allocator;
 

@@ -23,7 +23,7 @@ pub(crate) struct HitCounts<A: Allocator + Copy> {
 
 impl<A: Allocator + Copy> Model for HitCounts<A> {
     ghost use Rattle.std.specs.Prelude.{List};
-    ghost use Rattle.iv_text.specs.RecordValue.{RecordValue};
+    ghost use Rattle.iv_lines.specs.RecordValue.{RecordValue};
     ghost use Rattle.iv_pair.specs.Inside.Counts.{AreCounted};
 
     ghost Value = { List RecordValue };

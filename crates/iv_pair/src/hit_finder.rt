@@ -1,7 +1,7 @@
 //! The hits of one interval after another.
 ghost use Rattle.std.specs.Prelude.{◌≡◌, ◌+◌, ◌-◌, ◌<◌, ◌≤◌, ◌^◌, ◌++◌, ◌∷◌, [], length, filter, true, false};
-ghost use Rattle.iv_text.specs.CoveredPositions.{covers};
-ghost use Rattle.iv_text.specs.Ordered.{AreInOrder};
+ghost use Rattle.iv_lines.specs.CoveredPositions.{covers};
+ghost use Rattle.iv_lines.specs.Ordered.{AreInOrder};
 ghost use Rattle.iv_pair.specs.Inside.HitFinder.{AllCover, HitAlike, IsOnward, held, keeps};
 ghost use Rattle.iv_track.specs.Regions.{hits};
 ghost use Rattle.iv_pair.specs.Inside.Lengths.{AreUpTo};
@@ -9,7 +9,7 @@ ghost use Rattle.iv_pair.specs.Inside.Lengths.{AreUpTo};
 use crate::hits::{Hits, is_from};
 use crate::second::{Second, first_start};
 use arrayvec::ArrayVec;
-use iv_text::BedRecord;
+use iv_lines::BedRecord;
 use iv_track::{Meter, TrackRecord, TrackRecords};
 use std::alloc::Allocator;
 use std::marker::Model;
@@ -197,7 +197,7 @@ struct Carried<'a, A: Allocator + Copy> {
 
 impl<'a, A: Allocator + Copy> Model for Carried<'a, A> {
     ghost use Rattle.std.specs.Prelude.{List};
-    ghost use Rattle.iv_text.specs.RecordValue.{RecordValue};
+    ghost use Rattle.iv_lines.specs.RecordValue.{RecordValue};
     ghost use Rattle.iv_pair.specs.Inside.HitFinder.{held};
 
     ghost Value = { List RecordValue };

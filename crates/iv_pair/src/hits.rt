@@ -1,12 +1,12 @@
 //! The records that share a position with an interval.
 ghost use Rattle.std.specs.Prelude.{◌≡◌, ◌<◌, ◌≤◌, ◌^◌, ◌++◌, length};
 ghost use Rattle.std.specs.Iterator.{YieldsFirst, item_count};
-ghost use Rattle.iv_text.specs.Ordered.{AreInOrder};
+ghost use Rattle.iv_lines.specs.Ordered.{AreInOrder};
 ghost use Rattle.iv_track.specs.Tracked.{is_from};
 ghost use Rattle.iv_pair.specs.Inside.HitFinder.{held};
 ghost use Rattle.iv_track.specs.Regions.{overlaps, hits};
 
-use iv_text::BedRecord;
+use iv_lines::BedRecord;
 use iv_track::{Meter, TrackRecord, TrackRecords};
 use std::alloc::{Allocator, Global};
 use std::marker::Model;
@@ -27,8 +27,8 @@ pub struct Hits<'a, A: Allocator + Copy = Global> {
 
 impl<'a, A: Allocator + Copy> Model for Hits<'a, A> {
     ghost use Rattle.std.specs.Prelude.{◌<◌, ◌≤◌, ◌^◌, ◌++◌, List, length};
-    ghost use Rattle.iv_text.specs.Ordered.{AreInOrder};
-    ghost use Rattle.iv_text.specs.RecordValue.{RecordValue};
+    ghost use Rattle.iv_lines.specs.Ordered.{AreInOrder};
+    ghost use Rattle.iv_lines.specs.RecordValue.{RecordValue};
     ghost use Rattle.iv_pair.specs.Inside.HitFinder.{held};
     ghost use Rattle.iv_track.specs.Regions.{hits};
 

@@ -4,14 +4,14 @@ ghost use Rattle.std.specs.Iterator.{AlwaysYields, IsFinite, UpTo};
 ghost use Rattle.std.specs.List.{flat_map};
 ghost use Rattle.std.specs.Option.{IsSomeAnd};
 ghost use Rattle.iv_bytes.specs.Sinks.{Puts};
-ghost use Rattle.iv_text.specs.RecordValue.{RecordValue};
+ghost use Rattle.iv_lines.specs.RecordValue.{RecordValue};
 ghost use Rattle.iv_pair.specs.Hits.{hits_of};
 ghost use Rattle.iv_pair.specs.IntersectRows.{shared, record_line, pair_line, intersect_rows};
 ghost use Rattle.iv_pair.specs.Inside.HitLines.{Overlaps, AllOverlap, hit_line};
 ghost use Rattle.iv_pair.specs.declared.intersect.IntersectOutput.TheVariants.{IfHit, IfNoHit, Count};
 
 use iv_bytes::{Sink, WriteFault, put_all};
-use iv_text::{BedRecord, Genome, RecordRef, put_line, put_numbered, put_record};
+use iv_lines::{BedRecord, Genome, RecordRef, put_line, put_numbered, put_record};
 use std::alloc::Allocator;
 
 /// Which rows an intersect shows of a record of the first file and its hits, the records of the second that share a position

@@ -1,7 +1,7 @@
 //! The hits of one interval after another in what a second file covers.
 ghost use Rattle.std.specs.Prelude.{◌≡◌, ◌<◌, ◌≤◌, ◌^◌, IfOk, drop, length};
 ghost use Rattle.iv_bytes.specs.Sinks.{Puts};
-ghost use Rattle.iv_text.specs.Ordered.{AreInOrder};
+ghost use Rattle.iv_lines.specs.Ordered.{AreInOrder};
 ghost use Rattle.iv_track.specs.Regions.{hits};
 ghost use Rattle.iv_pair.specs.PairRows.{pair_rows};
 ghost use Rattle.iv_pair.specs.CoverAlone.{CoverAlike};
@@ -14,8 +14,8 @@ use crate::pair_rows::{PairOutput, put_pair_rows};
 use crate::pair_sweep::ActiveHits;
 use crate::second::Second;
 use iv_bytes::{Sink, WriteFault};
+use iv_lines::{BedRecord, Genome};
 use iv_locators::{BedText, TextRecord, TextRecords};
-use iv_text::{BedRecord, Genome};
 use iv_track::{Meter, TrackRecord};
 use std::alloc::{AllocError, Allocator};
 use std::marker::Model;

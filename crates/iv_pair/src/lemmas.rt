@@ -1,7 +1,7 @@
 //! Lemmas on the definitions: functions that do nothing, whose contracts are the lemmas.
 ghost use Rattle.std.specs.Prelude.{◌≡◌, ◌↔◌, ◌<◌, ◌≤◌, ℕ, List, Contains, IsTrue};
-ghost use Rattle.iv_text.specs.RecordValue.{RecordValue};
-ghost use Rattle.iv_text.specs.CoveredPositions.{covers};
+ghost use Rattle.iv_lines.specs.RecordValue.{RecordValue};
+ghost use Rattle.iv_lines.specs.CoveredPositions.{covers};
 ghost use Rattle.iv_cover.specs.Depth.{depth};
 ghost use Rattle.iv_cover.specs.Runs.{Run, empty_runs};
 ghost use Rattle.iv_track.specs.Regions.{overlaps};

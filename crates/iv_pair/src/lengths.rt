@@ -1,14 +1,14 @@
 //! How many records there are of each length.
 ghost use Rattle.std.specs.Prelude.{◌≡◌, ℕ, ◌+◌, ◌-◌, ◌<◌, ◌≤◌, ◌^◌, length, OnOk, OnErr, IfOk};
-ghost use Rattle.iv_text.specs.Ordered.{added_by};
-ghost use Rattle.iv_text.specs.Inside.Ordered.{copies_by};
-ghost use Rattle.iv_text.specs.RecordValue.{RecordValue};
+ghost use Rattle.iv_lines.specs.Ordered.{added_by};
+ghost use Rattle.iv_lines.specs.Inside.Ordered.{copies_by};
+ghost use Rattle.iv_lines.specs.RecordValue.{RecordValue};
 ghost use Rattle.iv_track.specs.Copies.{removed_by, expanded};
 ghost use Rattle.iv_track.specs.Steps.{TakesUpTo};
 ghost use Rattle.iv_track.specs.Entries.{pair_cmp};
 ghost use Rattle.iv_pair.specs.Inside.Lengths.{AreLengths, IsTally, length_of};
 
-use iv_text::BedRecord;
+use iv_lines::BedRecord;
 use iv_track::{Ledger, Meter, Track};
 use std::alloc::{AllocError, Allocator};
 

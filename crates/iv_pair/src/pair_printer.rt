@@ -3,7 +3,7 @@ ghost use Rattle.std.specs.Prelude.{◌≡◌, List, IfOk, IfSome};
 ghost use Rattle.std.specs.Iterator.{YieldsFirst, item_count};
 ghost use Rattle.iv_bytes.specs.Sinks.{Puts};
 ghost use Rattle.iv_pair.specs.PairRows.{pair_rows};
-ghost use Rattle.iv_text.specs.RecordValue.{RecordValue};
+ghost use Rattle.iv_lines.specs.RecordValue.{RecordValue};
 ghost use Rattle.iv_pair.specs.Inside.PairPrinters.{ServesAs};
 
 use crate::hit_counts::HitCounts;
@@ -14,7 +14,7 @@ use crate::joined_cover::JoinedCover;
 use crate::pair_rows::{PairOutput, put_pair_rows};
 use crate::second::Second;
 use iv_bytes::{Sink, WriteFault};
-use iv_text::{BedRecord, Genome};
+use iv_lines::{BedRecord, Genome};
 use iv_track::{Meter, TrackRecord};
 use std::alloc::{AllocError, Allocator};
 use std::marker::Model;
@@ -197,7 +197,7 @@ struct CountedHits<'a, 'm, A: Allocator + Copy> {
 
 impl<'a, 'm, A: Allocator + Copy> Model for CountedHits<'a, 'm, A> {
     ghost use Rattle.std.specs.Prelude.{List};
-    ghost use Rattle.iv_text.specs.RecordValue.{RecordValue};
+    ghost use Rattle.iv_lines.specs.RecordValue.{RecordValue};
 
     ghost Value = { List RecordValue };
 

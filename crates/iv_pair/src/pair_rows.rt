@@ -2,8 +2,8 @@
 ghost use Rattle.std.specs.Prelude.{◌≡◌, IsTrue, List};
 ghost use Rattle.std.specs.Iterator.{AlwaysYields, UpTo};
 ghost use Rattle.iv_bytes.specs.Sinks.{Puts};
-ghost use Rattle.iv_text.specs.Ordered.{AreInOrder};
-ghost use Rattle.iv_text.specs.RecordValue.{RecordValue};
+ghost use Rattle.iv_lines.specs.Ordered.{AreInOrder};
+ghost use Rattle.iv_lines.specs.RecordValue.{RecordValue};
 ghost use Rattle.iv_pair.specs.CoverAlone.{DependsOnCoverAlone, needs_cover_alone};
 ghost use Rattle.iv_pair.specs.Hits.{hits_of};
 ghost use Rattle.iv_pair.specs.PairRows.{pair_rows, pair_text};
@@ -13,7 +13,7 @@ use crate::pair_printer::PairPrinter;
 use crate::second::Second;
 use crate::subtract::put_subtract;
 use iv_bytes::{Sink, WriteFault};
-use iv_text::{BedRecord, Genome};
+use iv_lines::{BedRecord, Genome};
 use iv_track::{Meter, Track};
 use std::alloc::Allocator;
 

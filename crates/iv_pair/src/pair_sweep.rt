@@ -2,7 +2,7 @@
 ghost use Rattle.std.specs.Prelude.{◌≡◌, ◌+◌, ◌<◌, ◌≤◌, ◌^◌, ◌++◌, [], true, length, filter, All, IfOk, vec_len, vec_capacity};
 ghost use Rattle.std.specs.Iterator.{YieldsFirst, item_count};
 ghost use Rattle.iv_bytes.specs.Sinks.{Puts};
-ghost use Rattle.iv_text.specs.Ordered.{AreInOrder};
+ghost use Rattle.iv_lines.specs.Ordered.{AreInOrder};
 ghost use Rattle.iv_track.specs.Regions.{hits};
 ghost use Rattle.iv_pair.specs.Hits.{hits_of};
 ghost use Rattle.iv_pair.specs.PairRows.{pair_rows, pair_text};
@@ -12,8 +12,8 @@ ghost use Rattle.iv_pair.specs.Inside.PairSweeps.{Covers, HitAlike, is_past, rea
 use crate::hits::{is_from, overlaps};
 use crate::pair_rows::{PairOutput, put_pair_rows};
 use iv_bytes::{Sink, WriteFault};
+use iv_lines::{BedRecord, Genome};
 use iv_locators::{TextRecord, TextRecords};
-use iv_text::{BedRecord, Genome};
 use std::alloc::{AllocError, Allocator, Global};
 use std::marker::Model;
 
@@ -178,8 +178,8 @@ pub(crate) struct ActiveHits<'a, 't> {
 
 impl<'a, 't> Model for ActiveHits<'a, 't> {
     ghost use Rattle.std.specs.Prelude.{◌+◌, ◌<◌, ◌^◌, ◌++◌, List, length};
-    ghost use Rattle.iv_text.specs.Ordered.{AreInOrder};
-    ghost use Rattle.iv_text.specs.RecordValue.{RecordValue};
+    ghost use Rattle.iv_lines.specs.Ordered.{AreInOrder};
+    ghost use Rattle.iv_lines.specs.RecordValue.{RecordValue};
     ghost use Rattle.iv_track.specs.Regions.{hits};
 
     ghost Value = { List RecordValue };

@@ -2,8 +2,8 @@
 ghost use Rattle.std.specs.Prelude.{◌≤◌, false, List};
 ghost use Rattle.std.specs.Iterator.{AlwaysYields, IsFinite};
 ghost use Rattle.iv_bytes.specs.Sinks.{Puts};
-ghost use Rattle.iv_text.specs.Ordered.{AreInOrder};
-ghost use Rattle.iv_text.specs.RecordValue.{RecordValue};
+ghost use Rattle.iv_lines.specs.Ordered.{AreInOrder};
+ghost use Rattle.iv_lines.specs.RecordValue.{RecordValue};
 ghost use Rattle.iv_pair.specs.Hits.{hits_of};
 ghost use Rattle.iv_pair.specs.Inside.HitLines.{part_line};
 ghost use Rattle.iv_pair.specs.PairRows.{pair_rows};
@@ -11,7 +11,7 @@ ghost use Rattle.iv_pair.specs.declared.pair_rows.PairOutput.TheVariants.{Subtra
 
 use crate::intersect::put_if;
 use iv_bytes::{Sink, WriteFault};
-use iv_text::{BedRecord, Genome, put_line};
+use iv_lines::{BedRecord, Genome, put_line};
 use std::alloc::Allocator;
 
 /// Puts the rows of one record and its hits, in the order of a track, which any iterator may give.

@@ -2,7 +2,7 @@
 use Rattle.std.specs.Prelude.{◌≡◌, ℕ, ◌⊎◌, if◌then◌else◌, List, [], true, Option, None, Some}
 use Rattle.iv_bytes.specs.Sinks.{SinkState, Takes, FailsIn, waiting}
 use Rattle.iv_bytes.specs.Sources.{SourceState}
-use Rattle.iv_text.specs.declared.fault.Fault.TheVariants as refused
+use Rattle.iv_lines.specs.declared.fault.Fault.TheVariants as refused
 use Rattle.iv_args.specs.InfoRequests.{notice_of}
 use Rattle.iv_args.specs.Texts.{notice_text}
 use Rattle.iv_args.specs.Arguments.{RunPlan, IsPlan}

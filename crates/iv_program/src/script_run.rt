@@ -13,9 +13,9 @@ use crate::program::Ended;
 use iv_args::Plan;
 use iv_bytes::{Sink, Source};
 use iv_cli::{ExitReason, begin_session};
+use iv_lines::Record;
 use iv_run::{HeldRecords, RunFiles};
 use iv_session::{RunFault, ScriptLimits, Summary, run_script};
-use iv_text::Record;
 use std::alloc::Allocator;
 use std::mem;
 

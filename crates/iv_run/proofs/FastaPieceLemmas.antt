@@ -1,9 +1,9 @@
 -- A FASTA file that comes in pieces.
 use Rattle.std.proofs.Common.{◌≡◌, ◌∙◌, ◌⊎◌, inl, inr, ℕ, ◌+◌, ◌<◌, ◌≤◌, ◌++◌, List, [], Option, None, Some, Result, Ok, Err, IfOk, IfErr, length, refl, sym, ap, subst, append_assoc, append-nil, length-append, arith}
 use Rattle.std.specs.Option.{option_map, option_transpose}
-use Rattle.iv_text.specs.Genome.{Sequences, AreRanked}
-use Rattle.iv_text.specs.declared.fault.LoadFault.{LoadFault}
-use Rattle.iv_text.specs.declared.fault.LoadCause.TheVariants as cause
+use Rattle.iv_lines.specs.Genome.{Sequences, AreRanked}
+use Rattle.iv_lines.specs.declared.fault.LoadFault.{LoadFault}
+use Rattle.iv_lines.specs.declared.fault.LoadCause.TheVariants as cause
 use Rattle.iv_fasta.specs.Fasta.{Bases, fasta_of}
 use Rattle.iv_fasta.specs.FastaReading.{Reading, Wanted, only, only_or_fault, read_on, size_of}
 use Rattle.iv_fasta.proofs.SummaryLemmas.{only-all-or-fault}

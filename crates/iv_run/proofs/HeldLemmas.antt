@@ -5,16 +5,16 @@ use Rattle.std.proofs.lemmas.List.{map-append}
 use Rattle.std.proofs.lemmas.List.Elements.{All-nil, All-cons, All-head, All-tail}
 use Rattle.iv_text.specs.BedFile.{Bed, Draft, after_record, bed_of, is_unread, is_width}
 use Rattle.iv_text.specs.BedReading.{IsProjected, Reading, after_records, finished, known, projected_bed, projected_bed_of, projected_draft, projected_or_fault}
-use Rattle.iv_text.specs.Fields.{columns}
-use Rattle.iv_text.specs.Genome.{Sequences}
+use Rattle.iv_lines.specs.Fields.{columns}
+use Rattle.iv_lines.specs.Genome.{Sequences}
 use Rattle.iv_text.specs.Inside.BedFile.{width_at, with_row}
-use Rattle.iv_text.specs.Lines.{lines}
-use Rattle.iv_text.specs.Read.{Fits, read}
-use Rattle.iv_text.specs.RecordValue.{RecordValue}
-use Rattle.iv_text.specs.declared.fault.Fault.{Fault}
-use Rattle.iv_text.specs.declared.fault.LoadCause.{LoadCause}
-use Rattle.iv_text.specs.declared.fault.LoadCause.TheVariants as cause
-use Rattle.iv_text.specs.declared.fault.LoadFault.{LoadFault}
+use Rattle.iv_lines.specs.Lines.{lines}
+use Rattle.iv_lines.specs.Read.{Fits, read}
+use Rattle.iv_lines.specs.RecordValue.{RecordValue}
+use Rattle.iv_lines.specs.declared.fault.Fault.{Fault}
+use Rattle.iv_lines.specs.declared.fault.LoadCause.{LoadCause}
+use Rattle.iv_lines.specs.declared.fault.LoadCause.TheVariants as cause
+use Rattle.iv_lines.specs.declared.fault.LoadFault.{LoadFault}
 use Rattle.iv_text.proofs.BedReadingLemmas.{turned, whole-file}
 use Rattle.iv_locators.specs.Inside.Locators.{HasBase, locator_at, records_at, row_of}
 use Rattle.iv_locators.specs.Locators.{bare}

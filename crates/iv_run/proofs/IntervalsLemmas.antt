@@ -4,9 +4,9 @@ use Rattle.std.specs.Prelude.{map, nat_lt}
 use Rattle.std.specs.Bool.{then_some}
 use Rattle.std.specs.Option.{is_some}
 use Rattle.iv_bytes.specs.Sinks.{SinkState}
-use Rattle.iv_text.specs.Ordered.{ordered}
-use Rattle.iv_text.specs.declared.fault.Fault.{Fault}
-use Rattle.iv_text.specs.declared.fault.Fault.TheVariants as refused
+use Rattle.iv_lines.specs.Ordered.{ordered}
+use Rattle.iv_lines.specs.declared.fault.Fault.{Fault}
+use Rattle.iv_lines.specs.declared.fault.Fault.TheVariants as refused
 use Rattle.iv_locators.proofs.BareLemmas.{ordered-bare}
 use Rattle.iv_locators.specs.Locators.{bare}
 use Rattle.iv_blocks.specs.Groups.{listed}

@@ -2,11 +2,11 @@
 use Rattle.std.proofs.Common.{◌≡◌, ◌⊎◌, inl, inr, ℕ, List, Option, Result, Ok, Err, refl, ap, ◌∙◌}
 use Rattle.iv_bytes.specs.Sinks.{SinkState}
 use Rattle.iv_text.specs.BedFile.{Bed, bed_of}
-use Rattle.iv_text.specs.Genome.{Sequences}
-use Rattle.iv_text.specs.GenomeFile.{genome_of}
-use Rattle.iv_text.specs.declared.fault.LoadFault.{LoadFault}
-use Rattle.iv_text.specs.declared.fault.Fault.{Fault}
-use Rattle.iv_text.specs.declared.fault.Fault.TheVariants as refused
+use Rattle.iv_lines.specs.Genome.{Sequences}
+use Rattle.iv_lines.specs.GenomeFile.{genome_of}
+use Rattle.iv_lines.specs.declared.fault.LoadFault.{LoadFault}
+use Rattle.iv_lines.specs.declared.fault.Fault.{Fault}
+use Rattle.iv_lines.specs.declared.fault.Fault.TheVariants as refused
 use Rattle.iv_fasta.specs.Fasta.{Bases}
 use Rattle.iv_view.specs.declared.view.View.{View}
 use Rattle.iv_run.specs.Inside.Prints.{Prints}
@@ -16,7 +16,7 @@ use Rattle.iv_run.specs.Loading.{Parsed, parsed, fault_of_arguments}
 use Rattle.iv_run.specs.Inside.Shots.{bases_said, second_of, text_beside, view_beside}
 use Rattle.iv_run.specs.Shots.{Shows}
 use Rattle.iv_run.proofs.LoadLemmas.{with_bases, with_second, with_first, with_genome}
-use Rattle.iv_text.specs.Chains.{if_ok, map_fault}
+use Rattle.iv_lines.specs.Chains.{if_ok, map_fault}
 
 -- the text of the view that was asked for, or the fault of its arguments
 abbrev pub text_or_fault : Parsed → Result View Fault → Result (List ℕ) CliFault

@@ -1,8 +1,8 @@
 -- A FASTA file of which some bytes are not read yet.
 use Rattle.std.specs.Prelude.{◌≡◌, ◌≤◌, ◌⊎◌, ℕ, ◌+◌, ◌++◌, List, Result, Ok, Err, length}
-use Rattle.iv_text.specs.Genome.{Sequences, AreRanked}
-use Rattle.iv_text.specs.declared.fault.LoadCause.TheVariants as cause
-use Rattle.iv_text.specs.declared.fault.LoadFault.{LoadFault}
+use Rattle.iv_lines.specs.Genome.{Sequences, AreRanked}
+use Rattle.iv_lines.specs.declared.fault.LoadCause.TheVariants as cause
+use Rattle.iv_lines.specs.declared.fault.LoadFault.{LoadFault}
 use Rattle.iv_fasta.specs.Fasta.{fasta_of}
 use Rattle.iv_fasta.specs.FastaReading.{Reading, Wanted, only_or_fault, read_on, size_of}
 

@@ -1,16 +1,16 @@
 -- The values of the files of a run, or their first fault.
 use Rattle.std.specs.Prelude.{◌≡◌, ◌⊎◌, ℕ, List, Option, Result, Ok, Err}
 use Rattle.std.specs.Option.{option_map, option_transpose}
-use Rattle.iv_text.specs.Genome.{Sequences}
-use Rattle.iv_text.specs.GenomeFile.{genome_of}
+use Rattle.iv_lines.specs.Genome.{Sequences}
+use Rattle.iv_lines.specs.GenomeFile.{genome_of}
 use Rattle.iv_text.specs.BedFile.{Bed, bed_of}
-use Rattle.iv_text.specs.declared.fault.LoadFault.{LoadFault}
-use Rattle.iv_text.specs.declared.fault.LoadCause.{LoadCause}
-use Rattle.iv_text.specs.declared.fault.LoadCause.TheVariants as cause
-use Rattle.iv_text.specs.declared.fault.Fault.{Fault}
-use Rattle.iv_text.specs.declared.fault.Fault.TheVariants as refused
+use Rattle.iv_lines.specs.declared.fault.LoadFault.{LoadFault}
+use Rattle.iv_lines.specs.declared.fault.LoadCause.{LoadCause}
+use Rattle.iv_lines.specs.declared.fault.LoadCause.TheVariants as cause
+use Rattle.iv_lines.specs.declared.fault.Fault.{Fault}
+use Rattle.iv_lines.specs.declared.fault.Fault.TheVariants as refused
 use Rattle.iv_fasta.specs.Fasta as fasta
-use Rattle.iv_text.specs.Chains.{if_ok, map_fault}
+use Rattle.iv_lines.specs.Chains.{if_ok, map_fault}
 use Rattle.iv_run.specs.declared.fault.CliFault.{CliFault}
 use Rattle.iv_run.specs.declared.fault.CliFault.TheVariants.{Words, Damaged, Memory}
 use Rattle.iv_args.specs.declared.plan.Slot.{Slot}

@@ -1,10 +1,10 @@
 -- A BED file of which some bytes are not read yet.
 use Rattle.std.specs.Prelude.{◌≡◌, ◌≤◌, ◌⊎◌, ℕ, ◌+◌, ◌++◌, List, Result, Ok, Err, length}
-use Rattle.iv_text.specs.Genome.{Sequences}
+use Rattle.iv_lines.specs.Genome.{Sequences}
 use Rattle.iv_text.specs.BedReading.{AreSoundLines, Reading, begun, read_on, size_of}
-use Rattle.iv_text.specs.RecordValue.{RecordValue}
-use Rattle.iv_text.specs.declared.fault.LoadCause.TheVariants as cause
-use Rattle.iv_text.specs.declared.fault.LoadFault.{LoadFault}
+use Rattle.iv_lines.specs.RecordValue.{RecordValue}
+use Rattle.iv_lines.specs.declared.fault.LoadCause.TheVariants as cause
+use Rattle.iv_lines.specs.declared.fault.LoadFault.{LoadFault}
 
 -- what is known of a file once these bytes of it are read: what is held of them and the remaining bytes, whatever these are, give the
 -- whole file; or the fault is out of memory, or that of the file, whatever remains

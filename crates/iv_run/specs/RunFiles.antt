@@ -1,11 +1,11 @@
 -- The files of a run once they are read.
 use Rattle.std.specs.Prelude.{◌≡◌, ◌⊎◌, ℕ, ◌≤◌, List, Option, None, Some, All, length, Result, Ok, Err, IfOk}
 use Rattle.iv_text.specs.BedFile.{Bed}
-use Rattle.iv_text.specs.Genome.{Sequences}
-use Rattle.iv_text.specs.GenomeFile.{genome_of}
+use Rattle.iv_lines.specs.Genome.{Sequences}
+use Rattle.iv_lines.specs.GenomeFile.{genome_of}
 use Rattle.iv_text.specs.BedReading.{IsProjected, projected_bed_of}
-use Rattle.iv_text.specs.RecordValue.{RecordValue}
-use Rattle.iv_text.specs.declared.fault.LoadFault.{LoadFault}
+use Rattle.iv_lines.specs.RecordValue.{RecordValue}
+use Rattle.iv_lines.specs.declared.fault.LoadFault.{LoadFault}
 use Rattle.iv_fasta.specs.Fasta.{Bases, fasta_of}
 use Rattle.iv_fasta.specs.FastaReading.{Wanted, only_or_fault}
 use Rattle.iv_run.specs.Loading.{IsAnswer, parsed}

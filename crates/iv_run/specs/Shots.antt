@@ -2,8 +2,8 @@
 use Rattle.std.specs.Prelude.{◌≡◌, ℕ, List, [], Option, None, Result, Ok, Err}
 use Rattle.std.specs.Option.{is_some, option_map, unwrap_or}
 use Rattle.iv_bytes.specs.Sinks.{SinkState, Takes, FailsIn}
-use Rattle.iv_text.specs.Ordered.{ordered}
-use Rattle.iv_text.specs.Chains.{if_ok, map_fault}
+use Rattle.iv_lines.specs.Ordered.{ordered}
+use Rattle.iv_lines.specs.Chains.{if_ok, map_fault}
 use Rattle.iv_view.specs.Views.{read_arguments, shown_text}
 use Rattle.iv_run.specs.declared.fault.CliFault.{CliFault}
 use Rattle.iv_run.specs.declared.fault.CliFault.TheVariants as fault

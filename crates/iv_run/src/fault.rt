@@ -1,7 +1,7 @@
 //! Faults of a run.
 use iv_args::Slot;
 use iv_bytes::{ReadFault, WriteFault};
-use iv_text::{Fault, LoadCause, LoadFault};
+use iv_lines::{Fault, LoadCause, LoadFault};
 use std::alloc::AllocError;
 use thiserror::Error;
 

@@ -3,8 +3,8 @@ ghost use Rattle.std.specs.Prelude.{◌≡◌, ◌<◌, ◌+◌, ◌^◌, ◌++�
 ghost use Rattle.std.specs.Option.{option_map};
 ghost use Rattle.std.proofs.Common.{arith};
 ghost use Rattle.iv_text.specs.BedReading.{AreSoundLines, size_of};
-ghost use Rattle.iv_text.specs.Genome.{Sequences};
-ghost use Rattle.iv_text.specs.Widths.{IsWidth};
+ghost use Rattle.iv_lines.specs.Genome.{Sequences};
+ghost use Rattle.iv_lines.specs.Widths.{IsWidth};
 ghost use Rattle.iv_fasta.specs.FastaReading.{Wanted};
 ghost use Rattle.iv_locators.specs.Locators.{bare};
 ghost use Rattle.iv_run.specs.declared.fault.FileFault.TheVariants as fault;
@@ -13,8 +13,9 @@ ghost use Rattle.iv_run.specs.Pieces.{SaysSoFar};
 
 use crate::fault::FileFault;
 use crate::input_files::{HoldsFile, TakesPieces, finish, take_next};
+use iv_lines::{Genome, LoadFault};
 use iv_locators::{BedText, LocatedBed, Locator};
-use iv_text::{BedReader, Genome, LoadFault};
+use iv_text::BedReader;
 use std::alloc::{AllocError, Allocator};
 
 /// A BED file that was read for a view that needs the columns of records: its records, with its text unless they have three columns; or

@@ -2,7 +2,7 @@
 ghost use Rattle.std.specs.Prelude.{◌≡◌, ◌<◌, ◌≤◌, ◌+◌, ◌^◌, ◌++◌, ℕ, List, length, IfOk, IfErr};
 ghost use Rattle.std.specs.Option.{option_map};
 ghost use Rattle.std.proofs.Common.{arith};
-ghost use Rattle.iv_text.specs.Genome.{Sequences};
+ghost use Rattle.iv_lines.specs.Genome.{Sequences};
 ghost use Rattle.iv_fasta.specs.FastaReading.{Wanted, size_of};
 ghost use Rattle.iv_run.specs.declared.fault.FileFault.TheVariants as fault;
 ghost use Rattle.iv_run.specs.Files.{ReadsWhole, StopsReading};
@@ -13,7 +13,7 @@ use crate::fault::FileFault;
 use crate::input_files::{TakesPieces, read_pieces};
 use iv_bytes::Source;
 use iv_fasta::{Fasta, FastaReader};
-use iv_text::{Genome, LoadFault};
+use iv_lines::{Genome, LoadFault};
 use std::alloc::Allocator;
 
 /// The bases of a FASTA file, or its first fault.

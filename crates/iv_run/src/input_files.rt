@@ -4,8 +4,8 @@ ghost use Rattle.std.specs.Option.{option_map};
 ghost use Rattle.std.proofs.Common.{arith};
 ghost use Rattle.iv_bytes.specs.Sources.{SourceState};
 ghost use Rattle.iv_text.specs.BedReading.{AreSoundLines, size_of};
-ghost use Rattle.iv_text.specs.Genome.{Sequences};
-ghost use Rattle.iv_text.specs.Widths.{IsWidth};
+ghost use Rattle.iv_lines.specs.Genome.{Sequences};
+ghost use Rattle.iv_lines.specs.Widths.{IsWidth};
 ghost use Rattle.iv_fasta.specs.FastaReading.{Wanted};
 ghost use Rattle.iv_locators.specs.Inside.Locators.{row_of};
 ghost use Rattle.iv_locators.specs.Inside.Spans.{span_records};
@@ -18,8 +18,9 @@ ghost use Rattle.iv_run.specs.declared.fault.FileFault.TheVariants as fault;
 
 use crate::fault::FileFault;
 use iv_bytes::Source;
+use iv_lines::{Genome, LoadFault, Record};
 use iv_locators::{Locator, Span};
-use iv_text::{BedBatches, BedReader, FromRecord, Genome, LoadFault, Record};
+use iv_text::{BedBatches, BedReader, FromRecord};
 use std::alloc::{AllocError, Allocator, Global};
 use std::marker::Model;
 
@@ -178,7 +179,7 @@ pub struct ParsedFile<K: FromRecord<A>, A: Allocator + Copy = Global> {
 }
 
 impl<K: FromRecord<A>, A: Allocator + Copy> Model for ParsedFile<K, A> {
-    ghost use Rattle.iv_text.specs.Widths.{IsWidth};
+    ghost use Rattle.iv_lines.specs.Widths.{IsWidth};
     ghost use Rattle.std.specs.Prelude.{◌≤◌, map};
     ghost use Rattle.iv_text.specs.BedFile.{Bed};
 

@@ -1,7 +1,7 @@
 //! The views whose rows depend only on the intervals of records, and their print.
 ghost use Rattle.std.specs.Prelude.{◌≡◌, ℕ, All, List, Option, Err, None, IfSome};
-ghost use Rattle.iv_text.specs.Ordered.{AreInOrder, ordered};
-ghost use Rattle.iv_text.specs.Read.{IsOnGenome};
+ghost use Rattle.iv_lines.specs.Ordered.{AreInOrder, ordered};
+ghost use Rattle.iv_lines.specs.Read.{IsOnGenome};
 ghost use Rattle.iv_locators.specs.Locators.{bare};
 ghost use Rattle.iv_locators.specs.Inside.Spans.{span_records};
 ghost use Rattle.iv_args.specs.Arguments.{RunPlan};
@@ -20,8 +20,8 @@ use iv_args::Plan;
 use iv_blocks::{put_complement, put_merge};
 use iv_bytes::{Buffered, Sink};
 use iv_depth::{DepthOutput, DepthSweep};
+use iv_lines::Genome;
 use iv_locators::{Span, sort_spans};
-use iv_text::Genome;
 use iv_view::{KeptView, View};
 use std::alloc::Allocator;
 

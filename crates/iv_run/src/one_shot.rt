@@ -2,10 +2,10 @@
 ghost use Rattle.std.specs.Prelude.{◌≡◌, ◌<◌, ◌≤◌, ◌^◌, All, List, ℕ, Option, [], None, Ok, Err, IsSome, IfSome, IfOk, IfErr, OnOk, length};
 ghost use Rattle.std.specs.Option.{option_copied, option_map, unwrap_or};
 ghost use Rattle.iv_bytes.specs.Sinks.{Puts};
-ghost use Rattle.iv_text.specs.Genome.{Sequences};
-ghost use Rattle.iv_text.specs.Ordered.{AreInOrder, ordered};
-ghost use Rattle.iv_text.specs.Read.{IsOnGenome};
-ghost use Rattle.iv_text.specs.RecordValue.{RecordValue};
+ghost use Rattle.iv_lines.specs.Genome.{Sequences};
+ghost use Rattle.iv_lines.specs.Ordered.{AreInOrder, ordered};
+ghost use Rattle.iv_lines.specs.Read.{IsOnGenome};
+ghost use Rattle.iv_lines.specs.RecordValue.{RecordValue};
 ghost use Rattle.iv_track.specs.Tracked.{most_records};
 ghost use Rattle.iv_fasta.specs.FastaRows.{fasta_text};
 ghost use Rattle.iv_pair.specs.CoverAlone.{DependsOnCoverAlone, HaveBases};
@@ -15,7 +15,7 @@ ghost use Rattle.iv_view.specs.Views.{kept_text};
 ghost use Rattle.iv_run.specs.Loading.{parsed};
 ghost use Rattle.iv_run.specs.RunFiles.{AreOf, IsEnoughOf, IsIfNamed, IsGenomeOf};
 ghost use Rattle.iv_run.specs.Inside.Held.{FitsOn, IsEnough, IsHeld, ReportsWanted};
-ghost use Rattle.iv_text.specs.GenomeFile.{genome_of};
+ghost use Rattle.iv_lines.specs.GenomeFile.{genome_of};
 ghost use Rattle.iv_run.specs.Inside.IntervalsViews.{AskForColumns, NeedsColumns};
 ghost use Rattle.iv_run.specs.Inside.Prints.{Prints};
 ghost use Rattle.iv_run.specs.Inside.Shots.{ordered_other, text_beside, view_beside};
@@ -31,9 +31,9 @@ use iv_args::{Plan, Slot};
 use iv_blocks::{MergeSweep, put_cluster};
 use iv_bytes::{Buffered, Sink, WriteFault};
 use iv_fasta::{Fasta, FastaOutput, put_fasta};
+use iv_lines::{Fault, Genome, LoadFault, put_line};
 use iv_locators::{BedText, Locator, Span, TextRecords};
 use iv_pair::{CountSweep, IntersectOutput, PairOutput, PairSweep, needs_cover_alone};
-use iv_text::{Fault, Genome, LoadFault, put_line};
 use iv_view::{Available, KeptView, View, ViewFault, WrittenView};
 use std::alloc::{AllocError, Allocator, Global};
 use std::marker::Model;
@@ -51,7 +51,7 @@ struct TextFiles<'t, A: Allocator + Copy = Global> {
 
 impl<'t, A: Allocator + Copy> Model for TextFiles<'t, A> {
     ghost use Rattle.std.specs.Prelude.{All};
-    ghost use Rattle.iv_text.specs.Read.{IsOnGenome};
+    ghost use Rattle.iv_lines.specs.Read.{IsOnGenome};
     ghost use Rattle.iv_run.specs.Loading.{Parsed};
 
     ghost Value = { Parsed };

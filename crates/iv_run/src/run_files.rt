@@ -1,8 +1,8 @@
 //! The files of a run, once they are read: what is held of each, and whether they are sound.
 ghost use Rattle.std.specs.Prelude.{◌≡◌, ◌⊎◌, ◌<◌, ◌^◌, List, ℕ, Option, None, Some, Ok, Err, IfOk, IfErr, IfSome, length};
 ghost use Rattle.std.specs.Option.{option_copied, option_map, option_transpose};
-ghost use Rattle.iv_text.specs.declared.fault.LoadFault.{LoadFault};
-ghost use Rattle.iv_text.specs.Widths.{IsWidth};
+ghost use Rattle.iv_lines.specs.declared.fault.LoadFault.{LoadFault};
+ghost use Rattle.iv_lines.specs.Widths.{IsWidth};
 ghost use Rattle.iv_run.specs.Files.{ReadsWhole, StopsReading};
 ghost use Rattle.iv_run.specs.Loading.{damage_of, parsed};
 ghost use Rattle.iv_run.specs.RunFiles.{AreAllWanted, AreOf, IsEnoughOf, IsFasta, IsIfNamed, IsOn, IsParsed, IsGenomeOf};
@@ -15,8 +15,9 @@ use crate::input_files::{HeldRecords, HoldsFile, ParsedFile, parse_bed, read_hel
 use iv_args::{Plan, Slot};
 use iv_bytes::Source;
 use iv_fasta::Fasta;
+use iv_lines::{Genome, LoadFault};
 use iv_locators::BedText;
-use iv_text::{FromRecord, Genome, LoadFault};
+use iv_text::FromRecord;
 use std::alloc::{Allocator, Global};
 use std::marker::Model;
 
@@ -55,7 +56,7 @@ pub struct RunGenome<A: Allocator + Copy = Global> {
 
 impl<A: Allocator + Copy> Model for RunGenome<A> {
     ghost use Rattle.iv_run.specs.RunFiles.{GenomeRead};
-    ghost use Rattle.iv_text.specs.Widths.{IsWidth};
+    ghost use Rattle.iv_lines.specs.Widths.{IsWidth};
 
     ghost Value = { GenomeRead };
 

@@ -2,11 +2,11 @@
 use Rattle.std.proofs.Common.{◌≡◌, ℕ, ◌≤◌, inl, inr, List, [], Option, None, Some, Ok, length, sym, ap, subst, ◌∙◌, arith}
 use Rattle.std.specs.Borrow.{Bor}
 use Rattle.std.specs.Prelude.{IsSomeAnd, ok_or, option_map, unwrap_or}
-use Rattle.iv_text.specs.declared.fault.Fault.TheVariants as fault
-use Rattle.iv_text.specs.Fields.{columns, fields_left}
-use Rattle.iv_text.specs.Genome.{Sequences}
-use Rattle.iv_text.specs.Read.{Fits, read, read_columns}
-use Rattle.iv_text.specs.RecordValue.{RecordValue}
+use Rattle.iv_lines.specs.declared.fault.Fault.TheVariants as fault
+use Rattle.iv_lines.specs.Fields.{columns, fields_left}
+use Rattle.iv_lines.specs.Genome.{Sequences}
+use Rattle.iv_lines.specs.Read.{Fits, read, read_columns}
+use Rattle.iv_lines.specs.RecordValue.{RecordValue}
 use Rattle.iv_track.specs.Tracked.{Tracked}
 use Rattle.iv_workspace.specs.States.{State}
 use Rattle.iv_workspace.specs.Edits.{EditFits, FitsIn, width_of}

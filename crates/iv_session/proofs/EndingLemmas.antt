@@ -1,7 +1,7 @@
 -- What follows from the end of a run about the limits.
 use Rattle.std.proofs.Common.{◌≡◌, ◌≢◌, ℕ, ◌+◌, ◌≤◌, ◌<◌, ◌++◌, ◌⊎◌, inl, inr, List, length, Option, Some, None, Result, Ok, Err, IfSome, ◌↔◌, refl, sym, ap, ◌∙◌, subst, arith, true≢false}
 use Rattle.iv_bytes.specs.Sources.{SourceState, IsInput}
-use Rattle.iv_text.specs.Lines.{lines}
+use Rattle.iv_lines.specs.Lines.{lines}
 use Rattle.iv_session.specs.Endings.{Ran, AreSoundStreams, HadMemory, IsTooLongAt}
 use Rattle.iv_session.specs.Limits.{line_sizes, Keeps, first_over}
 use Rattle.iv_session.specs.Stops.{Stopped}

@@ -1,10 +1,10 @@
 -- Examples that compute.
 use Rattle.std.proofs.Common.{◌≡◌, ℕ, ◌++◌, List, [], ◌∷◌, None, Some, Ok, Err, false, true, refl, inl, inr, arith}
 use Rattle.std.specs.Prelude.{codes}
-use Rattle.iv_text.specs.Genome.{Sequences}
-use Rattle.iv_text.specs.Fields.{words}
-use Rattle.iv_text.specs.RecordValue.{RecordValue}
-use Rattle.iv_text.specs.declared.fault.Fault.TheVariants as fault
+use Rattle.iv_lines.specs.Genome.{Sequences}
+use Rattle.iv_lines.specs.Fields.{words}
+use Rattle.iv_lines.specs.RecordValue.{RecordValue}
+use Rattle.iv_lines.specs.declared.fault.Fault.TheVariants as fault
 use Rattle.iv_session.specs.Requests.{asked}
 use Rattle.iv_session.specs.ScriptLines.{RunsLine}
 use Rattle.iv_session.specs.Scripts.{Steps}

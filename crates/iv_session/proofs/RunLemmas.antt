@@ -4,9 +4,9 @@ use Rattle.std.specs.Prelude.{IsSome, MatchOption, MatchResult, if◌then◌else
 use Rattle.std.specs.Option.{is_some}
 use Rattle.iv_bytes.specs.Sinks.{SinkState, Takes, FailsIn}
 use Rattle.iv_bytes.proofs.PutLemmas.{Takes-nothing}
-use Rattle.iv_text.specs.Fields.{words}
-use Rattle.iv_text.specs.declared.fault.Fault.{Fault}
-use Rattle.iv_text.specs.declared.fault.Fault.TheVariants as fault
+use Rattle.iv_lines.specs.Fields.{words}
+use Rattle.iv_lines.specs.declared.fault.Fault.{Fault}
+use Rattle.iv_lines.specs.declared.fault.Fault.TheVariants as fault
 use Rattle.iv_track.specs.declared.region.Region.{Region}
 use Rattle.iv_view.specs.declared.view.View.{View}
 use Rattle.iv_view.proofs.ArgumentLemmas.{words-cut}

@@ -3,7 +3,7 @@ use Rattle.std.proofs.Common.{◌≡◌, ◌≢◌, ℕ, suc, ◌+◌, ◌≤◌
 use Rattle.std.proofs.lemmas.Bool.{false≢true, cond-true, cond-false, ne_eqb, lt-ltb, le-ltb}
 use Rattle.std.proofs.lemmas.List.Elements.{All-head, All-tail}
 use Rattle.std.specs.List.{onto_first}
-use Rattle.iv_text.specs.Lines.{begins_with, lines, HasNoFeed}
+use Rattle.iv_lines.specs.Lines.{begins_with, lines, HasNoFeed}
 use Rattle.iv_session.specs.Limits.{one_longer, line_sizes, AreWholeLines, AreWithin, Keeps, Passes, is_over, first_over}
 
 not_feed : (b : ℕ) (bs : List ℕ) → HasNoFeed (b ∷ bs) → (b == 10) ≡ false

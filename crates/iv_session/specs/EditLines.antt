@@ -1,11 +1,11 @@
 -- The edits that columns mean.
 use Rattle.std.specs.Prelude.{◌+◌, ℕ, ◌==◌, if◌then◌else◌, List, Result, Ok, Err, length, take, drop}
-use Rattle.iv_text.specs.Chains.{if_ok}
-use Rattle.iv_text.specs.Genome.{Sequences}
-use Rattle.iv_text.specs.Read.{read_columns}
-use Rattle.iv_text.specs.RecordValue.{RecordValue}
-use Rattle.iv_text.specs.declared.fault.Fault.{Fault}
-use Rattle.iv_text.specs.declared.fault.Fault.TheVariants as fault
+use Rattle.iv_lines.specs.Chains.{if_ok}
+use Rattle.iv_lines.specs.Genome.{Sequences}
+use Rattle.iv_lines.specs.Read.{read_columns}
+use Rattle.iv_lines.specs.RecordValue.{RecordValue}
+use Rattle.iv_lines.specs.declared.fault.Fault.{Fault}
+use Rattle.iv_lines.specs.declared.fault.Fault.TheVariants as fault
 use Rattle.iv_workspace.specs.declared.session.edits.Edit.{Edit}
 use Rattle.iv_workspace.specs.declared.session.edits.Edit.TheVariants as edit
 use Rattle.iv_session.specs.declared.request.EditKind.{EditKind}

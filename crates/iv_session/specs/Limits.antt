@@ -1,6 +1,6 @@
 -- The limits of a script: how many lines it may have, and how many bytes a line.
 use Rattle.std.specs.Prelude.{◌≡◌, ℕ, ◌+◌, ◌≤◌, ◌<◌, ◌==◌, ◌||◌, ◌++◌, ◌∷◌, [], ◌⊎◌, ⊤, All, List, Bool, nat_lt, cond, Option, None, Some, length}
-use Rattle.iv_text.specs.Bytes.{line_feed}
+use Rattle.iv_lines.specs.Bytes.{line_feed}
 
 -- one byte more in the first of these lines; if there is none, it is a line of its own
 abbrev pub one_longer : List ℕ → List ℕ

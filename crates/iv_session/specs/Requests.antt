@@ -2,14 +2,14 @@
 use Rattle.std.specs.Prelude.{ℕ, ◌==◌, ◌||◌, nat_le, List, [], ◌∷◌, None, Some, Result, Ok, Err, length, drop, codes, if◌then◌else◌}
 use Rattle.std.specs.Option.{is_some, ok_or}
 use Rattle.std.specs.Str.{bytes_eq}
-use Rattle.iv_text.specs.Bytes.{number_sign}
-use Rattle.iv_text.specs.Chains.{if_ok}
-use Rattle.iv_text.specs.Fields.{columns}
-use Rattle.iv_text.specs.Genome.{most_length}
-use Rattle.iv_text.specs.Lines.{begins_with}
-use Rattle.iv_text.specs.Number.{number}
-use Rattle.iv_text.specs.Read.{column}
-use Rattle.iv_text.specs.declared.fault.Fault.{Fault}
+use Rattle.iv_lines.specs.Bytes.{number_sign}
+use Rattle.iv_lines.specs.Chains.{if_ok}
+use Rattle.iv_lines.specs.Fields.{columns}
+use Rattle.iv_lines.specs.Genome.{most_length}
+use Rattle.iv_lines.specs.Lines.{begins_with}
+use Rattle.iv_lines.specs.Number.{number}
+use Rattle.iv_lines.specs.Read.{column}
+use Rattle.iv_lines.specs.declared.fault.Fault.{Fault}
 use Rattle.iv_workspace.specs.States.{State}
 use Rattle.iv_workspace.specs.Edits.{width_of}
 use Rattle.iv_workspace.specs.Regions.{region_said}
@@ -18,7 +18,7 @@ use Rattle.iv_session.specs.EditLines.{edit_said}
 use Rattle.iv_session.specs.declared.request.EditKind.{EditKind}
 use Rattle.iv_workspace.specs.declared.session.edits.Target.{Target}
 use Rattle.iv_session.specs.declared.request.Request.{Request}
-use Rattle.iv_text.specs.declared.fault.Fault.TheVariants as fault
+use Rattle.iv_lines.specs.declared.fault.Fault.TheVariants as fault
 use Rattle.iv_session.specs.declared.request.EditKind.TheVariants as kind
 use Rattle.iv_workspace.specs.declared.session.edits.Target.TheVariants as target
 use Rattle.iv_session.specs.declared.request.Request.TheVariants as request

@@ -2,8 +2,8 @@
 use Rattle.std.specs.Prelude.{◌≡◌, ◌<◌, ◌⊎◌, ℕ, true, List, [], None, Some, Result, Ok, Err, IsSome}
 use Rattle.std.specs.Map.{remove_entry}
 use Rattle.std.specs.Str.{bytes_eq}
-use Rattle.iv_text.specs.Fields.{words}
-use Rattle.iv_text.specs.declared.fault.Fault.{Fault}
+use Rattle.iv_lines.specs.Fields.{words}
+use Rattle.iv_lines.specs.declared.fault.Fault.{Fault}
 use Rattle.iv_workspace.specs.OpenViews.{Shown, all_current, stale_count, with_current}
 use Rattle.iv_workspace.specs.Prints.{IsButCurrent}
 use Rattle.iv_workspace.specs.States.{State}
@@ -14,7 +14,7 @@ use Rattle.iv_workspace.specs.Edits.{IsEdited, RefusesIn}
 use Rattle.iv_session.specs.Written.{Written, refused_by}
 use Rattle.iv_session.specs.declared.request.Request.{Request}
 use Rattle.iv_session.specs.declared.script.RunCause.{RunCause}
-use Rattle.iv_text.specs.declared.fault.Fault.TheVariants as fault
+use Rattle.iv_lines.specs.declared.fault.Fault.TheVariants as fault
 use Rattle.iv_session.specs.declared.request.Request.TheVariants as request
 use Rattle.iv_session.specs.declared.script.RunCause.TheVariants as cause
 

@@ -1,8 +1,8 @@
 -- What a line of a script writes.
 use Rattle.std.specs.Prelude.{ℕ, ◌+◌, ◌++◌, if◌then◌else◌, List, [], ◌∷◌, Option, None, Some, codes, decimal}
 use Rattle.std.specs.Option.{is_some}
-use Rattle.iv_text.specs.Fault.{fault_text}
-use Rattle.iv_text.specs.declared.fault.Fault.{Fault}
+use Rattle.iv_lines.specs.Fault.{fault_text}
+use Rattle.iv_lines.specs.declared.fault.Fault.{Fault}
 
 -- what a line writes: a text to the output, and if it is refused the reason to the messages
 pub record Written : Type 0 where

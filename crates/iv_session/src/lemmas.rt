@@ -2,8 +2,8 @@
 ghost use Rattle.std.specs.Prelude.{◌≡◌, ◌↔◌, ◌⊎◌, ℕ, ◌+◌, ◌≤◌, ◌<◌, ◌++◌, ◌∷◌, [], List, Some, None, Result, Ok, Err, length, IsNone};
 ghost use Rattle.std.specs.Io.KnownBytes.{Appends};
 ghost use Rattle.std.specs.List.{flat_map};
-ghost use Rattle.iv_text.specs.Bytes.{line_feed};
-ghost use Rattle.iv_text.specs.Lines.{lines, HasNoFeed};
+ghost use Rattle.iv_lines.specs.Bytes.{line_feed};
+ghost use Rattle.iv_lines.specs.Lines.{lines, HasNoFeed};
 ghost use Rattle.iv_workspace.specs.States.{State};
 ghost use Rattle.iv_session.specs.Endings.{Ran, AreSoundStreams, HadMemory, IsTooLongAt};
 ghost use Rattle.iv_session.specs.Limits.{line_sizes, AreWithin, Passes, first_over};

@@ -8,8 +8,8 @@ mod script;
 
 pub use iv_depth::DepthOutput;
 pub use iv_fasta::FastaOutput;
+pub use iv_lines::Fault;
 pub use iv_pair::{IntersectOutput, PairOutput};
-pub use iv_text::Fault;
 pub use iv_track::EditFault;
 pub use iv_view::{KeptView, View as ViewWords, ViewFault, WrittenView};
 pub use iv_workspace::{Accepted, PrintFault, ResizeFault, SecondFault, Session};

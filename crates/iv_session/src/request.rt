@@ -1,19 +1,19 @@
 //! What a line of a script asks for.
 ghost use Rattle.std.specs.Prelude.{◌≡◌, ◌≢◌, ◌<◌, ◌≤◌, ◌++◌, Err, None, IfOk, MatchOption, length, Ok, ◌==◌, if◌then◌else◌};
-ghost use Rattle.iv_text.specs.Bytes.{tab};
-ghost use Rattle.iv_text.specs.Chains.{if_ok};
-ghost use Rattle.iv_text.specs.Fields.{columns as columns_of, fields_left};
-ghost use Rattle.iv_text.specs.Genome.{most_length};
-ghost use Rattle.iv_text.specs.Read.{Fits, read_columns};
+ghost use Rattle.iv_lines.specs.Bytes.{tab};
+ghost use Rattle.iv_lines.specs.Chains.{if_ok};
+ghost use Rattle.iv_lines.specs.Fields.{columns as columns_of, fields_left};
+ghost use Rattle.iv_lines.specs.Genome.{most_length};
+ghost use Rattle.iv_lines.specs.Read.{Fits, read_columns};
 ghost use Rattle.iv_workspace.specs.Edits.{EditFits};
 ghost use Rattle.iv_workspace.specs.States.{State};
 ghost use Rattle.iv_session.specs.EditLines.{edit_said, read_two};
 ghost use Rattle.iv_session.specs.Requests.{asked, asked_by, edit_asked, length_said, only_field, show_all_asked, show_asked, two_fields as two_of};
 ghost use Rattle.iv_session.specs.Inside.Requests.{RequestFits, both};
 ghost use Rattle.iv_session.specs.declared.request.Request.TheVariants as request;
-ghost use Rattle.iv_text.specs.Widths.{IsWidth};
+ghost use Rattle.iv_lines.specs.Widths.{IsWidth};
 
-use iv_text::{
+use iv_lines::{
     Fault, Genome, MOST_LENGTH, RecordRef, columns, read_number, read_record, split_first_column,
 };
 use iv_track::Region;

@@ -5,23 +5,24 @@ use Rattle.std.proofs.lemmas.Bool.{cond-true, cond-false, not_from_true, not_fro
 use Rattle.std.proofs.lemmas.List.{map-append}
 use Rattle.std.proofs.lemmas.List.Folds.{find-append}
 use Rattle.std.proofs.lemmas.Option.{none-some}
-use Rattle.iv_text.specs.Fields.{columns}
-use Rattle.iv_text.specs.Lines.{lines}
-use Rattle.iv_text.specs.Genome.{Sequences}
-use Rattle.iv_text.specs.Read.{has_fault, faults, feature}
-use Rattle.iv_text.specs.Chains.{unless_fault}
-use Rattle.iv_text.specs.RecordValue.{RecordValue}
+use Rattle.iv_lines.specs.Fields.{columns}
+use Rattle.iv_lines.specs.Lines.{lines}
+use Rattle.iv_lines.specs.Genome.{Sequences}
+use Rattle.iv_lines.specs.Read.{has_fault, faults, feature}
+use Rattle.iv_lines.specs.Chains.{unless_fault}
+use Rattle.iv_lines.specs.RecordValue.{RecordValue}
 use Rattle.iv_text.specs.BedFile.{is_unread, is_width, Bed, Draft, after_record, bed_of}
 use Rattle.iv_text.specs.BedReading.{after_records, finished}
 use Rattle.iv_text.specs.Inside.BedFile.{width_at, with_row}
-use Rattle.iv_text.specs.FileMeaning.{HaveNoCause, IsFirstFault, record_lines, first_width, records_of, bed_from, width_after, has_row_cause, row_causes, record_cause}
-use Rattle.iv_text.specs.declared.fault.Fault.{Fault}
-use Rattle.iv_text.specs.declared.fault.LoadCause.{LoadCause}
-use Rattle.iv_text.specs.declared.fault.LoadCause.TheVariants as cause
-use Rattle.iv_text.specs.declared.fault.LoadFault.{LoadFault}
+use Rattle.iv_lines.specs.FileMeaning.{HaveNoCause, IsFirstFault}
+use Rattle.iv_text.specs.BedMeaning.{record_lines, first_width, records_of, bed_from, width_after, has_row_cause, row_causes, record_cause}
+use Rattle.iv_lines.specs.declared.fault.Fault.{Fault}
+use Rattle.iv_lines.specs.declared.fault.LoadCause.{LoadCause}
+use Rattle.iv_lines.specs.declared.fault.LoadCause.TheVariants as cause
+use Rattle.iv_lines.specs.declared.fault.LoadFault.{LoadFault}
 use Rattle.iv_text.proofs.BedLemmas.{row-unread}
-use Rattle.iv_text.proofs.FileMeaningLemmas.{same-ok, same-err, ok-err, AreSteps, run-value, run-fault, kept-not}
-use Rattle.iv_text.proofs.ListLemmas.{filter-pushed}
+use Rattle.iv_lines.proofs.FileMeaningLemmas.{same-ok, same-err, ok-err, AreSteps, run-value, run-fault, kept-not}
+use Rattle.iv_lines.proofs.ListLemmas.{filter-pushed}
 
 -- ---- what is known after lines
 

@@ -1,86 +1,30 @@
 -- The reading of a BED file in pieces.
-use Rattle.std.proofs.Common.{◌≡◌, ℕ, zero, suc, ◌+◌, ◌-◌, ◌<◌, ◌≤◌, Bool, true, false, cond, ◌==◌, ◌&&◌, nat_le, List, [], ◌∷◌, ◌++◌, Option, Some, None, Result, Ok, Err, length, map, take, drop, slice_index_or, ◌%◌, ◌^◌, refl, sym, ap, subst, ◌∙◌, arith, inl, inr, append_assoc, append-nil, take-append-drop, unwrap_or}
-use Rattle.std.specs.Prelude.{All, MatchOption, IsErrAnd, IfErr}
-use Rattle.std.proofs.lemmas.Grind.{common_steps}
-use Rattle.std.specs.List.{onto_first}
+use Rattle.std.proofs.Common.{◌≡◌, ℕ, ◌+◌, ◌<◌, ◌≤◌, Bool, true, false, cond, nat_le, List, [], ◌∷◌, ◌++◌, Option, Some, None, Result, Ok, Err, length, map, take, drop, ◌%◌, ◌^◌, refl, sym, ap, subst, ◌∙◌, arith, append_assoc, append-nil, take-append-drop, unwrap_or}
+use Rattle.std.specs.Prelude.{All, MatchOption}
 use Rattle.std.proofs.lemmas.Bool.{cond-true, le-leb}
 use Rattle.std.proofs.lemmas.Bool.Decides.{nat_tests}
 use Rattle.std.proofs.Math.Nat.{mod-add-mod, mod-eq_of_lt}
-use Rattle.std.proofs.lemmas.List.{length-map, map-append, drop_all, take_more, drop-drop}
+use Rattle.std.proofs.lemmas.List.{length-map, map-append, drop-drop}
 use Rattle.std.proofs.lemmas.List.Elements.{All-nil, All-cons, All-append, All-head, All-tail}
 use Rattle.iv_text.specs.BedFile.{Bed, Draft, is_unread, is_width, after_record, bed_of}
 use Rattle.iv_text.specs.Inside.BedFile.{width_at, with_row}
-use Rattle.iv_text.specs.Fields.{columns}
-use Rattle.iv_text.specs.Genome.{Sequences}
-use Rattle.iv_text.specs.Lines.{begins_with, lines}
-use Rattle.iv_text.specs.Read.{read, Fits}
-use Rattle.iv_text.specs.RecordValue.{RecordValue}
-use Rattle.iv_text.specs.declared.fault.Fault.{Fault}
-use Rattle.iv_text.specs.declared.fault.LoadCause.{LoadCause}
-use Rattle.iv_text.specs.declared.fault.LoadCause.TheVariants as cause
-use Rattle.iv_text.specs.declared.fault.LoadFault.{LoadFault}
+use Rattle.iv_lines.specs.Fields.{columns}
+use Rattle.iv_lines.specs.Genome.{Sequences}
+use Rattle.iv_lines.specs.Lines.{lines}
+use Rattle.iv_lines.specs.Read.{read, Fits}
+use Rattle.iv_lines.specs.RecordValue.{RecordValue}
+use Rattle.iv_lines.specs.declared.fault.Fault.{Fault}
+use Rattle.iv_lines.specs.declared.fault.LoadCause.{LoadCause}
+use Rattle.iv_lines.specs.declared.fault.LoadCause.TheVariants as cause
+use Rattle.iv_lines.specs.declared.fault.LoadFault.{LoadFault}
 use Rattle.iv_text.specs.FastLine.{IsFastLine}
 use Rattle.iv_text.specs.Inside.OnePass.{IsFirstLine}
 use Rattle.iv_text.specs.declared.record_reader.FastLine.{FastLine}
 use Rattle.iv_text.specs.BedReading.{LinesRead, known, projected_draft, after, IsReadAt, IsProjected, AreSoundLines, Held, shown, byte_after, BeginsAfter, Shows, TakesLines, RefusesLines, Reading, begun, read_on, projected_or_fault, projected_bed_of, after_records, finished}
-use Rattle.iv_text.specs.Inside.BedReading.{Takes, Refuses, TakesLine, RefusesLine, EndsAtFeed, IsEnded}
+use Rattle.iv_text.specs.Inside.BedReading.{Takes, Refuses, TakesLine, RefusesLine}
+use Rattle.iv_lines.specs.Inside.Pieces.{EndsAtFeed, IsEnded}
 use Rattle.iv_text.proofs.BedLemmas.{row-unread, row-columns, row-taken}
-
--- ---- lines that are cut after a line feed
-
-abbrev HasLine : List (List ℕ) → Type 0
-HasLine ls = (first : List ℕ) × (others : List (List ℕ)) × (ls ≡ first ∷ others)
-
-has_line-step : (t u : Bool) (b : ℕ) (ls : List (List ℕ)) → HasLine ls → HasLine (cond t ([] ∷ ls) (cond u ls (onto_first b ls)))
-has_line-step true u b ls some = ([], ls, refl)
-has_line-step false true b ls some = some
-has_line-step false false b ls some = (b ∷ some.0, some.1, ap (onto_first b) some.2)
-
-has_line : (xs : List ℕ) → HasLine (lines (xs ++ 10 ∷ []))
-has_line [] = ([], [], refl)
-has_line (x ∷ xs) = has_line-step (x == 10) ((x == 13) && begins_with 10 (xs ++ 10 ∷ [])) x (lines (xs ++ 10 ∷ [])) (has_line xs)
-
-cut-step : (t u : Bool) (b : ℕ) (ls more : List (List ℕ)) → HasLine ls
-    → cond t ([] ∷ (ls ++ more)) (cond u (ls ++ more) (onto_first b (ls ++ more))) ≡ cond t ([] ∷ ls) (cond u ls (onto_first b ls)) ++ more
-cut-step true u b ls more some = refl
-cut-step false true b ls more some = refl
-cut-step false false b ls more some = ap (λ (l : List (List ℕ)). onto_first b (l ++ more)) some.2 ∙ sym (ap (λ (l : List (List ℕ)). onto_first b l ++ more) some.2)
-
-same-first : (xs more : List ℕ) → begins_with 10 ((xs ++ 10 ∷ []) ++ more) ≡ begins_with 10 (xs ++ 10 ∷ [])
-same-first [] more = refl
-same-first (x ∷ xs) more = refl
-
--- the lines of bytes that end at a line feed, and of more bytes
-lines-cut : (xs more : List ℕ) → lines ((xs ++ 10 ∷ []) ++ more) ≡ lines (xs ++ 10 ∷ []) ++ lines more
-lines-cut [] more = refl
-lines-cut (x ∷ xs) more =
-    (λ i. cond (x == 10) ([] ∷ lines-cut xs more i) (cond ((x == 13) && same-first xs more i) (lines-cut xs more i) (onto_first x (lines-cut xs more i))))
-    ∙ cut-step (x == 10) ((x == 13) && begins_with 10 (xs ++ 10 ∷ [])) x (lines (xs ++ 10 ∷ [])) (lines more) (has_line xs)
-
-pub lines-fed : (bytes more : List ℕ) → EndsAtFeed bytes → lines (bytes ++ more) ≡ lines bytes ++ lines more
-lines-fed bytes more ends =
-    ap (λ (t : List ℕ). lines (t ++ more)) ends.1 ∙ lines-cut ends.0 more ∙ sym (ap (λ (t : List ℕ). lines t ++ lines more) ends.1)
-
-pub lines-ended : (bytes more : List ℕ) → IsEnded bytes → lines (bytes ++ more) ≡ lines bytes ++ lines more
-lines-ended bytes more (inl none) = ap (λ (t : List ℕ). lines (t ++ more)) none ∙ sym (ap (λ (t : List ℕ). lines t ++ lines more) none)
-lines-ended bytes more (inr ends) = lines-fed bytes more ends
-
-ended-drop : (n : ℕ) (front : List ℕ) → IsEnded (drop n (front ++ 10 ∷ []))
-ended-drop zero front = inr (front, refl)
-ended-drop (suc n) [] = inl (drop_all n [] (omega arith))
-ended-drop (suc n) (x ∷ front) = ended-drop n front
-
--- what is left of lines
-pub ended-rest : (n : ℕ) (bytes : List ℕ) → EndsAtFeed bytes → IsEnded (drop n bytes)
-ended-rest n bytes ends = subst (λ (t : List ℕ). IsEnded (drop n t)) (sym ends.1) (ended-drop n ends.0)
-
--- the bytes up to a line feed
-pub fed-at : (bytes : List ℕ) (at d : ℕ) → at < length bytes → slice_index_or bytes at d ≡ 10 → EndsAtFeed (take (at + 1) bytes)
-fed-at bytes at d within feed = (take at bytes, take_more bytes at d within ∙ ap (λ (b : ℕ). take at bytes ++ b ∷ []) feed)
-
--- more bytes in front
-pub fed-after : (front bytes : List ℕ) → EndsAtFeed bytes → EndsAtFeed (front ++ bytes)
-fed-after front bytes ends = (front ++ ends.0, ap (λ (t : List ℕ). front ++ t) ends.1 ∙ sym (append_assoc front ends.0 (10 ∷ [])))
+use Rattle.iv_lines.proofs.PieceLemmas.{lines-fed, lines-ended, fed-after}
 
 -- ---- one more line
 
@@ -448,11 +392,3 @@ fit-all g w [] all = All-nil (Fits g w)
 fit-all g w (k ∷ records) all =
     let first : IsProjected (λ r. r) g w k = All-head (IsProjected (λ r. r) g w) k records all in
     All-cons (Fits g w) k records (subst (Fits g w) (sym first.2) first.1) (fit-all g w records (All-tail (IsProjected (λ r. r) g w) k records all))
-
--- what follows from an error follows if it is handed on
-pub handed-on : {T E : Type 0} (r : Result T E) (f : E) (P : E → Type 0) → IsErrAnd r (λ e. e ≡ f) → P f → IfErr r P
-handed-on (Ok x) f P is holds = absurd is
-handed-on (Err e) f P is holds = subst P (sym is) holds
-
-pub rest-whole : (text : List ℕ) (at : ℕ) → take (length text - at) (drop at text) ≡ drop at text
-rest-whole text at = grind (arith, common_steps)

@@ -8,7 +8,7 @@ use Rattle.std.proofs.lemmas.List.{take_more}
 use Rattle.std.proofs.lemmas.List.Elements.{All-append, All-cons, All-nil}
 use Rattle.std.proofs.lemmas.Simd.{length-chunk, bitmask_splat}
 use Rattle.iv_text.specs.Inside.OnePass.{IsCell, ends_cell}
-use Rattle.iv_text.proofs.BlockLemmas.{before-lowest}
+use Rattle.iv_lines.proofs.BlockLemmas.{before-lowest}
 
 -- one more byte that no cell ends at
 pub cell-more : (text : List ℕ) (k : ℕ) → k < length text → IsCell (take k text) → ends_cell (get_or text k 0) ≡ false → IsCell (take (k + 1) text)

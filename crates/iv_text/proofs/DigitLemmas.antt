@@ -10,10 +10,11 @@ use Rattle.std.proofs.lemmas.List.Prefix.{front_from_reads}
 use native.Mathlib.Nat.{div-div-eq-div-mul}
 use Rattle.std.specs.Char.{is_ascii_digit}
 use Rattle.std.specs.Str.{all_ascii_digits}
-use Rattle.iv_text.specs.Inside.Number.{decimal_from}
+use Rattle.iv_lines.specs.Inside.Number.{decimal_from}
 use Rattle.iv_text.specs.Inside.OnePass.{BeginsWithNumber}
-use Rattle.iv_text.proofs.BlockLemmas.{before-outside, is_outside, outside_mask}
-use Rattle.iv_text.proofs.OnePassLemmas.{decimal-more, digit-bound, digits-more, number-is, rest-whole}
+use Rattle.iv_lines.proofs.BlockLemmas.{before-outside, is_outside, outside_mask}
+use Rattle.iv_lines.proofs.NumberLemmas.{decimal-more, digit-bound, digits-more, number-is}
+use Rattle.iv_text.proofs.OnePassLemmas.{rest-whole}
 
 -- digits at each index below n are n digits in a row
 pub digits-below : (text : List ℕ) (n : ℕ) → n ≤ length text → ((k : ℕ) → k < n → is_ascii_digit (get_or text k 0) ≡ true) → all_ascii_digits (take n text) ≡ true

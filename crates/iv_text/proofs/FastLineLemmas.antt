@@ -12,19 +12,21 @@ use Rattle.std.specs.Char.{is_ascii_digit}
 use Rattle.std.specs.Io.BufRead.{strip_last}
 use Rattle.std.specs.Option.{is_some, option_map}
 use Rattle.std.specs.Str.{all_ascii_digits, bytes_eq}
-use Rattle.iv_text.proofs.LineLemmas.{strip-is, strip-more, lines-line}
-use Rattle.iv_text.proofs.OnePassLemmas.{number-digits, column-last, column-more, line-read, record_of, row-of}
+use Rattle.iv_lines.proofs.LineLemmas.{strip-is, strip-more, lines-line}
+use Rattle.iv_lines.proofs.NumberLemmas.{number-digits}
+use Rattle.iv_lines.proofs.FieldLemmas.{column-last, column-more}
+use Rattle.iv_text.proofs.OnePassLemmas.{line-read, record_of, row-of}
 use Rattle.iv_text.specs.BedFile.{is_unread, is_headed}
-use Rattle.iv_text.specs.Inside.Fields.{HasNoTab, is_separator}
-use Rattle.iv_text.specs.Genome.{Sequences, length_at}
-use Rattle.iv_text.specs.Lines.{lines, HasNoFeed, begins_with}
-use Rattle.iv_text.specs.Inside.OnePass.{ArePassed, BeginsWithInterval, BeginsWithCell, BeginsWithCells, IsCell, ends_cell, laid}
-use Rattle.iv_text.specs.Read.{bad_text}
-use Rattle.iv_text.specs.Inside.Read.{is_line_byte}
-use Rattle.iv_text.specs.RecordValue.{IsRecord, strand_of}
+use Rattle.iv_lines.specs.Inside.Fields.{HasNoTab, is_separator, ArePassed}
+use Rattle.iv_lines.specs.Genome.{Sequences, length_at}
+use Rattle.iv_lines.specs.Lines.{lines, HasNoFeed, begins_with}
+use Rattle.iv_text.specs.Inside.OnePass.{BeginsWithInterval, BeginsWithCell, BeginsWithCells, IsCell, ends_cell, laid}
+use Rattle.iv_lines.specs.Read.{bad_text}
+use Rattle.iv_lines.specs.Inside.Read.{is_line_byte}
+use Rattle.iv_lines.specs.RecordValue.{IsRecord, strand_of}
 use Rattle.iv_text.specs.FastLine.{IsFastLine}
 use Rattle.iv_text.specs.declared.record_reader.FastLine.{FastLine}
-use Rattle.iv_text.specs.declared.record_ref.Strand.{Strand}
+use Rattle.iv_lines.specs.declared.record_ref.Strand.{Strand}
 
 -- ---- bytes that are no end of a line
 

@@ -2,12 +2,12 @@
 use Rattle.std.specs.Prelude.{◌≡◌, ◌≤◌, ℕ, ◌+◌, ◌%◌, ◌^◌, ◌++◌, All, MatchOption, List, [], ◌∷◌, Option, None, Result, Ok, Err, length, map, drop}
 use Rattle.std.specs.Option.{unwrap_or}
 use Rattle.iv_text.specs.BedFile.{Bed, Draft, after_record, bed_of}
-use Rattle.iv_text.specs.Chains.{if_ok, after_all}
-use Rattle.iv_text.specs.Genome.{Sequences}
-use Rattle.iv_text.specs.Lines.{lines}
-use Rattle.iv_text.specs.Read.{read, Fits}
-use Rattle.iv_text.specs.RecordValue.{RecordValue}
-use Rattle.iv_text.specs.declared.fault.LoadFault.{LoadFault}
+use Rattle.iv_lines.specs.Chains.{if_ok, after_all}
+use Rattle.iv_lines.specs.Genome.{Sequences}
+use Rattle.iv_lines.specs.Lines.{lines}
+use Rattle.iv_lines.specs.Read.{read, Fits}
+use Rattle.iv_lines.specs.RecordValue.{RecordValue}
+use Rattle.iv_lines.specs.declared.fault.LoadFault.{LoadFault}
 use Rattle.iv_text.specs.declared.record_reader.FastLine.{FastLine}
 
 -- what is known of a file after lines of which the first has the number n, or the first fault

@@ -1,10 +1,10 @@
 -- A line of a record at the front of a text.
 use Rattle.std.specs.Prelude.{◌≡◌, ◌<◌, ◌≤◌, ℕ, false, List, ◌∷◌, Ok, drop, length}
 use Rattle.iv_text.specs.BedFile.{is_unread}
-use Rattle.iv_text.specs.Genome.{Sequences}
-use Rattle.iv_text.specs.Lines.{lines}
-use Rattle.iv_text.specs.Read.{read, Fits}
-use Rattle.iv_text.specs.RecordValue.{RecordValue}
+use Rattle.iv_lines.specs.Genome.{Sequences}
+use Rattle.iv_lines.specs.Lines.{lines}
+use Rattle.iv_lines.specs.Read.{read, Fits}
+use Rattle.iv_lines.specs.RecordValue.{RecordValue}
 use Rattle.iv_text.specs.declared.record_reader.FastLine.{FastLine}
 
 -- the first line of the text has a record of this width with this interval, and the next line begins so many bytes further on

@@ -1,8 +1,8 @@
 //! The records of a BED file in batches.
 ghost use Rattle.std.specs.Prelude.{◌≡◌, ◌≤◌};
-ghost use Rattle.iv_text.specs.Widths.{IsWidth};
+ghost use Rattle.iv_lines.specs.Widths.{IsWidth};
 
-use crate::record_batches::RecordBatches;
+use iv_lines::RecordBatches;
 use std::alloc::{Allocator, Global};
 use std::marker::Model;
 
@@ -16,7 +16,7 @@ pub struct BedBatches<A: Allocator = Global> {
 }
 
 impl<A: Allocator> Model for BedBatches<A> {
-    ghost use Rattle.iv_text.specs.Widths.{IsWidth};
+    ghost use Rattle.iv_lines.specs.Widths.{IsWidth};
     ghost use Rattle.std.specs.Prelude.{◌≤◌};
     ghost use Rattle.iv_text.specs.BedFile.{Bed};
 

@@ -2,16 +2,14 @@
 ghost use Rattle.std.specs.Prelude.{◌≡◌, ◌<◌, ℕ, IfOk, IfSome, refl, ◌≤◌, ◌+◌, ◌^◌, ◌⊎◌, ◌++◌, ◌∷◌, [], length, Some, IfErr, OnOk, MatchOption};
 ghost use Rattle.iv_text.specs.BedReading.{IsReadAt, AreSoundLines, BeginsAfter, RefusesLines, TakesLines, byte_after, none_held, shown};
 ghost use Rattle.iv_text.specs.Inside.BedReading.{RefusesLine, TakesLine};
-ghost use Rattle.iv_text.specs.RecordValue.{RecordValue};
-ghost use Rattle.iv_text.specs.declared.fault.LoadCause.TheVariants as cause;
+ghost use Rattle.iv_lines.specs.RecordValue.{RecordValue};
+ghost use Rattle.iv_lines.specs.declared.fault.LoadCause.TheVariants as cause;
 
-use crate::fault::{LoadCause, LoadFault};
-use crate::genome::Genome;
-use crate::lines::{is_unread, split_line, width_for};
-use crate::record::Record;
-use crate::record_batches::{KeepsRecords, RecordBatches};
+use crate::bed_widths::{is_unread, width_for};
 use crate::record_reader::{FastLine, RecordReader};
-use crate::record_ref::RecordRef;
+use iv_lines::{
+    Genome, KeepsRecords, LoadCause, LoadFault, Record, RecordBatches, RecordRef, split_line,
+};
 use std::alloc::{AllocError, Allocator};
 use std::marker::Model;
 

@@ -1,13 +1,12 @@
 //! A BED file that comes in pieces.
 ghost use Rattle.std.specs.Prelude.{◌≡◌, ◌<◌, ◌≤◌, ◌+◌, ◌^◌, ◌⊎◌, ◌++◌, ℕ, List, [], length, drop, take, map, Ok, Err, All, IfOk, IfErr, OnOk};
-ghost use Rattle.iv_text.specs.declared.fault.LoadCause.TheVariants as cause;
+ghost use Rattle.iv_lines.specs.declared.fault.LoadCause.TheVariants as cause;
 ghost use Rattle.iv_text.specs.BedReading.{AreSoundLines, IsProjected, begun, read_on, size_of, finished};
-ghost use Rattle.iv_text.specs.Inside.BedReading.{IsEnded, EndsAtFeed};
-ghost use Rattle.iv_text.specs.Widths.{IsWidth};
+ghost use Rattle.iv_lines.specs.Inside.Pieces.{IsEnded, EndsAtFeed};
+ghost use Rattle.iv_lines.specs.Widths.{IsWidth};
 
 use crate::bed_lines::{BedLines, FromRecord};
-use crate::fault::LoadFault;
-use crate::genome::Genome;
+use iv_lines::{Genome, LoadFault};
 use std::alloc::Allocator;
 use std::marker::Model;
 

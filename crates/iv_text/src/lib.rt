@@ -1,51 +1,32 @@
-//! Genome files, BED lines and records. The sinks and sources of `iv_bytes` are re-exported.
+//! The reader of BED files. Genome files and records, of `iv_lines`, and the sinks and sources of `iv_bytes` are re-exported.
 #![tactic(auto)]
 
-mod batches;
-mod bed3_record;
 mod bed_batches;
 mod bed_file;
 mod bed_lines;
 mod bed_reader;
-mod bed_record;
-mod fault;
-mod genome;
+mod bed_widths;
 mod lemmas;
-mod lines;
-mod name_and_score;
-mod name_map;
-mod number;
-mod record;
-mod record_batches;
-mod record_columns;
+mod number_prefix;
 mod record_reader;
-mod record_ref;
-mod record_text;
-mod row_buffer;
 
-pub use batches::{BatchItems, Batches};
 pub use bed_batches::BedBatches;
 pub use bed_file::BedFile;
 pub use bed_lines::{BedLines, FromRecord};
 pub use bed_reader::BedReader;
-pub use bed_record::BedRecord;
-pub use bed3_record::Bed3Record;
-pub use fault::{Fault, LoadCause, LoadFault, RecordFault, fault_text, load_text};
-pub use genome::{Genome, MOST_LENGTH, is_bad_name};
+pub use bed_widths::{is_unread, width_for};
 pub use iv_bytes::{
     Buffered, ByteQueue, MemSink, MemSource, ReadFault, Sink, Source, StdSink, StdSource,
     WriteFault, put_all, put_pieces,
 };
-pub use lemmas::{
-    bed_or_first_fault, first_line_ends_at_feed, genome_or_first_fault, last_line_ends_at_end,
-    one_length_changes, one_ordered_list,
+pub use iv_lines::{
+    BatchItems, Batches, Bed3Record, BedRecord, ContentSeed, Fault, Fields, Genome, KeepsRecords,
+    LoadCause, LoadFault, MOST_LENGTH, NameHasher, NameMap, Record, RecordBatches, RecordFault,
+    RecordRef, RowBuffer, Strand, columns, fault_text, first_line_ends_at_feed,
+    genome_or_first_fault, is_bad_name, last_line_ends_at_end, lines_of, load_text,
+    one_length_changes, one_ordered_list, put_interval, put_line, put_numbered, put_record,
+    put_row, read_digits, read_number, read_record, read_strand, split_first_column, split_line,
+    strand_bytes,
 };
-pub use lines::{Fields, columns, is_unread, lines_of, split_first_column, split_line, width_for};
-pub use name_map::{ContentSeed, NameHasher, NameMap};
-pub use number::{read_digits, read_number};
-pub use record::Record;
-pub use record_batches::{KeepsRecords, RecordBatches};
+pub use lemmas::bed_or_first_fault;
 pub use record_reader::{FastLine, RecordReader};
-pub use record_ref::{RecordRef, Strand, read_record, read_strand};
-pub use record_text::{put_line, put_numbered, put_record, put_row, strand_bytes};
-pub use row_buffer::{RowBuffer, put_interval};

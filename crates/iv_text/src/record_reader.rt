@@ -1,26 +1,36 @@
 //! Records read line after line.
-ghost use Rattle.std.specs.Prelude.{◌≡◌, ◌≤◌, false, [], ◌∷◌, IfSome, IsSome, length, take, ℕ, ◌+◌, ◌/◌, ◌%◌, ◌^◌, ◌<◌, ◌++◌, None, Some, Ok, IfOk, slice_index};
+ghost use Rattle.std.specs.Prelude.{◌≡◌, ◌≤◌, false, [], ◌∷◌, IfSome, IsSome, length, take, ℕ, ◌+◌, ◌/◌, ◌%◌, ◌^◌, ◌<◌, ◌++◌, None, Some, Ok, IfOk, slice_index, ◌⊎◌};
 ghost use Rattle.std.specs.Option.{is_some};
 ghost use Rattle.iv_text.specs.Inside.OnePass.{BeginsWithName, ends_cell, BeginsWithCell, BeginsWithCells, IsCell, IsFirstLine, IsNamed, BeginsWithInterval};
-ghost use Rattle.iv_text.specs.Read.{bad_text, read, column, Fits};
-ghost use Rattle.iv_text.specs.RecordValue.{strand_of};
-ghost use Rattle.iv_text.specs.Fields.{columns as columns_of};
-ghost use Rattle.iv_text.specs.Bytes.{tab};
-ghost use Rattle.iv_text.specs.Named.{name_index};
+ghost use Rattle.iv_lines.specs.Read.{bad_text, read, column, Fits};
+ghost use Rattle.iv_lines.specs.RecordValue.{strand_of};
+ghost use Rattle.iv_lines.specs.Fields.{columns as columns_of};
+ghost use Rattle.iv_lines.specs.Bytes.{tab, carriage_return, line_feed};
+ghost use Rattle.iv_lines.specs.Named.{name_index};
 ghost use Rattle.iv_text.specs.FastLine.{IsFastLine};
-ghost use Rattle.iv_text.specs.Widths.{IsWidth};
+ghost use Rattle.iv_lines.specs.Widths.{IsWidth};
 
-use crate::fault::RecordFault;
-use crate::genome::Genome;
-use crate::lines::{after_byte, after_line_end, columns_after, cut_first_column, is_unread};
-use crate::number::split_number;
-use crate::record_ref::{
-    OptionalColumns, RecordRef, are_sound, optional_columns_of, read_record, read_strand,
-};
+use crate::bed_widths::is_unread;
+use crate::number_prefix::split_number;
 use bstr::ByteSlice;
+use iv_lines::{
+    Genome, OptionalColumns, RecordFault, RecordRef, after_byte, are_sound, columns_after,
+    cut_first_column, optional_columns_of, read_record, read_strand,
+};
 use std::alloc::Allocator;
 use std::marker::Model;
 use std::simd::prelude::*;
+
+/// What follows the LF that a text begins with, or after a CR and a LF.
+fn after_line_end(text: &[u8]) -> Option<&[u8]>
+    ensures { IfSome result (λ rest. (text.now ≡ line_feed ∷ rest.now) ⊎ (text.now ≡ carriage_return ∷ line_feed ∷ rest.now)) }
+{
+    match text {
+        [b'\n', rest @ ..] => Some(rest),
+        [b'\r', b'\n', rest @ ..] => Some(rest),
+        _ => None,
+    }
+}
 
 /// Whether no cell goes on at this byte.
 fn is_end(byte: u8) -> bool
@@ -176,7 +186,7 @@ pub struct RecordReader<'g, 't, A: Allocator> {
 
 impl<'g, 't, A: Allocator> Model for RecordReader<'g, 't, A> {
     ghost use Rattle.std.specs.Prelude.{All, IfSome};
-    ghost use Rattle.iv_text.specs.Genome.{Sequences};
+    ghost use Rattle.iv_lines.specs.Genome.{Sequences};
     ghost use Rattle.iv_text.specs.Inside.OnePass.{IsNamed};
 
     ghost Value = { Sequences };
@@ -413,7 +423,7 @@ impl<'g, 't, A: Allocator + Copy> RecordReader<'g, 't, A> {
             return Ok(feature);
         }
         let feature = read_record(self.genome, width, line)?;
-        self.last = named_by(self.genome, line, feature.rank);
+        self.last = named_by(self.genome, line, feature.seq());
         if let Some(named) = self.last {
             self.known[slot_of(named.name)] = self.last;
         }

@@ -4,9 +4,9 @@ use Rattle.std.specs.Prelude.{All, replicate}
 use Rattle.std.specs.List.{AllByRecursion}
 use Rattle.std.specs.Map.{keys_of, values_of}
 use Rattle.std.proofs.lemmas.List.Elements.{All-head, All-tail, All-from_recursion, recursion_from_All}
-use Rattle.iv_text.specs.Ordered.{ordered}
-use Rattle.iv_text.specs.RecordValue.{RecordValue, IsPlaced, record_cmp, records_total}
-use Rattle.iv_text.proofs.OrderedLemmas.{rows-alone, ordered-in_order, ordered-copies, all-all_added, length-all_added}
+use Rattle.iv_lines.specs.Ordered.{ordered}
+use Rattle.iv_lines.specs.RecordValue.{RecordValue, IsPlaced, record_cmp, records_total}
+use Rattle.iv_lines.proofs.OrderedLemmas.{rows-alone, ordered-in_order, ordered-copies, all-all_added, length-all_added}
 use Rattle.iv_track.specs.Copies.{expanded}
 use Rattle.iv_track.specs.Tracked.{most_records}
 use Rattle.iv_track.specs.Inside.Counted.{AreCounted}

@@ -9,9 +9,9 @@ use Rattle.std.proofs.lemmas.List.Elements.{All-from_recursion, recursion_from_A
 use Rattle.std.proofs.lemmas.List.Sums.{sum_by-cons, count_by-le-length}
 use Rattle.std.proofs.Math.ListN.{length-replicate}
 use Rattle.std.proofs.Math.Nat.{two-pow-succ}
-use Rattle.iv_text.specs.Ordered.{AreInOrder, added, copies}
-use Rattle.iv_text.specs.RecordValue.{RecordValue, IsPlaced, record_cmp}
-use Rattle.iv_text.proofs.ListLemmas.{Mem, all-mem, mem-all}
+use Rattle.iv_lines.specs.Ordered.{AreInOrder, added, copies}
+use Rattle.iv_lines.specs.RecordValue.{RecordValue, IsPlaced, record_cmp}
+use Rattle.iv_lines.proofs.ListLemmas.{Mem, all-mem, mem-all}
 use Rattle.iv_track.specs.Copies.{expanded}
 use Rattle.iv_track.specs.Regions.{longest}
 use Rattle.iv_track.specs.Tracked.{removed}

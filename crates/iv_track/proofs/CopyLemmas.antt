@@ -5,11 +5,11 @@ use Rattle.std.specs.Ordering.{is_eq}
 use Rattle.std.specs.Cmp.{tied_itself, Equal-is}
 use Rattle.std.proofs.lemmas.Bool.{cases_lt}
 use Rattle.std.proofs.lemmas.List.Sums.{sum_by-cons}
-use Rattle.iv_text.specs.Ordered.{copies, added}
-use Rattle.iv_text.specs.Inside.Ordered.{copies_by}
-use Rattle.iv_text.specs.RecordValue.{RecordValue, record_cmp, records_total}
-use Rattle.iv_text.proofs.RecordLemmas.{rows_exact}
-use Rattle.iv_text.proofs.OrderedLemmas.{copies-added}
+use Rattle.iv_lines.specs.Ordered.{copies, added}
+use Rattle.iv_lines.specs.Inside.Ordered.{copies_by}
+use Rattle.iv_lines.specs.RecordValue.{RecordValue, record_cmp, records_total}
+use Rattle.iv_lines.proofs.RecordLemmas.{rows_exact}
+use Rattle.iv_lines.proofs.OrderedLemmas.{copies-added}
 use Rattle.iv_track.specs.Copies.{removed_by}
 use Rattle.iv_track.specs.Tracked.{removed}
 use Rattle.iv_track.proofs.Counts.{copies-removed}

@@ -17,10 +17,10 @@ use Rattle.std.proofs.lemmas.List.Elements.{All-from_recursion}
 use Rattle.std.proofs.lemmas.List.Sums.{sum_by-cons}
 use Rattle.std.proofs.lemmas.Map.Keys.{IsDistinct-from_sorted}
 use Rattle.std.proofs.lemmas.Map.Views.{All-values_from_lookup, IfSome-lookup_from_All}
-use Rattle.iv_text.specs.Ordered.{InOrder}
-use Rattle.iv_text.specs.Inside.Ordered.{copies_by}
-use Rattle.iv_text.proofs.BatchLemmas.{strictly-apart}
-use Rattle.iv_text.proofs.OrderedLemmas.{copies-permutation, in_order-sorted}
+use Rattle.iv_lines.specs.Ordered.{InOrder}
+use Rattle.iv_lines.specs.Inside.Ordered.{copies_by}
+use Rattle.iv_lines.proofs.BatchLemmas.{strictly-apart}
+use Rattle.iv_lines.proofs.OrderedLemmas.{copies-permutation, in_order-sorted}
 use Rattle.iv_track.specs.Copies.{expanded}
 use Rattle.iv_track.specs.Entries.{IsLedger, value_at}
 use Rattle.iv_track.specs.Inside.Counted.{grouped_from, grouped, AreCounted, AreDistinct}

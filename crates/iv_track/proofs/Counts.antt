@@ -18,9 +18,9 @@ use Rattle.std.proofs.lemmas.List.Elements.{All-head, All-tail}
 use Rattle.std.proofs.lemmas.List.Sums.{sum_by-append, sum_by-cons}
 use Rattle.std.proofs.lemmas.List.Folds.{sum_by-replicate, find_at}
 use Rattle.std.proofs.Math.ListN.{length-replicate}
-use Rattle.iv_text.specs.Ordered.{added_by, InOrder}
-use Rattle.iv_text.specs.Inside.Ordered.{copies_by}
-use Rattle.iv_text.proofs.OrderedLemmas.{one_list, copies-added, in_order-added}
+use Rattle.iv_lines.specs.Ordered.{added_by, InOrder}
+use Rattle.iv_lines.specs.Inside.Ordered.{copies_by}
+use Rattle.iv_lines.proofs.OrderedLemmas.{one_list, copies-added, in_order-added}
 use Rattle.iv_track.specs.Copies.{removed_by, expanded}
 
 -- ---- how many

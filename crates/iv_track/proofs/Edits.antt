@@ -2,13 +2,13 @@
 use Rattle.std.proofs.Common.{◌≡◌, ◌<◌, List, arith}
 use Rattle.std.specs.Prelude.{All}
 use Rattle.std.proofs.lemmas.List.Elements.{All-from_recursion, recursion_from_All}
-use Rattle.iv_text.specs.Ordered.{copies, added, AreInOrder}
-use Rattle.iv_text.specs.RecordValue.{RecordValue, record_cmp, records_total}
-use Rattle.iv_text.proofs.OrderedLemmas.{all-added, in_order-added, copies-added, rows-alone}
+use Rattle.iv_lines.specs.Ordered.{copies, added, AreInOrder}
+use Rattle.iv_lines.specs.RecordValue.{RecordValue, record_cmp, records_total}
+use Rattle.iv_lines.proofs.OrderedLemmas.{all-added, in_order-added, copies-added, rows-alone}
 use Rattle.iv_track.specs.Edits.{RefusesRemove}
 use Rattle.iv_track.specs.Tracked.{Tracked, removed}
-use Rattle.iv_text.specs.declared.fault.Fault.{Fault}
-use Rattle.iv_text.specs.declared.fault.Fault.TheVariants as fault
+use Rattle.iv_lines.specs.declared.fault.Fault.{Fault}
+use Rattle.iv_lines.specs.declared.fault.Fault.TheVariants as fault
 use Rattle.iv_track.proofs.Counts.{all-removed, in_order-removed, copies-removed}
 
 -- what holds of all records, and of one more

@@ -10,9 +10,9 @@ use Rattle.std.specs.declared.cmp.Ordering.TheVariants.{Less, Equal, Greater}
 use Rattle.std.specs.Ordering.{is_le, ordering_then, nat_cmp}
 use Rattle.std.specs.Option.{option_cmp}
 use Rattle.std.specs.Cmp.Lexicographic.{slice_cmp}
-use Rattle.iv_text.specs.declared.record_ref.Strand.{Strand}
-use Rattle.iv_text.specs.RecordValue.{RecordValue, IsPlaced, record_cmp}
-use Rattle.iv_text.specs.Inside.RecordValue.{strand_cmp}
+use Rattle.iv_lines.specs.declared.record_ref.Strand.{Strand}
+use Rattle.iv_lines.specs.RecordValue.{RecordValue, IsPlaced, record_cmp}
+use Rattle.iv_lines.specs.Inside.RecordValue.{strand_cmp}
 use Rattle.iv_track.specs.Tracked.{is_from}
 use Rattle.iv_track.specs.Inside.Tracked.{BeginsFrom}
 use Rattle.iv_track.proofs.NumberOrder.{le-cmp}

@@ -8,12 +8,12 @@ use Rattle.std.specs.Cmp.{ranked}
 use Rattle.std.proofs.lemmas.Bool.{both_ways, ltb-true, ltb-false}
 use Rattle.std.proofs.lemmas.List.Elements.{All-from_recursion}
 use Rattle.std.proofs.lemmas.Map.Keys.{le_from_is_le}
-use Rattle.iv_text.specs.Ordered.{AreInOrder}
-use Rattle.iv_text.specs.RecordValue.{RecordValue, record_cmp}
+use Rattle.iv_lines.specs.Ordered.{AreInOrder}
+use Rattle.iv_lines.specs.RecordValue.{RecordValue, record_cmp}
 use Rattle.iv_track.specs.Tracked.{is_from}
 use Rattle.iv_track.proofs.NumberOrder.{le-cmp, ge-cmp}
-use Rattle.iv_text.proofs.PrecedesLemmas.{precedes-from}
-use Rattle.iv_text.proofs.ListLemmas.{Mem, all-mem, filter-agree, filter-all, filter-filter}
+use Rattle.iv_lines.proofs.PrecedesLemmas.{precedes-from}
+use Rattle.iv_lines.proofs.ListLemmas.{Mem, all-mem, filter-agree, filter-all, filter-filter}
 
 pub le_pair : (a b c d : ℕ) → is_le (ordering_then (nat_cmp a b) (nat_cmp c d)) ≡ true → (a ≤ b) × (a ≡ b → c ≤ d)
 le_pair a b c d h = go (nat_cmp a b) refl h

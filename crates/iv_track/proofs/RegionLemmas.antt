@@ -5,9 +5,9 @@ use Rattle.std.proofs.lemmas.Bool.{and_parts, and_from, lt-ltb, ltb-true}
 use Rattle.std.proofs.lemmas.List.Elements.{All-nil, All-cons}
 use Rattle.std.proofs.lemmas.List.Sums.{length-filter, count_by-le-length}
 use Rattle.std.proofs.lemmas.Map.Views.{exact_unsigned_eq}
-use Rattle.iv_text.specs.Ordered.{AreInOrder}
-use Rattle.iv_text.specs.RecordValue.{RecordValue}
-use Rattle.iv_text.proofs.ListLemmas.{Mem, all-mem, filter-filter, filter-weaker}
+use Rattle.iv_lines.specs.Ordered.{AreInOrder}
+use Rattle.iv_lines.specs.RecordValue.{RecordValue}
+use Rattle.iv_lines.proofs.ListLemmas.{Mem, all-mem, filter-filter, filter-weaker}
 use Rattle.iv_track.specs.declared.region.Region.{Region}
 use Rattle.iv_track.specs.Regions.{overlaps, hits, longest, near}
 use Rattle.iv_track.specs.Tracked.{is_from}

@@ -11,8 +11,8 @@ use Rattle.std.specs.declared.cmp.Ordering.{Ordering}
 use Rattle.std.specs.declared.cmp.Ordering.TheVariants.{Less, Equal, Greater}
 use Rattle.std.proofs.lemmas.Bool.{cond-false}
 use Rattle.std.proofs.lemmas.List.Elements.{All-head, All-tail, All-cons, All-nil}
-use Rattle.iv_text.specs.RecordValue.{RecordValue, IsPlaced, record_cmp}
-use Rattle.iv_text.proofs.RecordLemmas.{rows_exact}
+use Rattle.iv_lines.specs.RecordValue.{RecordValue, IsPlaced, record_cmp}
+use Rattle.iv_lines.proofs.RecordLemmas.{rows_exact}
 use Rattle.iv_track.specs.Entries.{value_at}
 use Rattle.iv_track.specs.Tracked.{is_from}
 use Rattle.iv_track.specs.Inside.Stored.{HasThreeColumns, stored, IsStored}

@@ -7,12 +7,11 @@ use Rattle.std.proofs.lemmas.Map.{keys-set_value}
 use Rattle.std.proofs.lemmas.Map.Views.{All-keys-insert_entry, All-values-insert_entry, All-map-remove_entry, All-values-set_value, IfSome-lookup_from_All}
 use Rattle.std.proofs.lemmas.Map.Steps.{lookup-le-sum}
 use Rattle.iv_track.specs.Entries.{IsLedger, value_at}
-use Rattle.iv_text.specs.RecordValue.{RecordValue, IsPlaced, record_cmp}
-use Rattle.iv_text.specs.RecordValue.{records_total}
-use Rattle.iv_text.proofs.RecordLemmas.{rows_exact}
+use Rattle.iv_lines.specs.RecordValue.{RecordValue, IsPlaced, record_cmp, records_total}
+use Rattle.iv_lines.proofs.RecordLemmas.{rows_exact}
 use Rattle.iv_track.specs.Copies.{expanded}
-use Rattle.iv_text.specs.Ordered.{copies, added}
-use Rattle.iv_text.proofs.OrderedLemmas.{length-added}
+use Rattle.iv_lines.specs.Ordered.{copies, added}
+use Rattle.iv_lines.proofs.OrderedLemmas.{length-added}
 use Rattle.iv_track.specs.Tracked.{with_copies, removed}
 use Rattle.iv_track.specs.Inside.Tracked.{IsTrack}
 use Rattle.iv_track.proofs.Counts.{find-expanded, copies-found, copies-expanded, length-expanded, expanded-insert, expanded-remove_entry, expanded-set_value, length-removed}

@@ -1,11 +1,11 @@
 -- A track after an edit, and why an edit is refused.
 use Rattle.std.specs.Prelude.{◌≡◌, ◌<◌, ◌≤◌, length}
-use Rattle.iv_text.specs.Ordered.{added_by, copies}
-use Rattle.iv_text.specs.RecordValue.{RecordValue, record_cmp}
+use Rattle.iv_lines.specs.Ordered.{added_by, copies}
+use Rattle.iv_lines.specs.RecordValue.{RecordValue, record_cmp}
 use Rattle.iv_track.specs.Copies.{removed_by}
 use Rattle.iv_track.specs.Tracked.{Tracked}
-use Rattle.iv_text.specs.declared.fault.Fault.{Fault}
-use Rattle.iv_text.specs.declared.fault.Fault.TheVariants as fault
+use Rattle.iv_lines.specs.declared.fault.Fault.{Fault}
+use Rattle.iv_lines.specs.declared.fault.Fault.TheVariants as fault
 
 -- the track with one more record, in its place in the order
 abbrev pub with_record : RecordValue → Tracked → Tracked

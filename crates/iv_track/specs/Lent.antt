@@ -1,6 +1,6 @@
 -- A record that a track lends, however the track holds it.
 use Rattle.std.specs.Prelude.{ℕ, List, [], replicate, Option, Some, None}
-use Rattle.iv_text.specs.RecordValue.{RecordValue}
+use Rattle.iv_lines.specs.RecordValue.{RecordValue}
 use Rattle.iv_track.specs.declared.track_record.Lent.{Lent}
 use Rattle.iv_track.specs.declared.track_record.Lent.TheVariants.{Bed3, Full}
 

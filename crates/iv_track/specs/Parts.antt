@@ -1,8 +1,8 @@
 -- The part that a print shows: all, or the rows that share a position with a region, whole and in their order.
 use Rattle.std.specs.Prelude.{ℕ, ◌&&◌, nat_lt, List, Option, Some, None, filter}
 use Rattle.std.specs.List.{flat_map, range_with_len}
-use Rattle.iv_text.specs.Genome.{Sequences, seq_count}
-use Rattle.iv_text.specs.RecordValue.{RecordValue}
+use Rattle.iv_lines.specs.Genome.{Sequences, seq_count}
+use Rattle.iv_lines.specs.RecordValue.{RecordValue}
 use Rattle.iv_track.specs.Regions.{hits}
 use Rattle.iv_track.specs.declared.region.Region.{Region}
 

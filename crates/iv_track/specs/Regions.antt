@@ -1,6 +1,6 @@
 -- A region of a sequence, and the records that are in it or near it.
 use Rattle.std.specs.Prelude.{ℕ, ◌+◌, ◌-◌, ◌*◌, ◌≤◌, ◌==◌, ◌&&◌, nat_lt, max, Bool, List, [], ◌∷◌, Option, Some, None, filter}
-use Rattle.iv_text.specs.RecordValue.{RecordValue}
+use Rattle.iv_lines.specs.RecordValue.{RecordValue}
 use Rattle.iv_track.specs.declared.region.Region.{Region}
 
 -- the record is on the sequence of this rank and shares a position with the interval from start to stop, which is not included

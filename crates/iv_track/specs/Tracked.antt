@@ -1,8 +1,8 @@
 -- A track as the ordered list of its records, with copies repeated.
 use Rattle.std.specs.Prelude.{ℕ, Bool, List, Option, Some, None, find}
 use Rattle.std.specs.Ordering.{is_lt, is_le, nat_cmp, ordering_then}
-use Rattle.iv_text.specs.RecordValue.{RecordValue, record_cmp}
-use Rattle.iv_text.specs.Ordered.{copies}
+use Rattle.iv_lines.specs.RecordValue.{RecordValue, record_cmp}
+use Rattle.iv_lines.specs.Ordered.{copies}
 use Rattle.iv_track.specs.Copies.{removed_by, different_by}
 
 -- the greatest limit that a track may have

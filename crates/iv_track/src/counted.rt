@@ -6,7 +6,7 @@ ghost use Rattle.iv_track.specs.Inside.Counted.{grouped, AreCounted, AreDistinct
 
 use crate::ledger::Ledger;
 use crate::starts::Abbreviated;
-use iv_text::{BatchItems, Batches};
+use iv_lines::{BatchItems, Batches};
 use std::alloc::{AllocError, Allocator};
 use std::marker::Model;
 

@@ -6,7 +6,7 @@ ghost use Rattle.std.specs.Map.{keys_of, remove_entry, set_value};
 ghost use Rattle.std.specs.Map.Iter.{TakesFirst};
 ghost use Rattle.std.specs.Option.{option_map};
 ghost use Rattle.std.specs.Ordering.{is_le, is_lt};
-ghost use Rattle.iv_text.specs.RecordValue.{IsPlaced, record_cmp};
+ghost use Rattle.iv_lines.specs.RecordValue.{IsPlaced, record_cmp};
 ghost use Rattle.iv_track.specs.Entries.{IsLedger, first_after, first_from, value_at};
 ghost use Rattle.iv_track.specs.Inside.Counted.{AreCounted};
 ghost use Rattle.iv_track.specs.Inside.Lent.{lent_entry};
@@ -20,7 +20,7 @@ use crate::meter::Meter;
 use crate::short_records::short_records;
 use crate::starts::Abbreviated;
 use crate::track_record::Lent;
-use iv_text::{Bed3Record, Record, RecordBatches};
+use iv_lines::{Bed3Record, Record, RecordBatches};
 use std::alloc::{AllocError, Allocator};
 use std::marker::Model;
 
@@ -43,7 +43,7 @@ enum Storage<A: Allocator + Copy> {
 
 impl<A: Allocator + Copy> Model for Entries<A> {
     ghost use Rattle.std.specs.Prelude.{List, ℕ};
-    ghost use Rattle.iv_text.specs.RecordValue.{RecordValue};
+    ghost use Rattle.iv_lines.specs.RecordValue.{RecordValue};
     ghost use Rattle.iv_track.specs.Inside.Stored.{IsStored, stored};
 
     ghost Value = { List (RecordValue × ℕ) };
@@ -388,7 +388,7 @@ enum Rest<'a, A: Allocator + Copy> {
 
 impl<'a, A: Allocator + Copy> Model for EntriesWalk<'a, A> {
     ghost use Rattle.std.specs.Prelude.{List, ℕ};
-    ghost use Rattle.iv_text.specs.RecordValue.{RecordValue};
+    ghost use Rattle.iv_lines.specs.RecordValue.{RecordValue};
     ghost use Rattle.iv_track.specs.Inside.Stored.{left_of};
 
     ghost Value = { List (RecordValue × ℕ) };

@@ -1,7 +1,7 @@
 //! Lemmas on the definitions: functions that do nothing, whose contracts are the lemmas.
 ghost use Rattle.std.specs.Prelude.{◌≡◌, ◌≢◌, ◌+◌, ◌<◌, List};
-ghost use Rattle.iv_text.specs.Ordered.{added, copies, AreInOrder};
-ghost use Rattle.iv_text.specs.RecordValue.{RecordValue};
+ghost use Rattle.iv_lines.specs.Ordered.{added, copies, AreInOrder};
+ghost use Rattle.iv_lines.specs.RecordValue.{RecordValue};
 ghost use Rattle.iv_track.specs.Tracked.{removed};
 
 /// A record that is added is one more copy of just that record, and the records stay in order.

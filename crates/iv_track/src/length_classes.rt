@@ -1,14 +1,14 @@
 //! About how long the records of a track are.
 ghost use Rattle.std.specs.Prelude.{◌≡◌, ◌+◌, ◌-◌, ◌^◌, ◌<◌, ◌≤◌, ℕ, [], All, length, slice_index_or, slice_set};
 ghost use Rattle.std.specs.Map.{keys_of};
-ghost use Rattle.iv_text.specs.RecordValue.{IsPlaced};
+ghost use Rattle.iv_lines.specs.RecordValue.{IsPlaced};
 ghost use Rattle.iv_track.specs.Copies.{expanded};
 ghost use Rattle.iv_track.specs.Inside.LengthClasses.{AreClasses, length_class};
 ghost use Rattle.iv_track.specs.Lent.{value_of};
 
 use crate::entries::EntriesWalk;
 use crate::track_record::{Lent, TrackRecord};
-use iv_text::Record;
+use iv_lines::Record;
 use std::alloc::Allocator;
 use std::marker::Model;
 

@@ -17,7 +17,7 @@ mod track_hits;
 mod track_record;
 mod track_records;
 
-pub use iv_text::Bed3Record;
+pub use iv_lines::Bed3Record;
 pub use ledger::{Ledger, Walk};
 pub use lemmas::{one_record_added, one_record_removed};
 pub use meter::Meter;

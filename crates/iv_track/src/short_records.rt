@@ -3,7 +3,7 @@ ghost use Rattle.std.specs.Prelude.{◌≡◌, All, IfOk};
 ghost use Rattle.iv_track.specs.Inside.Stored.{HasThreeColumns};
 
 use crate::entries::into_bed3;
-use iv_text::{Batches, Bed3Record, Record, RecordBatches};
+use iv_lines::{Batches, Bed3Record, Record, RecordBatches};
 use std::alloc::{AllocError, Allocator};
 
 /// How many records of three columns one vector has: 64 KiB of them.

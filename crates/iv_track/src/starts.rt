@@ -3,7 +3,7 @@ ghost use Rattle.std.specs.Prelude.{◌≡◌, ◌+◌, ◌<◌, ◌≤◌, [], 
 ghost use Rattle.iv_track.specs.Inside.Replaced.{IsReplaced};
 
 use crate::entry_index::{EntryIndex, MOST_IN_CHUNK};
-use iv_text::{Bed3Record, Record};
+use iv_lines::{Bed3Record, Record};
 use std::alloc::{AllocError, Allocator};
 use std::marker::Model;
 

@@ -3,8 +3,8 @@ ghost use Rattle.std.specs.Prelude.{◌≡◌, ◌+◌, ◌-◌, ◌*◌, ◌^�
 ghost use Rattle.std.specs.Map.Iter.{deref_pair};
 ghost use Rattle.std.specs.List.{filter};
 ghost use Rattle.std.specs.List.Sorted.{IsPermutation, IsSorted};
-ghost use Rattle.iv_text.specs.RecordValue.{RecordValue, record_cmp};
-ghost use Rattle.iv_text.specs.Ordered.{AreInOrder, copies, ordered};
+ghost use Rattle.iv_lines.specs.RecordValue.{RecordValue, record_cmp};
+ghost use Rattle.iv_lines.specs.Ordered.{AreInOrder, copies, ordered};
 ghost use Rattle.iv_track.specs.Regions.{hits, longest, near};
 ghost use Rattle.iv_track.specs.Edits.{RefusesAdd, RefusesRemove, RefusesReplace, with_record, without_record, with_replaced};
 ghost use Rattle.iv_track.specs.Steps.{TakesUpTo, ticked};
@@ -20,7 +20,7 @@ use crate::track_entries::TrackEntries;
 use crate::track_hits::TrackHits;
 use crate::track_record::TrackRecord;
 use crate::track_records::TrackRecords;
-use iv_text::{Batches, Fault, Record, RecordBatches};
+use iv_lines::{Batches, Fault, Record, RecordBatches};
 use std::alloc::{AllocError, Allocator, Global};
 use std::marker::Model;
 

@@ -19,7 +19,7 @@ pub struct TrackEntries<'a, A: Allocator + Copy = Global> {
 
 impl<'a, A: Allocator + Copy> Model for TrackEntries<'a, A> {
     ghost use Rattle.std.specs.Prelude.{List, ℕ};
-    ghost use Rattle.iv_text.specs.RecordValue.{RecordValue};
+    ghost use Rattle.iv_lines.specs.RecordValue.{RecordValue};
 
     ghost Value = { List (RecordValue × ℕ) };
 

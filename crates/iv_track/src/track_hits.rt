@@ -23,7 +23,7 @@ pub struct TrackHits<'a, A: Allocator + Copy = Global> {
 
 impl<'a, A: Allocator + Copy> Model for TrackHits<'a, A> {
     ghost use Rattle.std.specs.Prelude.{length};
-    ghost use Rattle.iv_text.specs.Ordered.{AreInOrder};
+    ghost use Rattle.iv_lines.specs.Ordered.{AreInOrder};
     ghost use Rattle.iv_track.specs.Regions.{HitsLeft, hits};
     ghost use Rattle.iv_track.specs.Inside.Tracked.{starting_before};
 

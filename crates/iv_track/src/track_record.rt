@@ -1,8 +1,8 @@
 //! A record of a track, lent.
 ghost use Rattle.std.specs.Prelude.{◌≡◌, ◌<◌};
-ghost use Rattle.iv_text.specs.RecordValue.{IsPlaced};
+ghost use Rattle.iv_lines.specs.RecordValue.{IsPlaced};
 
-use iv_text::{Bed3Record, BedRecord, Record, RecordRef, Strand};
+use iv_lines::{Bed3Record, BedRecord, Record, RecordRef, Strand};
 use std::alloc::{Allocator, Global};
 use std::marker::Model;
 
@@ -22,7 +22,7 @@ pub struct TrackRecord<'a, A: Allocator + Copy = Global> {
 }
 
 impl<'a, A: Allocator + Copy> Model for TrackRecord<'a, A> {
-    ghost use Rattle.iv_text.specs.RecordValue.{RecordValue};
+    ghost use Rattle.iv_lines.specs.RecordValue.{RecordValue};
     ghost use Rattle.iv_track.specs.Lent.{value_of};
 
     ghost Value = { RecordValue };

@@ -21,7 +21,7 @@ pub struct TrackRecords<'a, A: Allocator + Copy = Global> {
 impl<'a, A: Allocator + Copy> Model for TrackRecords<'a, A> {
     ghost use Rattle.std.specs.Prelude.{List, ◌++◌, ◌<◌, All};
     ghost use Rattle.std.specs.Map.{values_of};
-    ghost use Rattle.iv_text.specs.RecordValue.{RecordValue};
+    ghost use Rattle.iv_lines.specs.RecordValue.{RecordValue};
     ghost use Rattle.iv_track.specs.Copies.{expanded};
     ghost use Rattle.iv_track.specs.Lent.{again};
 

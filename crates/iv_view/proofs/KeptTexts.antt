@@ -1,8 +1,8 @@
 -- The texts of views of which a state is kept.
 use Rattle.std.proofs.Common.{◌≡◌, ◌∙◌, List, Option, Result, sym, ap, subst}
 use Rattle.iv_bytes.specs.Sinks.{SinkState, Puts}
-use Rattle.iv_text.specs.Genome.{Sequences}
-use Rattle.iv_text.specs.RecordValue.{RecordValue}
+use Rattle.iv_lines.specs.Genome.{Sequences}
+use Rattle.iv_lines.specs.RecordValue.{RecordValue}
 use Rattle.iv_track.specs.declared.region.Region.{Region}
 use Rattle.iv_blocks.specs.declared.options.BlockOptions.{BlockOptions}
 use Rattle.iv_view.specs.KeptStates.{state_key}

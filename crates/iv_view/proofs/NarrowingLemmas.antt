@@ -5,8 +5,8 @@ use Rattle.std.specs.Option.{option_map, ok_or}
 use Rattle.std.specs.Str.{bytes_eq}
 use Rattle.std.proofs.lemmas.Bool.{cases_lt, cond-true, cond-false, le-leb, ne_eqb, and_right}
 use Rattle.std.proofs.lemmas.List.{take_all, take-append-le}
-use Rattle.iv_text.specs.declared.fault.Fault.{Fault}
-use Rattle.iv_text.specs.declared.fault.Fault.TheVariants as fault
+use Rattle.iv_lines.specs.declared.fault.Fault.{Fault}
+use Rattle.iv_lines.specs.declared.fault.Fault.TheVariants as fault
 use Rattle.iv_cover.specs.Columns.{column_numbered}
 use Rattle.iv_cover.specs.declared.column.Column.{Column}
 use Rattle.iv_cover.specs.declared.column.ColumnSummary.{ColumnSummary}
@@ -18,7 +18,7 @@ use Rattle.iv_blocks.specs.declared.options.Summaries.{Summaries}
 use Rattle.iv_fasta.specs.declared.rows.FastaOutput.{FastaOutput}
 use Rattle.iv_pair.specs.declared.pair_rows.PairOutput.{PairOutput}
 use Rattle.iv_pair.specs.declared.pair_rows.PairOutput.TheVariants as pair
-use Rattle.iv_text.specs.Chains.{if_ok}
+use Rattle.iv_lines.specs.Chains.{if_ok}
 use Rattle.iv_view.specs.Flags.{only_flag, beside_flag, genomecov_rows, intersect_said, fasta_said}
 use Rattle.iv_view.specs.Lists.{all_some, pairs}
 use Rattle.iv_view.specs.Merge.{MergeArgs, said_by, nothing_said, distance_of, lists_of, summary_within, merge_options, cluster_distance}

@@ -17,31 +17,33 @@ use Rattle.std.proofs.lemmas.Slice.Eq.{bytes_eq-Decides}
 use Rattle.iv_text.specs.BedFile.{is_unread, is_headed, is_width, Bed, Draft, after_record, bed_of}
 use Rattle.iv_text.specs.BedReading.{after_records, finished}
 use Rattle.iv_text.specs.Inside.BedFile.{width_at, with_row}
-use Rattle.iv_text.specs.Fields.{columns, fields}
-use Rattle.iv_text.specs.Genome.{Sequences, length_at, sequence_name}
-use Rattle.iv_text.specs.Inside.Fields.{HasNoTab, is_separator}
-use Rattle.iv_text.specs.Lines.{lines, HasNoFeed, begins_with}
-use Rattle.iv_text.specs.Named.{names_of, name_index}
-use Rattle.iv_text.specs.Number.{number}
-use Rattle.iv_text.specs.Inside.Number.{decimal_from}
-use Rattle.iv_text.specs.Ordered.{ordered}
-use Rattle.iv_text.specs.Read.{read, read_columns, feature, column, has_fault, faults, bad_text, number_in, length_of, Fits}
-use Rattle.iv_text.specs.Chains.{unless_fault}
-use Rattle.iv_text.specs.Inside.Read.{is_line_byte}
-use Rattle.iv_text.specs.RecordText.{record_text, strand_text}
-use Rattle.iv_text.specs.RecordValue.{RecordValue, strand_of, record_cmp}
-use Rattle.iv_text.specs.declared.fault.Fault.{Fault}
-use Rattle.iv_text.specs.declared.fault.Fault.TheVariants as fault
-use Rattle.iv_text.specs.declared.fault.LoadCause.{LoadCause}
-use Rattle.iv_text.specs.declared.fault.LoadCause.TheVariants as cause
-use Rattle.iv_text.specs.declared.fault.LoadFault.{LoadFault}
-use Rattle.iv_text.specs.declared.record_ref.Strand.{Strand}
-use Rattle.iv_text.specs.declared.record_ref.Strand.TheVariants.{Plus, Minus, Dot}
+use Rattle.iv_lines.specs.Fields.{columns, fields}
+use Rattle.iv_lines.specs.Genome.{Sequences, length_at, sequence_name}
+use Rattle.iv_lines.specs.Inside.Fields.{HasNoTab, is_separator}
+use Rattle.iv_lines.specs.Lines.{lines, HasNoFeed, begins_with}
+use Rattle.iv_lines.specs.Named.{names_of, name_index}
+use Rattle.iv_lines.specs.Number.{number}
+use Rattle.iv_lines.specs.Inside.Number.{decimal_from}
+use Rattle.iv_lines.specs.Ordered.{ordered}
+use Rattle.iv_lines.specs.Read.{read, read_columns, feature, column, has_fault, faults, bad_text, number_in, length_of, Fits}
+use Rattle.iv_lines.specs.Chains.{unless_fault}
+use Rattle.iv_lines.specs.Inside.Read.{is_line_byte}
+use Rattle.iv_lines.specs.RecordText.{record_text, strand_text}
+use Rattle.iv_lines.specs.RecordValue.{RecordValue, strand_of, record_cmp}
+use Rattle.iv_lines.specs.declared.fault.Fault.{Fault}
+use Rattle.iv_lines.specs.declared.fault.Fault.TheVariants as fault
+use Rattle.iv_lines.specs.declared.fault.LoadCause.{LoadCause}
+use Rattle.iv_lines.specs.declared.fault.LoadCause.TheVariants as cause
+use Rattle.iv_lines.specs.declared.fault.LoadFault.{LoadFault}
+use Rattle.iv_lines.specs.declared.record_ref.Strand.{Strand}
+use Rattle.iv_lines.specs.declared.record_ref.Strand.TheVariants.{Plus, Minus, Dot}
 use Rattle.iv_text.proofs.BedLemmas.{row-unread, row-columns, row-taken}
-use Rattle.iv_text.proofs.FileMeaningLemmas.{same-ok, ok-err}
-use Rattle.iv_text.proofs.LineLemmas.{lines-line, strip-is, strip-more}
-use Rattle.iv_text.proofs.OnePassLemmas.{decimal-more, digits-more, number-is, digit-bound, bound-more, powers-grow, column-more, column-last, read-ranked}
-use Rattle.iv_text.proofs.OrderedLemmas.{all-all_added, length-all_added}
+use Rattle.iv_lines.proofs.FileMeaningLemmas.{same-ok, ok-err}
+use Rattle.iv_lines.proofs.LineLemmas.{lines-line, strip-is, strip-more}
+use Rattle.iv_lines.proofs.NumberLemmas.{decimal-more, digits-more, number-is, digit-bound, bound-more, powers-grow}
+use Rattle.iv_lines.proofs.FieldLemmas.{column-more, column-last}
+use Rattle.iv_text.proofs.OnePassLemmas.{read-ranked}
+use Rattle.iv_lines.proofs.OrderedLemmas.{all-all_added, length-all_added}
 use Rattle.iv_view.specs.Inside.RowsAgain.{IsOfLine, IsBedRow}
 use Rattle.iv_pair.specs.IntersectRows.{record_line}
 use Rattle.iv_view.specs.Inside.Texts.{records_text}

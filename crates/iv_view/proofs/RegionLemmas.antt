@@ -5,10 +5,10 @@ use Rattle.std.proofs.lemmas.Bool.{and_from, and_parts, lt-ltb, ltb-true}
 use Rattle.std.proofs.lemmas.List.Sums.{length-filter}
 use Rattle.std.proofs.lemmas.Grind.{flat_map-append}
 use Rattle.iv_cover.specs.Depth.{depth}
-use Rattle.iv_text.specs.CoveredPositions.{covers}
-use Rattle.iv_text.proofs.ListLemmas.{filter-agree, filter-weaker, same_tests}
-use Rattle.iv_text.specs.Genome.{Sequences}
-use Rattle.iv_text.specs.RecordValue.{RecordValue}
+use Rattle.iv_lines.specs.CoveredPositions.{covers}
+use Rattle.iv_lines.proofs.ListLemmas.{filter-agree, filter-weaker, same_tests}
+use Rattle.iv_lines.specs.Genome.{Sequences}
+use Rattle.iv_lines.specs.RecordValue.{RecordValue}
 use Rattle.iv_fasta.specs.Fasta.{Bases}
 use Rattle.iv_pair.proofs.HitsLemmas.{covers_from, covers_parts}
 use Rattle.iv_track.specs.Regions.{hits, longest, near, overlaps}

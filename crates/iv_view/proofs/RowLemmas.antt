@@ -4,8 +4,8 @@ use Rattle.std.specs.Prelude.{codes}
 use Rattle.std.specs.List.{flat_map}
 use Rattle.std.proofs.lemmas.Slice.Eq.{bytes_eq-Decides}
 use Rattle.iv_fasta.specs.declared.rows.FastaOutput.{FastaOutput}
-use Rattle.iv_text.specs.Genome.{Sequences}
-use Rattle.iv_text.specs.RecordValue.{RecordValue}
+use Rattle.iv_lines.specs.Genome.{Sequences}
+use Rattle.iv_lines.specs.RecordValue.{RecordValue}
 use Rattle.iv_view.specs.Flags.{intersect_said, fasta_said}
 use Rattle.iv_view.specs.Views.{written_rows}
 use Rattle.iv_view.specs.declared.written_view.WrittenView.TheVariants.{Getfasta}

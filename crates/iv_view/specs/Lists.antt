@@ -2,8 +2,8 @@
 use Rattle.std.specs.Prelude.{ℕ, ◌==◌, nat_le, max, if◌then◌else◌, List, [], ◌∷◌, map, length, replicate, Option, None, Some}
 use Rattle.std.specs.List.{zip}
 use Rattle.std.specs.Option.{option_map, option_zip}
-use Rattle.iv_text.specs.Bytes.{comma}
-use Rattle.iv_text.specs.Fields.{fields}
+use Rattle.iv_lines.specs.Bytes.{comma}
+use Rattle.iv_lines.specs.Fields.{fields}
 
 -- all of these, if none is missing
 abbrev pub all_some : {A : Type 0} → List (Option A) → Option (List A)

@@ -2,16 +2,16 @@
 use Rattle.std.specs.Prelude.{ℕ, Bool, true, false, nat_le, nat_lt, ◌&&◌, ◌||◌, if◌then◌else◌, List, [], ◌∷◌, map, Option, None, Some, Result, Ok, Err, codes, option_and_then}
 use Rattle.std.specs.Option.{option_map, option_zip, is_some, ok_or, unwrap_or}
 use Rattle.std.specs.Str.{bytes_eq}
-use Rattle.iv_text.specs.Number.{number}
-use Rattle.iv_text.specs.declared.fault.Fault.{Fault}
-use Rattle.iv_text.specs.declared.fault.Fault.TheVariants as fault
+use Rattle.iv_lines.specs.Number.{number}
+use Rattle.iv_lines.specs.declared.fault.Fault.{Fault}
+use Rattle.iv_lines.specs.declared.fault.Fault.TheVariants as fault
 use Rattle.iv_cover.specs.Columns.{column_numbered}
 use Rattle.iv_cover.specs.Summaries.{op_named}
 use Rattle.iv_cover.specs.declared.column.ColumnSummary.{ColumnSummary}
 use Rattle.iv_cover.specs.declared.op.Op.{Op}
 use Rattle.iv_blocks.specs.Groups.{filled}
 use Rattle.iv_blocks.specs.declared.options.BlockOptions.{BlockOptions}
-use Rattle.iv_text.specs.Chains.{if_ok}
+use Rattle.iv_lines.specs.Chains.{if_ok}
 use Rattle.iv_view.specs.Lists.{all_some, items_in, pairs}
 
 -- the options that are given: the values of `-d`, `-c` and `-o` as they are written, and whether `-s` is there

@@ -1,14 +1,14 @@
 -- A view that was read for records of six columns beside both files, on fewer columns or without one of the files.
 use Rattle.std.specs.Prelude.{ℕ, Bool, not, nat_le, nat_lt, ◌&&◌, if◌then◌else◌, List, Some, Result, Ok, Err}
 use Rattle.std.specs.List.{list_all}
-use Rattle.iv_text.specs.declared.fault.Fault.{Fault}
-use Rattle.iv_text.specs.declared.fault.Fault.TheVariants as fault
+use Rattle.iv_lines.specs.declared.fault.Fault.{Fault}
+use Rattle.iv_lines.specs.declared.fault.Fault.TheVariants as fault
 use Rattle.iv_cover.specs.declared.column.Column.{Column}
 use Rattle.iv_cover.specs.declared.column.Column.TheVariants.{Sequence, Start, Stop, Name, Score, Strand}
 use Rattle.iv_cover.specs.declared.column.ColumnSummary.{ColumnSummary}
 use Rattle.iv_blocks.specs.Groups.{listed}
 use Rattle.iv_blocks.specs.declared.options.BlockOptions.{BlockOptions}
-use Rattle.iv_text.specs.Chains.{if_ok}
+use Rattle.iv_lines.specs.Chains.{if_ok}
 use Rattle.iv_view.specs.Views.{beside_second, beside_fasta}
 use Rattle.iv_view.specs.declared.view.View.{View}
 use Rattle.iv_view.specs.declared.view.View.TheVariants as view

@@ -3,10 +3,10 @@ use Rattle.std.specs.Prelude.{ℕ, ◌+◌, ◌==◌, Bool, true, false, nat_lt,
 use Rattle.std.specs.List.{flat_map}
 use Rattle.std.specs.Option.{ok_or, option_map}
 use Rattle.std.specs.Str.{bytes_eq}
-use Rattle.iv_text.specs.Genome.{Sequences, sequence_length, sequence_name}
-use Rattle.iv_text.specs.RecordValue.{RecordValue}
-use Rattle.iv_text.specs.declared.fault.Fault.{Fault}
-use Rattle.iv_text.specs.declared.fault.Fault.TheVariants as fault
+use Rattle.iv_lines.specs.Genome.{Sequences, sequence_length, sequence_name}
+use Rattle.iv_lines.specs.RecordValue.{RecordValue}
+use Rattle.iv_lines.specs.declared.fault.Fault.{Fault}
+use Rattle.iv_lines.specs.declared.fault.Fault.TheVariants as fault
 use Rattle.iv_cover.specs.Depth.{depth}
 use Rattle.iv_blocks.specs.ClusterRows.{cluster_row}
 use Rattle.iv_blocks.specs.ComplementRows.{gap_rows}
@@ -23,7 +23,7 @@ use Rattle.iv_track.specs.Parts.{records_in, sequences_in}
 use Rattle.iv_track.specs.Steps.{TakesUpTo}
 use Rattle.iv_track.specs.Tracked.{Tracked, different_records}
 use Rattle.iv_track.specs.declared.region.Region.{Region}
-use Rattle.iv_text.specs.Chains.{if_ok}
+use Rattle.iv_lines.specs.Chains.{if_ok}
 use Rattle.iv_view.specs.Flags.{only_flag, beside_flag, genomecov_rows, intersect_said, fasta_said}
 use Rattle.iv_view.specs.Merge.{said_by, nothing_said, merge_options, cluster_distance}
 use Rattle.iv_view.specs.declared.view.View.{View}

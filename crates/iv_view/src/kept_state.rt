@@ -1,10 +1,10 @@
 //! What is kept for views: the blocks of records, or their depth.
 ghost use Rattle.std.specs.Prelude.{◌≡◌, ◌↔◌, ◌+◌, ◌*◌, None, Some, All, IsTrue, length};
 ghost use Rattle.iv_bytes.specs.Sinks.{Puts};
-ghost use Rattle.iv_text.specs.Named.{names_of};
-ghost use Rattle.iv_text.specs.Read.{Fits};
+ghost use Rattle.iv_lines.specs.Named.{names_of};
+ghost use Rattle.iv_lines.specs.Read.{Fits};
 ghost use Rattle.iv_view.specs.KeptStates.{built_for as what_is_kept, state_key as kept_for, state_key_of, IsRight, PrintsWithin, repair_steps};
-ghost use Rattle.iv_text.specs.Genome.{sequence_length};
+ghost use Rattle.iv_lines.specs.Genome.{sequence_length};
 ghost use Rattle.iv_track.specs.Regions.{near};
 ghost use Rattle.iv_track.specs.Steps.{TakesUpTo};
 ghost use Rattle.iv_cover.specs.Depth.{depth as depth_of};
@@ -19,7 +19,7 @@ use iv_blocks::{BlockOptions, Blocks};
 use iv_bytes::{Sink, WriteFault};
 use iv_cover::Kept;
 use iv_depth::{Depth, DepthOutput};
-use iv_text::{Genome, RecordRef};
+use iv_lines::{Genome, RecordRef};
 use iv_track::{Meter, Region, Track};
 use std::alloc::{AllocError, Allocator, Global};
 

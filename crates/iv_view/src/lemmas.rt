@@ -1,13 +1,13 @@
 //! Lemmas on the definitions: functions that do nothing, whose contracts are the lemmas.
 ghost use Rattle.std.specs.Prelude.{◌≡◌, ◌<◌, ◌≤◌, ◌↔◌, ◌++◌, ◌∷◌, All, ℕ, List, Some, None, Ok, IsPermutation, length, slice_get};
 ghost use Rattle.iv_text.specs.BedFile.{Bed, bed_of};
-ghost use Rattle.iv_text.specs.Genome.{Sequences};
-ghost use Rattle.iv_text.specs.Named.{names_of};
-ghost use Rattle.iv_text.specs.Ordered.{ordered};
-ghost use Rattle.iv_text.specs.Read.{read, Fits};
-ghost use Rattle.iv_text.specs.RecordText.{record_text};
-ghost use Rattle.iv_text.specs.RecordValue.{RecordValue};
-ghost use Rattle.iv_text.specs.Widths.{IsWidth};
+ghost use Rattle.iv_lines.specs.Genome.{Sequences};
+ghost use Rattle.iv_lines.specs.Named.{names_of};
+ghost use Rattle.iv_lines.specs.Ordered.{ordered};
+ghost use Rattle.iv_lines.specs.Read.{read, Fits};
+ghost use Rattle.iv_lines.specs.RecordText.{record_text};
+ghost use Rattle.iv_lines.specs.RecordValue.{RecordValue};
+ghost use Rattle.iv_lines.specs.Widths.{IsWidth};
 ghost use Rattle.iv_view.specs.Merge.{MergeArgs, said_by, nothing_said};
 ghost use Rattle.iv_view.specs.Inside.RowsAgain.{IsBedRow};
 ghost use Rattle.iv_view.specs.Inside.Texts.{records_text};

@@ -2,12 +2,12 @@
 ghost use Rattle.std.specs.Prelude.{◌≡◌, ◌≤◌, ℕ, List, [], ◌∷◌, Option, Some, None, IsSome, MatchOption, nat_le, if◌then◌else◌, length, map, replicate};
 ghost use Rattle.std.specs.List.{zip};
 ghost use Rattle.std.specs.Option.{option_map, option_copied, ok_or};
-ghost use Rattle.iv_text.specs.Number.{number};
-ghost use Rattle.iv_text.specs.declared.fault.Fault.TheVariants as fault;
+ghost use Rattle.iv_lines.specs.Number.{number};
+ghost use Rattle.iv_lines.specs.declared.fault.Fault.TheVariants as fault;
 ghost use Rattle.iv_cover.specs.Summaries.{op_named};
 ghost use Rattle.iv_blocks.specs.Groups.{filled};
 ghost use Rattle.iv_view.specs.Lists.{all_some, items_in, of_length, pairs};
-ghost use Rattle.iv_text.specs.Chains.{if_ok};
+ghost use Rattle.iv_lines.specs.Chains.{if_ok};
 ghost use Rattle.iv_view.specs.Merge.{said_by, nothing_said, with_option, merge_options, cluster_distance, distance_of, lists_of, summary_within};
 ghost use Rattle.iv_view.specs.NarrowedViews.{number_of as number_of_column, has_columns as columns_are_there, narrowed_options};
 
@@ -15,7 +15,7 @@ use crate::view::ViewFault;
 use arrayvec::ArrayVec;
 use iv_blocks::{BlockOptions, Summaries};
 use iv_cover::{Column, ColumnSummary, Op};
-use iv_text::{Fields, read_number};
+use iv_lines::{Fields, read_number};
 use std::marker::Model;
 
 /// The greatest distance.

@@ -6,7 +6,7 @@ ghost use Rattle.iv_track.specs.Tracked.{different_records};
 ghost use Rattle.iv_view.specs.Inside.Texts.{records_text};
 
 use iv_bytes::{Sink, WriteFault};
-use iv_text::{Genome, put_line};
+use iv_lines::{Genome, put_line};
 use iv_track::{Meter, Track, TrackRecord};
 use std::alloc::Allocator;
 

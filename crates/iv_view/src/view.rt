@@ -9,8 +9,8 @@ use crate::written_view::WrittenView;
 use iv_blocks::BlockOptions;
 use iv_depth::DepthOutput;
 use iv_fasta::FastaOutput;
+use iv_lines::Fault;
 use iv_pair::PairOutput;
-use iv_text::Fault;
 use std::alloc::Allocator;
 
 /// Why a view is not opened, in the order in which the causes are looked for: `BadName`, `Taken`, `TooMany`, `Words`, `Column`,

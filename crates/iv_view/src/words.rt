@@ -1,8 +1,8 @@
 //! The words of a text.
 ghost use Rattle.std.specs.Prelude.{◌≡◌, ◌≤◌, map, take};
-ghost use Rattle.iv_text.specs.Fields.{words as words_of};
+ghost use Rattle.iv_lines.specs.Fields.{words as words_of};
 
-use iv_text::Fields;
+use iv_lines::Fields;
 use std::marker::Model;
 
 /// How many words of a text are looked at: no view has as many.

@@ -12,8 +12,8 @@ ghost use Rattle.iv_view.specs.declared.view.View.TheVariants.{Written};
 use crate::records::print_records;
 use iv_bytes::{Sink, WriteFault};
 use iv_fasta::{Fasta, FastaOutput, put_fasta};
+use iv_lines::{BedRecord, Genome, put_line};
 use iv_pair::{PairOutput, Second, print_fasta, print_pairs, put_pair_rows};
-use iv_text::{BedRecord, Genome, put_line};
 use iv_track::{Meter, Region, Track, TrackRecord};
 use std::alloc::Allocator;
 

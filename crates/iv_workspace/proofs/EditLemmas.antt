@@ -1,12 +1,12 @@
 -- Edits of the two tracks of a session.
 use Rattle.std.specs.Prelude.{All, IsSomeAnd}
 use Rattle.std.proofs.Common.{◌≡◌, ◌∙◌, ℕ, ◌<◌, List, [], ◌∷◌, Option, None, Some, length, arith, refl, sym, ap, subst}
-use Rattle.iv_text.specs.Genome.{Sequences}
-use Rattle.iv_text.specs.Ordered.{AreInOrder, copies}
-use Rattle.iv_text.specs.Read.{Fits}
-use Rattle.iv_text.specs.RecordValue.{RecordValue, record_cmp, records_total}
-use Rattle.iv_text.proofs.OrderedLemmas.{copies-added, length-added}
-use Rattle.iv_text.proofs.RecordLemmas.{rows_exact}
+use Rattle.iv_lines.specs.Genome.{Sequences}
+use Rattle.iv_lines.specs.Ordered.{AreInOrder, copies}
+use Rattle.iv_lines.specs.Read.{Fits}
+use Rattle.iv_lines.specs.RecordValue.{RecordValue, record_cmp, records_total}
+use Rattle.iv_lines.proofs.OrderedLemmas.{copies-added, length-added}
+use Rattle.iv_lines.proofs.RecordLemmas.{rows_exact}
 use Rattle.iv_track.specs.Edits.{with_record, without_record, with_replaced}
 use Rattle.iv_track.specs.Tracked.{Tracked}
 use Rattle.iv_track.proofs.Counts.{length-removed, removed-added}

@@ -6,8 +6,8 @@ use Rattle.std.specs.Map.{values_of, lookup, remove_entry}
 use Rattle.std.specs.Option.{is_some, option_map}
 use Rattle.std.specs.Str.{bytes_eq}
 use Rattle.std.proofs.lemmas.List.{length-append, map-append}
-use Rattle.iv_text.proofs.NamedLemmas.{set_value_at}
-use Rattle.iv_text.specs.RecordValue.{RecordValue}
+use Rattle.iv_lines.proofs.NamedLemmas.{set_value_at}
+use Rattle.iv_lines.specs.RecordValue.{RecordValue}
 use Rattle.iv_view.specs.KeptStates.{repair_steps_of}
 use Rattle.iv_view.specs.declared.view.View.{View}
 use Rattle.iv_workspace.specs.Inside.ViewStates.{all_seen, seen}

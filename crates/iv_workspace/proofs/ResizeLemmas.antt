@@ -6,16 +6,16 @@ use Rattle.std.specs.Option.{is_some, ok_or, option_map, option_map_or, unwrap_o
 use Rattle.std.specs.Prelude.{All, IfSome, filter, not}
 use Rattle.std.proofs.lemmas.Bool.{and_parts, and_cases, or_parts, or_from, or_left, not-false, cases_Bool, cases_eq, cond-true, cond-false, ne_eqb, ltb-true, ltb-false, lt-ltb, eqb-true, eqb-false, false_from_ne_true}
 use Rattle.std.proofs.lemmas.Map.Views.{exact_unsigned_eq}
-use Rattle.iv_text.specs.Chains.{if_ok}
-use Rattle.iv_text.specs.Genome.{Sequences, length_at, with_length}
-use Rattle.iv_text.specs.Named.{name_index}
-use Rattle.iv_text.specs.Read.{IsWithin, Fits}
-use Rattle.iv_text.specs.RecordValue.{RecordValue}
-use Rattle.iv_text.proofs.LengthLemmas.{length-with_length, length_at-with_length, length_at-other, rank-within}
+use Rattle.iv_lines.specs.Chains.{if_ok}
+use Rattle.iv_lines.specs.Genome.{Sequences, length_at, with_length}
+use Rattle.iv_lines.specs.Named.{name_index}
+use Rattle.iv_lines.specs.Read.{IsWithin, Fits}
+use Rattle.iv_lines.specs.RecordValue.{RecordValue}
+use Rattle.iv_lines.proofs.LengthLemmas.{length-with_length, length_at-with_length, length_at-other, rank-within}
 use Rattle.iv_track.specs.Tracked.{Tracked}
-use Rattle.iv_text.proofs.ListLemmas.{Mem, all-mem, mem-all, any-found, any-at, any-none, any-from_none, mem-filter, mem-filter_from}
-use Rattle.iv_text.specs.declared.fault.Fault.{Fault}
-use Rattle.iv_text.specs.declared.fault.Fault.TheVariants as fault
+use Rattle.iv_lines.proofs.ListLemmas.{Mem, all-mem, mem-all, any-found, any-at, any-none, any-from_none, mem-filter, mem-filter_from}
+use Rattle.iv_lines.specs.declared.fault.Fault.{Fault}
+use Rattle.iv_lines.specs.declared.fault.Fault.TheVariants as fault
 use Rattle.iv_fasta.specs.Fasta.{Bases, bases_of, HasLengthsOf}
 use Rattle.iv_track.specs.Regions.{overlaps}
 use Rattle.iv_view.specs.Views.{second_records}

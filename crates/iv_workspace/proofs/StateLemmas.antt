@@ -8,9 +8,9 @@ use Rattle.std.specs.Map.{keys_of, values_of, lookup, remove_entry}
 use Rattle.std.specs.Str.{bytes_eq}
 use Rattle.std.proofs.lemmas.List.{map-append}
 use Rattle.std.proofs.lemmas.List.Quantifiers.{position-Some}
-use Rattle.iv_text.proofs.NamedLemmas.{set_value_at, unnamed}
-use Rattle.iv_text.specs.Named.{name_index}
-use Rattle.iv_text.specs.RecordValue.{RecordValue}
+use Rattle.iv_lines.proofs.NamedLemmas.{set_value_at, unnamed}
+use Rattle.iv_lines.specs.Named.{name_index}
+use Rattle.iv_lines.specs.RecordValue.{RecordValue}
 use Rattle.iv_view.specs.KeptStates.{built_for, state_key_of, IsRight}
 use Rattle.iv_view.specs.declared.kept_state.KeptState.{KeptState}
 use Rattle.iv_view.specs.declared.kept_state.StateKey.{StateKey}

@@ -4,9 +4,9 @@ use Rattle.std.proofs.Common.{◌+◌, ◌<◌, ◌≡◌, ◌⊎◌, ◌∙◌,
 use Rattle.std.specs.Prelude.{IfSome, IsSomeAnd}
 use Rattle.std.specs.Map.{lookup}
 use Rattle.std.specs.Str.{bytes_eq}
-use Rattle.iv_text.specs.Named.{name_index}
-use Rattle.iv_text.specs.Genome.{Sequences}
-use Rattle.iv_text.specs.RecordValue.{RecordValue}
+use Rattle.iv_lines.specs.Named.{name_index}
+use Rattle.iv_lines.specs.Genome.{Sequences}
+use Rattle.iv_lines.specs.RecordValue.{RecordValue}
 use Rattle.iv_track.specs.declared.region.Region.{Region}
 use Rattle.iv_view.specs.declared.view.View.{View}
 use Rattle.iv_view.specs.declared.view.View.TheVariants as view

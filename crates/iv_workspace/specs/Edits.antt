@@ -1,12 +1,12 @@
 -- Edits of the two tracks of a session: what an edit leaves, how many steps it takes, and why it is refused; and the records of the second file.
 use Rattle.std.specs.Prelude.{ℕ, ◌≡◌, ◌≤◌, ◌<◌, ◌⊎◌, ◌+◌, List, Option, None, Some, Result, Ok, Err, IsSomeAnd, length}
 use Rattle.std.specs.Option.{ok_or, option_map}
-use Rattle.iv_text.specs.Genome.{Sequences}
-use Rattle.iv_text.specs.Ordered.{added, copies}
-use Rattle.iv_text.specs.Read.{Fits, read}
-use Rattle.iv_text.specs.RecordValue.{RecordValue}
-use Rattle.iv_text.specs.declared.fault.Fault.{Fault}
-use Rattle.iv_text.specs.declared.fault.Fault.TheVariants as fault
+use Rattle.iv_lines.specs.Genome.{Sequences}
+use Rattle.iv_lines.specs.Ordered.{added, copies}
+use Rattle.iv_lines.specs.Read.{Fits, read}
+use Rattle.iv_lines.specs.RecordValue.{RecordValue}
+use Rattle.iv_lines.specs.declared.fault.Fault.{Fault}
+use Rattle.iv_lines.specs.declared.fault.Fault.TheVariants as fault
 use Rattle.iv_track.specs.Edits.{RefusesAdd, RefusesRemove, RefusesReplace, with_record, without_record, with_replaced}
 use Rattle.iv_track.specs.Tracked.{Tracked}
 use Rattle.iv_workspace.specs.OpenViews.{Stales, all_steps, stale_count}

@@ -1,9 +1,9 @@
 -- What prints of views leave.
 use Rattle.std.specs.Prelude.{◌≡◌, ◌<◌, ◌+◌, ℕ, length, true, false, List, [], ◌∷◌, Option, None, Some, Result, Ok, Err, IsSome, MatchOption}
 use Rattle.iv_bytes.specs.Sinks.{SinkState, Takes, FailsIn}
-use Rattle.iv_text.specs.Genome.{Sequences}
-use Rattle.iv_text.specs.RecordValue.{RecordValue}
-use Rattle.iv_text.specs.declared.fault.Fault.TheVariants as fault
+use Rattle.iv_lines.specs.Genome.{Sequences}
+use Rattle.iv_lines.specs.RecordValue.{RecordValue}
+use Rattle.iv_lines.specs.declared.fault.Fault.TheVariants as fault
 use Rattle.iv_track.specs.Regions.{near}
 use Rattle.iv_track.specs.Steps.{TakesUpTo}
 use Rattle.iv_track.specs.declared.region.Region.{Region}

@@ -1,12 +1,12 @@
 -- The region of a sequence that three fields mean.
 use Rattle.std.specs.Prelude.{ℕ, List, [], ◌∷◌, Result, Ok, find}
 use Rattle.std.specs.Option.{unwrap_or}
-use Rattle.iv_text.specs.Chains.{unless_fault}
-use Rattle.iv_text.specs.Genome.{Sequences}
-use Rattle.iv_text.specs.Named.{name_index}
-use Rattle.iv_text.specs.Read.{has_fault, number_in}
-use Rattle.iv_text.specs.declared.fault.Fault.{Fault}
-use Rattle.iv_text.specs.declared.fault.Fault.TheVariants as fault
+use Rattle.iv_lines.specs.Chains.{unless_fault}
+use Rattle.iv_lines.specs.Genome.{Sequences}
+use Rattle.iv_lines.specs.Named.{name_index}
+use Rattle.iv_lines.specs.Read.{has_fault, number_in}
+use Rattle.iv_lines.specs.declared.fault.Fault.{Fault}
+use Rattle.iv_lines.specs.declared.fault.Fault.TheVariants as fault
 use Rattle.iv_track.specs.declared.region.Region.{Region}
 
 -- the region that a name, a start and an end mean, or the first of these faults of a record of these three columns

@@ -2,12 +2,12 @@
 use Rattle.std.specs.Prelude.{ℕ, ◌==◌, ◌&&◌, ◌||◌, not, nat_lt, Bool, false, if◌then◌else◌, List, [], Option, Result, Ok, Err, length}
 use Rattle.std.specs.List.{list_any}
 use Rattle.std.specs.Option.{ok_or, option_map, option_map_or, unwrap_or}
-use Rattle.iv_text.specs.Chains.{if_ok}
-use Rattle.iv_text.specs.Genome.{with_length}
-use Rattle.iv_text.specs.Named.{name_index}
-use Rattle.iv_text.specs.RecordValue.{RecordValue}
-use Rattle.iv_text.specs.declared.fault.Fault.{Fault}
-use Rattle.iv_text.specs.declared.fault.Fault.TheVariants as fault
+use Rattle.iv_lines.specs.Chains.{if_ok}
+use Rattle.iv_lines.specs.Genome.{with_length}
+use Rattle.iv_lines.specs.Named.{name_index}
+use Rattle.iv_lines.specs.RecordValue.{RecordValue}
+use Rattle.iv_lines.specs.declared.fault.Fault.{Fault}
+use Rattle.iv_lines.specs.declared.fault.Fault.TheVariants as fault
 use Rattle.iv_fasta.specs.Fasta.{Bases, bases_of}
 use Rattle.iv_view.specs.Views.{second_records}
 use Rattle.iv_workspace.specs.States.{State}

@@ -1,10 +1,10 @@
 -- A session as contracts see it.
 use Rattle.std.specs.Prelude.{ℕ, List, [], Option, IsSomeAnd, option_map}
-use Rattle.iv_text.specs.Genome.{Sequences}
+use Rattle.iv_lines.specs.Genome.{Sequences}
 use Rattle.iv_text.specs.BedFile.{Bed}
-use Rattle.iv_text.specs.RecordValue.{RecordValue}
-use Rattle.iv_text.specs.Ordered.{ordered}
-use Rattle.iv_text.specs.Read.{Fits}
+use Rattle.iv_lines.specs.RecordValue.{RecordValue}
+use Rattle.iv_lines.specs.Ordered.{ordered}
+use Rattle.iv_lines.specs.Read.{Fits}
 use Rattle.iv_fasta.specs.Fasta.{Bases}
 use Rattle.iv_track.specs.Tracked.{Tracked}
 use Rattle.iv_workspace.specs.OpenViews.{Shown}

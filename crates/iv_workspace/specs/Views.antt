@@ -4,9 +4,9 @@ use Rattle.std.specs.List.{list_all, flat_map}
 use Rattle.std.specs.Option.{is_some, unwrap_or}
 use Rattle.std.specs.Map.{lookup}
 use Rattle.std.specs.Str.{bytes_eq}
-use Rattle.iv_text.specs.Fault.{code_of}
-use Rattle.iv_text.specs.declared.fault.Fault.{Fault}
-use Rattle.iv_text.specs.declared.fault.Fault.TheVariants as fault
+use Rattle.iv_lines.specs.Fault.{code_of}
+use Rattle.iv_lines.specs.declared.fault.Fault.{Fault}
+use Rattle.iv_lines.specs.declared.fault.Fault.TheVariants as fault
 use Rattle.iv_track.specs.declared.region.Region.{Region}
 use Rattle.iv_view.specs.Views.{read_arguments, second_records, shown_text}
 use Rattle.iv_view.specs.declared.view.View.{View}

@@ -3,7 +3,7 @@ ghost use Rattle.std.specs.Prelude.{◌≡◌, ◌≤◌, Some, None, IfSome};
 ghost use Rattle.iv_workspace.specs.Views.{print_code};
 
 use iv_bytes::WriteFault;
-use iv_text::Fault;
+use iv_lines::Fault;
 use std::alloc::AllocError;
 use thiserror::Error;
 
@@ -49,7 +49,7 @@ impl From<WriteFault> for PrintFault {
 
 impl From<AllocError> for PrintFault {
     ghost use Rattle.std.specs.Prelude.{◌≡◌};
-    ghost use Rattle.iv_text.specs.declared.fault.Fault.TheVariants.{NoMemory};
+    ghost use Rattle.iv_lines.specs.declared.fault.Fault.TheVariants.{NoMemory};
     ghost use Rattle.iv_workspace.specs.declared.fault.PrintFault.TheVariants.{Refused};
 
     ghost from_gives = { λ _ fault. fault ≡ Refused NoMemory };

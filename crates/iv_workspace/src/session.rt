@@ -1,10 +1,10 @@
 //! A session of a genome and a track, with its open views.
 ghost use Rattle.std.specs.Prelude.{◌≡◌, ◌+◌, ◌≤◌, ◌<◌, ◌↔◌, None, Some, All, length, not, IsTrue, IfOk, IfSome, option_map, Ok};
-ghost use Rattle.iv_text.specs.Ordered.{copies};
-ghost use Rattle.iv_text.specs.Read.{read, Fits};
+ghost use Rattle.iv_lines.specs.Ordered.{copies};
+ghost use Rattle.iv_lines.specs.Read.{read, Fits};
 ghost use Rattle.iv_track.specs.Tracked.{most_records};
 ghost use Rattle.iv_workspace.specs.States.{State, begun, tracked};
-ghost use Rattle.iv_text.specs.Widths.{IsWidth};
+ghost use Rattle.iv_lines.specs.Widths.{IsWidth};
 
 mod edits;
 mod lengths;
@@ -14,8 +14,9 @@ mod regions;
 use crate::views::Views;
 pub use edits::{Accepted, Edit, Target};
 use iv_fasta::Fasta;
+use iv_lines::{Genome, RecordFault, RecordRef, read_record};
 use iv_pair::Second;
-use iv_text::{BedBatches, BedFile, Genome, RecordFault, RecordRef, read_record};
+use iv_text::{BedBatches, BedFile};
 use iv_track::Track;
 use std::alloc::{AllocError, Allocator, Global};
 use std::marker::Model;
@@ -36,7 +37,7 @@ pub struct Session<A: Allocator + Copy = Global> {
 }
 
 impl<A: Allocator + Copy> Model for Session<A> {
-    ghost use Rattle.iv_text.specs.Named.{names_of};
+    ghost use Rattle.iv_lines.specs.Named.{names_of};
     ghost use Rattle.iv_workspace.specs.Inside.ViewStates.{AreRight, all_seen};
     ghost use Rattle.iv_workspace.specs.States.{State};
     ghost use Rattle.iv_workspace.specs.Inside.States.{IsSession};

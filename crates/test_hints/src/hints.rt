@@ -3,7 +3,7 @@ use crate::fixtures::{MemHintFiles, Named, hints, words_of};
 use iv_args::Slot;
 use iv_cli::ExitReason;
 use iv_hints::{Refusal, SeenScript, hint_of_refusal};
-use iv_text::{Fault, LoadCause, LoadFault};
+use iv_lines::{Fault, LoadCause, LoadFault};
 use std::alloc::{AllocError, Global};
 use std::test::Fail;
 

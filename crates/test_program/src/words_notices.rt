@@ -1,6 +1,6 @@
 //! Words that ask for help or for the version.
 use iv_args::{InfoRequest, Plan, Subcommand};
-use iv_text::Fault;
+use iv_lines::Fault;
 use std::test::Fail;
 use test_faults::words_of;
 

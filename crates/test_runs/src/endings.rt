@@ -3,9 +3,9 @@ use crate::piece_fixtures::plan_of;
 use iv_args::Slot;
 use iv_bytes::MemSink;
 use iv_cli::{ExitReason, run_status, status};
+use iv_lines::{Fault, LoadCause, LoadFault};
 use iv_run::CliFault;
 use iv_session::{RunCause, RunFault, Summary};
-use iv_text::{Fault, LoadCause, LoadFault};
 use std::test::Fail;
 
 /// The status of damage of a file.

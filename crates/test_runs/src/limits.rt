@@ -1,7 +1,8 @@
 //! Files at their limits.
 use iv_bytes::MemSource;
+use iv_lines::{Genome, LoadCause, LoadFault, RecordFault};
 use iv_run::{FileFault, read_all};
-use iv_text::{BedFile, Genome, LoadCause, LoadFault, RecordFault};
+use iv_text::BedFile;
 use std::test::Fail;
 
 /// Whether a text is read whole, with a limit, that fails after so many bytes and comes in pieces of so many.

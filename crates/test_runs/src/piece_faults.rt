@@ -5,8 +5,8 @@ use crate::piece_fixtures::{
 };
 use iv_args::Slot;
 use iv_bytes::{MemSource, StdSource};
+use iv_lines::{LoadCause, RecordFault};
 use iv_run::CliFault;
-use iv_text::{LoadCause, RecordFault};
 use std::io::ErrorKind;
 use std::test::Fail;
 use test_faults::{Bad, Device, FAILURES};

@@ -2,9 +2,9 @@
 use crate::shot_fixtures::GENOME;
 use iv_args::{Plan, Slot};
 use iv_bytes::{MemSink, MemSource, Source};
+use iv_lines::{LoadCause, LoadFault};
 use iv_locators::Span;
 use iv_run::{CliFault, FileFault, HeldRecords, IntervalsView, RunFiles, RunGenome};
-use iv_text::{LoadCause, LoadFault};
 use std::alloc::Allocator;
 use std::test::Fail;
 use test_faults::words_of;

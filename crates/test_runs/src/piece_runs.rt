@@ -2,8 +2,8 @@
 use crate::piece_fixtures::{DONE, SHORT, damage, ends, plan_of};
 use crate::shot_fixtures::{alone, beside, ends as ends_at_once, prints};
 use iv_args::Slot;
+use iv_lines::{LoadCause, RecordFault};
 use iv_run::IntervalsView;
-use iv_text::{LoadCause, RecordFault};
 use std::test::Fail;
 
 /// Whether a run of these arguments, separated by spaces, reads its BED file in pieces.

@@ -2,8 +2,9 @@
 use crate::shot_fixtures::times_refused;
 use iv_args::{Plan, Slot};
 use iv_bytes::{MemSink, MemSource};
+use iv_lines::{Fault, Genome};
 use iv_run::{FileFault, read_all};
-use iv_text::{BedFile, Fault, Genome};
+use iv_text::BedFile;
 use iv_workspace::{PrintFault, Session};
 use std::alloc::Global;
 use std::test::Fail;

@@ -5,8 +5,8 @@ use crate::shot_fixtures::copied;
 use iv_args::{Plan, Slot};
 use iv_bytes::MemSink;
 use iv_cli::load;
+use iv_lines::{LoadCause, RecordFault};
 use iv_run::{CliFault, Inputs};
-use iv_text::{LoadCause, RecordFault};
 use iv_workspace::Session;
 use std::test::Fail;
 

@@ -2,8 +2,8 @@
 use crate::piece_fixtures::damage;
 use crate::shot_fixtures::{alone, beside, ends, is_reported, prints, prints_each};
 use iv_args::Slot;
+use iv_lines::{Fault, LoadCause, RecordFault};
 use iv_run::{CliFault, Inputs};
-use iv_text::{Fault, LoadCause, RecordFault};
 use std::test::Fail;
 
 #[test]

@@ -1,7 +1,7 @@
 //! Arguments of runs of one subcommand.
 use crate::piece_fixtures::plan_of;
 use iv_args::{Plan, Slot, Subcommand};
-use iv_text::Fault;
+use iv_lines::Fault;
 use std::test::Fail;
 use test_faults::words_of;
 

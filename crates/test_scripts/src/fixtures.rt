@@ -1,13 +1,14 @@
 //! What several tests begin with.
 ghost use Rattle.std.specs.Prelude.{◌≤◌, All, IfOk, IfSome, length};
-ghost use Rattle.iv_text.specs.Read.{Fits};
-ghost use Rattle.iv_text.specs.Widths.{IsWidth};
+ghost use Rattle.iv_lines.specs.Read.{Fits};
+ghost use Rattle.iv_lines.specs.Widths.{IsWidth};
 
 use crate::failing::check_failing;
 use iv_bytes::{MemSink, MemSource};
 use iv_fasta::Fasta;
+use iv_lines::Genome;
 use iv_session::{RunFault, ScriptLimits, Summary, run_script};
-use iv_text::{BedFile, Genome};
+use iv_text::BedFile;
 use iv_workspace::Session;
 use std::alloc::Allocator;
 use std::test::Fail;

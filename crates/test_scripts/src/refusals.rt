@@ -1,8 +1,9 @@
 //! Scripts while an allocation fails: one of the line that is read, or one of the session.
 use crate::fixtures::SIZES;
 use iv_bytes::{MemSink, MemSource};
+use iv_lines::Genome;
 use iv_session::{RunCause, RunFault, ScriptLimits, Summary, run_script};
-use iv_text::{BedFile, Genome};
+use iv_text::BedFile;
 use iv_workspace::Session;
 use std::alloc::Global;
 use std::cell::Cell;

@@ -1,7 +1,7 @@
 //! Parts of sequences.
 use crate::fasta_fixtures::{fasta_of, genome};
 use iv_fasta::Fasta;
-use iv_text::LoadFault;
+use iv_lines::LoadFault;
 use std::test::Fail;
 
 /// Bases of the first and the third sequence of the genome, and of one that it lacks.

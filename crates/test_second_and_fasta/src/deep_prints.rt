@@ -3,8 +3,9 @@ ghost use Rattle.std.specs.Prelude.{◌<◌};
 
 use crate::second_fixtures::{SIZES, second_of};
 use iv_bytes::MemSink;
+use iv_lines::Genome;
 use iv_pair::{IntersectOutput, PairOutput, print_pairs};
-use iv_text::{BedFile, Genome};
+use iv_text::BedFile;
 use iv_track::{Meter, Track};
 use std::alloc::Global;
 use std::test::Fail;

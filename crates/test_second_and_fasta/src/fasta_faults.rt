@@ -1,6 +1,6 @@
 //! FASTA files with a fault.
 use crate::fasta_fixtures::{fasta_of, genome};
-use iv_text::{Genome, LoadCause, LoadFault};
+use iv_lines::{Genome, LoadCause, LoadFault};
 use std::test::Fail;
 
 /// The fault of a FASTA file.

@@ -1,6 +1,6 @@
 //! FASTA files that are read.
 use crate::fasta_fixtures::{fasta_of, genome, says};
-use iv_text::{Genome, LoadFault};
+use iv_lines::{Genome, LoadFault};
 use std::test::Fail;
 
 /// Whether a FASTA file has just these bases of the sequences.

@@ -1,6 +1,7 @@
 //! What several tests begin with.
 use iv_fasta::Fasta;
-use iv_text::{BedFile, Genome, LoadCause, LoadFault};
+use iv_lines::{Genome, LoadCause, LoadFault};
+use iv_text::BedFile;
 use iv_track::Track;
 use std::alloc::Allocator;
 use std::test::Fail;

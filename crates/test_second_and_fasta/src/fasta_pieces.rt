@@ -3,7 +3,7 @@ ghost use Rattle.std.specs.Prelude.{◌<◌};
 
 use crate::fasta_fixtures::fasta_of;
 use iv_fasta::{Fasta, FastaReader};
-use iv_text::{Genome, LoadFault};
+use iv_lines::{Genome, LoadFault};
 use std::alloc::Allocator;
 use std::test::Fail;
 

@@ -2,8 +2,8 @@
 use crate::fasta_fixtures::{fasta_of, holds, track_of};
 use iv_bytes::MemSink;
 use iv_fasta::{Fasta, FastaOutput};
+use iv_lines::Genome;
 use iv_pair::print_fasta;
-use iv_text::Genome;
 use iv_track::{Meter, Track};
 use std::test::Fail;
 

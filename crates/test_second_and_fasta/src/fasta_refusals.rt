@@ -2,7 +2,7 @@
 use crate::allocations::{Run, allocations};
 use crate::fasta_fixtures::{SIZES, fasta_of, says};
 use crate::fasta_pieces::in_pieces;
-use iv_text::{Genome, LoadCause, LoadFault};
+use iv_lines::{Genome, LoadCause, LoadFault};
 use std::alloc::Global;
 use std::test::Fail;
 use test_faults::RefusesNth;

@@ -1,8 +1,8 @@
 //! The hits of intervals.
 use crate::fasta_fixtures::holds;
 use crate::second_fixtures::{genome, second_of};
+use iv_lines::Genome;
 use iv_pair::Second;
-use iv_text::Genome;
 use std::alloc::Allocator;
 use std::test::Fail;
 

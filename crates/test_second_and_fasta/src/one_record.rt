@@ -4,8 +4,8 @@ use crate::fasta_prints::{PLAIN, STRANDED_TAB};
 use crate::second_fixtures::{genome, second_of};
 use iv_bytes::{MemSink, WriteFault};
 use iv_fasta::{Fasta, FastaOutput, put_fasta};
+use iv_lines::{Genome, Record, read_record};
 use iv_pair::{IntersectOutput, PairOutput, Second, put_intersect, put_subtract};
-use iv_text::{Genome, Record, read_record};
 use std::test::Fail;
 
 /// A second file whose first three records overlap the record from 10 to 20, which ends where the last one starts.

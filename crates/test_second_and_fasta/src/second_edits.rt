@@ -2,8 +2,8 @@
 use crate::fasta_fixtures::holds;
 use crate::hits::hits_are;
 use crate::second_fixtures::{genome, second_within};
+use iv_lines::{Genome, Record, read_record};
 use iv_pair::Second;
-use iv_text::{Genome, Record, read_record};
 use iv_track::{EditFault, Meter};
 use std::alloc::Allocator;
 use std::test::Fail;

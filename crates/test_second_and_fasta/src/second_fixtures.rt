@@ -2,8 +2,9 @@
 ghost use Rattle.std.specs.Prelude.{◌≤◌};
 ghost use Rattle.iv_track.specs.Tracked.{most_records};
 
+use iv_lines::{Genome, LoadFault};
 use iv_pair::Second;
-use iv_text::{BedFile, Genome, LoadFault};
+use iv_text::BedFile;
 use std::alloc::{AllocError, Allocator};
 
 /// A genome of two sequences, of 100 bases and of 50.

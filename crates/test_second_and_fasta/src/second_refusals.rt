@@ -2,8 +2,8 @@
 use crate::allocations::{Run, allocations};
 use crate::hits::hits_are;
 use crate::second_fixtures::{SIZES, second_of};
+use iv_lines::{Genome, LoadCause};
 use iv_pair::Second;
-use iv_text::{Genome, LoadCause};
 use std::alloc::{AllocError, Global};
 use std::test::Fail;
 use test_faults::RefusesNth;

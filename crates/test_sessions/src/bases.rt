@@ -3,7 +3,8 @@ use crate::around::{Around, edit_without_steps, print_around_edits};
 use crate::fixtures::{Edit, holds};
 use crate::lengths::answers;
 use iv_fasta::Fasta;
-use iv_text::{BedFile, Genome};
+use iv_lines::Genome;
+use iv_text::BedFile;
 use iv_workspace::{ResizeFault, Session};
 use std::test::Fail;
 

@@ -1,10 +1,11 @@
 //! What several tests begin with.
 ghost use Rattle.std.specs.Prelude.{◌≤◌, All, IfSome, length};
-ghost use Rattle.iv_text.specs.Read.{Fits};
-ghost use Rattle.iv_text.specs.Widths.{IsWidth};
+ghost use Rattle.iv_lines.specs.Read.{Fits};
+ghost use Rattle.iv_lines.specs.Widths.{IsWidth};
 
 use iv_bytes::MemSink;
-use iv_text::{BedFile, Genome, RecordFault};
+use iv_lines::{Genome, RecordFault};
+use iv_text::BedFile;
 use iv_track::EditFault;
 use iv_workspace::{Accepted, PrintFault, SecondFault, Session};
 use std::alloc::Allocator;

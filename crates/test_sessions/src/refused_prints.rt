@@ -1,6 +1,6 @@
 //! Prints of a session whose allocations may fail.
 use iv_bytes::MemSink;
-use iv_text::Fault;
+use iv_lines::Fault;
 use iv_workspace::{PrintFault, Session};
 use std::alloc::Global;
 use std::test::Fail;

@@ -3,7 +3,7 @@ use crate::apart::{SECOND, SIZES, View, apart, text};
 use crate::fixtures::{Edit, Files, alone, answer};
 use crate::refusals::in_refusing;
 use crate::refused_prints::is_print_refused_once;
-use iv_text::lines_of;
+use iv_lines::lines_of;
 use iv_track::EditFault;
 use iv_workspace::Session;
 use std::alloc::Global;

@@ -1,6 +1,6 @@
 //! The calls of a session, one by one.
 use crate::fixtures::{Edit, alone, answer, holds, in_session, prints, prints_into};
-use iv_text::{Fault, RecordFault};
+use iv_lines::{Fault, RecordFault};
 use iv_track::{EditFault, Meter};
 use iv_view::ViewFault;
 use iv_workspace::{PrintFault, Session};

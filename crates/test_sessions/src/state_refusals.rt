@@ -1,6 +1,6 @@
 //! Allocations of what is kept for views, each refused in turn while it is built or repaired.
 ghost use Rattle.std.specs.Prelude.{◌≡◌};
-ghost use Rattle.iv_text.specs.Named.{names_of};
+ghost use Rattle.iv_lines.specs.Named.{names_of};
 ghost use Rattle.iv_view.specs.KeptStates.{built_for, state_key, IsRight};
 
 use crate::apart::SIZES;

@@ -1,8 +1,8 @@
 //! What is kept for views: built, repaired and printed in direct calls, in counted steps.
 ghost use Rattle.std.specs.Prelude.{◌≡◌, true, IfOk};
-ghost use Rattle.iv_text.specs.Named.{names_of};
-ghost use Rattle.iv_text.specs.Ordered.{added as with_one};
-ghost use Rattle.iv_text.specs.Read.{Fits};
+ghost use Rattle.iv_lines.specs.Named.{names_of};
+ghost use Rattle.iv_lines.specs.Ordered.{added as with_one};
+ghost use Rattle.iv_lines.specs.Read.{Fits};
 ghost use Rattle.iv_cover.specs.Kept.{IsRightWithout};
 ghost use Rattle.iv_view.specs.KeptStates.{built_for, state_key, IsRight};
 
@@ -10,7 +10,7 @@ use crate::apart::SIZES;
 use crate::fixtures::{Files, alone, holds, in_session};
 use iv_bytes::MemSink;
 use iv_cover::Kept;
-use iv_text::RecordRef;
+use iv_lines::RecordRef;
 use iv_track::Meter;
 use iv_view::{KeptState, KeptView, View};
 use iv_workspace::Session;

@@ -10,7 +10,7 @@ use crate::sorted_places::refused_sorts;
 use crate::summaries::{refused_results, refused_summary};
 use crate::track_refusals::{Call, refused_build, refused_calls};
 use iv_cover::Op;
-use iv_text::{Genome, LoadCause, LoadFault, RecordRef};
+use iv_lines::{Genome, LoadCause, LoadFault, RecordRef};
 use std::alloc::Global;
 use std::test::Fail;
 use test_faults::{RefusesNth, refuse_each};

@@ -3,7 +3,7 @@ ghost use Rattle.std.specs.Prelude.{◌<◌};
 
 use crate::allocations::{Run, allocations};
 use crate::fixtures::holds;
-use iv_text::Batches;
+use iv_lines::Batches;
 use std::alloc::Global;
 use std::test::Fail;
 use test_faults::RefusesNth;

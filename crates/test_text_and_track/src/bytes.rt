@@ -1,5 +1,5 @@
 //! Numbers, columns, lines, strands.
-use iv_text::{Fields, Strand, columns, lines_of, read_number, read_strand, split_first_column};
+use iv_lines::{Fields, Strand, columns, lines_of, read_number, read_strand, split_first_column};
 
 #[test]
 fn numbers(rt: HostRuntime) {

@@ -2,7 +2,7 @@
 use crate::allocations::{Run, allocations};
 use crate::fixtures::{genome, holds};
 use iv_bytes::{MemSink, Sink};
-use iv_text::{Genome, Record, RecordRef, read_record};
+use iv_lines::{Genome, Record, RecordRef, read_record};
 use std::alloc::{Allocator, Global};
 use std::test::Fail;
 use test_faults::RefusesNth;

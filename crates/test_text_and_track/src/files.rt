@@ -1,6 +1,7 @@
 //! Genome files and BED files.
 use crate::fixtures::genome;
-use iv_text::{BedFile, Genome, LoadCause, LoadFault, RecordFault};
+use iv_lines::{Genome, LoadCause, LoadFault, RecordFault};
+use iv_text::BedFile;
 use std::test::Fail;
 
 /// The line and the cause of a file's fault.

@@ -1,7 +1,8 @@
 //! What several tests begin with.
 ghost use Rattle.std.specs.Prelude.{◌≡◌, ◌≤◌, length};
 
-use iv_text::{BedFile, Genome, LoadFault, Record};
+use iv_lines::{Genome, LoadFault, Record};
+use iv_text::BedFile;
 use iv_track::{Meter, Track};
 use std::alloc::{AllocError, Allocator};
 use std::test::Fail;

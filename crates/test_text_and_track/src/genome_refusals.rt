@@ -1,6 +1,6 @@
 //! Each allocation of reading a genome file, refused in turn.
 use crate::allocations::{Run, allocations, memory_of};
-use iv_text::{Genome, LoadCause, LoadFault};
+use iv_lines::{Genome, LoadCause, LoadFault};
 use std::alloc::{Allocator, Global};
 use std::test::Fail;
 use test_faults::RefusesNth;

@@ -1,8 +1,9 @@
 //! Each allocation of reading a BED file, at once and in pieces, refused in turn.
 use crate::allocations::{Reading, Run, allocations, memory_of};
 use crate::span_pieces::spans_of;
+use iv_lines::{Genome, LoadCause, LoadFault, Record, RecordFault, Strand};
 use iv_locators::Span;
-use iv_text::{BedFile, Genome, LoadCause, LoadFault, Record, RecordFault, Strand};
+use iv_text::BedFile;
 use std::alloc::{Allocator, Global};
 use std::test::Fail;
 use test_faults::RefusesNth;

@@ -1,7 +1,7 @@
 //! BED files as locators into their text.
 use crate::fixtures::holds;
+use iv_lines::{BedRecord, Genome, LoadCause, LoadFault, RecordFault, Strand};
 use iv_locators::{BedText, TextRecord, TextRecords};
-use iv_text::{BedRecord, Genome, LoadCause, LoadFault, RecordFault, Strand};
 use std::alloc::Allocator;
 use std::mem::size_of;
 use std::test::Fail;

@@ -1,6 +1,6 @@
 //! Records and intervals as they are printed.
 use iv_bytes::MemSink;
-use iv_text::{Genome, RowBuffer, put_line, put_numbered, put_record, read_record};
+use iv_lines::{Genome, RowBuffer, put_line, put_numbered, put_record, read_record};
 use std::test::Fail;
 
 /// A sink with room for any row of these tests.

@@ -1,6 +1,6 @@
 //! Records of several widths in batches.
 use crate::fixtures::{genome, holds};
-use iv_text::{Genome, KeepsRecords, Record, RecordBatches, read_record};
+use iv_lines::{Genome, KeepsRecords, Record, RecordBatches, read_record};
 use std::test::Fail;
 
 /// How many records a vector has at most.

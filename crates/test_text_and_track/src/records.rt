@@ -1,9 +1,7 @@
 //! Records of lines.
 use crate::fixtures::{genome, holds};
-use iv_text::{
-    BedFile, Genome, LoadCause, LoadFault, Record, RecordFault, RecordReader, RecordRef, Strand,
-    read_record,
-};
+use iv_lines::{Genome, LoadCause, LoadFault, Record, RecordFault, RecordRef, Strand, read_record};
+use iv_text::{BedFile, RecordReader};
 use std::cmp::Ordering;
 use std::mem::size_of;
 use std::test::Fail;

@@ -1,7 +1,7 @@
 //! Looks at regions of a track.
 
 use crate::fixtures::{genome, holds, track_of};
-use iv_text::{Genome, read_record};
+use iv_lines::{Genome, read_record};
 use iv_track::{Meter, Region, Track};
 use std::test::Fail;
 

@@ -1,6 +1,6 @@
 //! Calls at real sizes: code that fails above some size and claims that memory ran out is caught here.
 use crate::fixtures::{holds, track_of};
-use iv_text::{Genome, LoadCause, LoadFault};
+use iv_lines::{Genome, LoadCause, LoadFault};
 use iv_track::{Ledger, Meter, Track};
 use std::test::Fail;
 

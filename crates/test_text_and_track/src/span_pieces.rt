@@ -3,8 +3,9 @@ ghost use Rattle.std.specs.Prelude.{◌+◌, ◌<◌, ◌≤◌, ◌^◌, OnOk, 
 ghost use Rattle.iv_text.specs.BedReading.{AreSoundLines, size_of};
 
 use crate::places::SIZES;
+use iv_lines::{Genome, LoadCause, LoadFault, RecordFault};
 use iv_locators::Span;
-use iv_text::{BedReader, FromRecord, Genome, LoadCause, LoadFault, RecordFault};
+use iv_text::{BedReader, FromRecord};
 use std::alloc::Allocator;
 use std::test::Fail;
 

@@ -2,7 +2,7 @@
 use crate::allocations::{Run, allocations};
 use crate::fixtures::{holds, track_of};
 use iv_cover::{Column, ColumnSummary, Op, results, summary};
-use iv_text::Genome;
+use iv_lines::Genome;
 use iv_track::{Meter, Track, TrackRecord};
 use std::alloc::Global;
 use std::test::Fail;

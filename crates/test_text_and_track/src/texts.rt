@@ -1,5 +1,5 @@
 //! The texts and numbers of faults.
-use iv_text::{Fault, LoadCause, RecordFault, fault_text, load_text};
+use iv_lines::{Fault, LoadCause, RecordFault, fault_text, load_text};
 
 #[test]
 fn texts_of_script_faults(rt: HostRuntime) {

@@ -2,7 +2,7 @@
 ghost use Rattle.std.specs.Prelude.{◌≡◌, ◌≤◌, IfOk, length};
 
 use crate::fixtures::{add, genome, holds, replace, stage};
-use iv_text::{Genome, Record, read_record};
+use iv_lines::{Genome, Record, read_record};
 use iv_track::{Meter, Track};
 use std::alloc::Global;
 use std::test::Fail;

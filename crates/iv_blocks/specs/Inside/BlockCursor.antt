@@ -1,7 +1,7 @@
 -- A walk over kept blocks, one read ahead. This is the state of a print, as seen by its proof.
 use Rattle.std.specs.Prelude.{◌≡◌, ℕ, zero, suc, ◌+◌, ◌≤◌, ◌==◌, ◌&&◌, ◌||◌, nat_le, nat_lt, Bool, true, false, if◌then◌else◌, List, [], ◌∷◌, ◌++◌, Option, Some, None, map, length, drop}
 use Rattle.std.specs.List.{flat_map, prefix_len, take_while}
-use Rattle.iv_text.specs.Genome.{Sequences, sequence_length, sequence_name}
+use Rattle.iv_lines.specs.Genome.{Sequences, sequence_length, sequence_name}
 use Rattle.iv_cover.specs.Runs.{Run}
 use Rattle.iv_cover.specs.declared.block.Block.{Block}
 use Rattle.iv_blocks.specs.ComplementRows.{gap_row}

@@ -1,9 +1,9 @@
 -- What remains to be written during a sweep over blocks. This is the state of a print, as seen by its proof.
 use Rattle.std.specs.Prelude.{ℕ, ◌+◌, ◌++◌, List, [], ◌∷◌, Option, Some, None, codes, decimal}
 use Rattle.std.specs.List.{flat_map}
-use Rattle.iv_text.specs.Genome.{Sequences, sequence_name}
-use Rattle.iv_text.specs.RecordText.{record_text}
-use Rattle.iv_text.specs.RecordValue.{RecordValue}
+use Rattle.iv_lines.specs.Genome.{Sequences, sequence_name}
+use Rattle.iv_lines.specs.RecordText.{record_text}
+use Rattle.iv_lines.specs.RecordValue.{RecordValue}
 use Rattle.iv_cover.specs.declared.block.Block.{Block}
 use Rattle.iv_cover.specs.TrackBlocks.{BlockWithMembers}
 

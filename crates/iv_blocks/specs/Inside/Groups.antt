@@ -1,6 +1,6 @@
 -- Sides, and the records of a group that start within a range.
 use Rattle.std.specs.Prelude.{ℕ, ◌+◌, slice_set, ◌==◌, ◌&&◌, nat_le, nat_lt, Bool, true, false, List, filter}
-use Rattle.iv_text.specs.RecordValue.{RecordValue}
+use Rattle.iv_lines.specs.RecordValue.{RecordValue}
 use Rattle.iv_cover.specs.declared.column.Column.TheVariants.{Sequence}
 use Rattle.iv_cover.specs.declared.column.ColumnSummary.{ColumnSummary}
 use Rattle.iv_cover.specs.declared.op.Op.TheVariants.{Count}

@@ -1,8 +1,8 @@
 -- The members of a group that remain of a walk.
 use Rattle.std.specs.Prelude.{ℕ, ◌+◌, ◌≤◌, List, Option, None, Some}
 use Rattle.std.specs.List.{AllByRecursion}
-use Rattle.iv_text.specs.Ordered.{AreInOrder}
-use Rattle.iv_text.specs.RecordValue.{RecordValue}
+use Rattle.iv_lines.specs.Ordered.{AreInOrder}
+use Rattle.iv_lines.specs.RecordValue.{RecordValue}
 
 -- the members, in order, and how many records of the sequence, of any strand, the walk goes past for them
 pub record MembersLeft : Type 0 where

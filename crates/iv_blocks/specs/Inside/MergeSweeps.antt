@@ -1,7 +1,7 @@
 -- What remains to be written during a sweep. This is the state of a print, as seen by its proof.
 use Rattle.std.specs.Prelude.{ℕ, List, None, filter}
 use Rattle.std.specs.List.{flat_map}
-use Rattle.iv_text.specs.RecordValue.{RecordValue}
+use Rattle.iv_lines.specs.RecordValue.{RecordValue}
 use Rattle.iv_cover.specs.Inside.RemainingBlocks.{remaining_blocks}
 use Rattle.iv_cover.specs.TrackBlocks.{BlockWithMembers}
 use Rattle.iv_cover.specs.declared.column.ColumnSummary.{ColumnSummary}

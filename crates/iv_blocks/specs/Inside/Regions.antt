@@ -1,7 +1,7 @@
 -- The blocks of one group that may share a position with a region. This is the state of a print, as seen by its proof.
 use Rattle.std.specs.Prelude.{◌≡◌, ◌⊎◌, ℕ, ◌<◌, ◌≤◌, Bool, false, List, [], filter, Option, None, Some, if◌then◌else◌}
-use Rattle.iv_text.specs.Genome.{Sequences, sequence_length}
-use Rattle.iv_text.specs.RecordValue.{RecordValue}
+use Rattle.iv_lines.specs.Genome.{Sequences, sequence_length}
+use Rattle.iv_lines.specs.RecordValue.{RecordValue}
 use Rattle.iv_track.specs.Entries.{value_at}
 use Rattle.iv_cover.specs.Depth.{depth}
 use Rattle.iv_cover.specs.Runs.{Run, empty_runs}

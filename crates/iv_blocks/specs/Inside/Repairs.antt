@@ -14,7 +14,7 @@ use Rattle.iv_blocks.specs.declared.group.Group.{Group}
 use Rattle.iv_blocks.specs.declared.options.BlockOptions.{BlockOptions}
 use Rattle.iv_blocks.specs.Groups.{listed}
 use Rattle.iv_blocks.specs.Inside.Groups.{members_between}
-use Rattle.iv_text.specs.RecordValue.{RecordValue}
+use Rattle.iv_lines.specs.RecordValue.{RecordValue}
 
 -- what is kept, without the group's block that starts at x
 abbrev pub without_block : KeptBlocks → Group → ℕ → KeptBlocks

@@ -1,8 +1,8 @@
 -- The texts of views over blocks, of all sequences and of a region, as each print has them.
 use Rattle.std.specs.Prelude.{ℕ, ◌+◌, ◌==◌, Bool, ◌||◌, not, List, None}
 use Rattle.std.specs.List.{flat_map, list_any, range_with_len}
-use Rattle.iv_text.specs.Genome.{Sequences, seq_count, sequence_name}
-use Rattle.iv_text.specs.RecordValue.{RecordValue}
+use Rattle.iv_lines.specs.Genome.{Sequences, seq_count, sequence_name}
+use Rattle.iv_lines.specs.RecordValue.{RecordValue}
 use Rattle.iv_track.specs.Regions.{hits}
 use Rattle.iv_blocks.specs.ClusterRows.{blocks_until, cluster_row}
 use Rattle.iv_blocks.specs.ComplementRows.{gap_row, gap_rows}

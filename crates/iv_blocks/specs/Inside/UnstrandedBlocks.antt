@@ -1,8 +1,8 @@
 -- The blocks of a walk with strands together, as they are kept.
 use Rattle.std.specs.Prelude.{ℕ, ◌++◌, false, List, map, Option, Some}
 use Rattle.std.specs.Iterator.{YieldsFirst}
-use Rattle.iv_text.specs.Genome.{Sequences, sequence_name}
-use Rattle.iv_text.specs.RecordValue.{RecordValue}
+use Rattle.iv_lines.specs.Genome.{Sequences, sequence_name}
+use Rattle.iv_lines.specs.RecordValue.{RecordValue}
 use Rattle.iv_cover.specs.Inside.RemainingBlocks.{remaining_blocks}
 use Rattle.iv_cover.specs.TrackBlocks.{BlockWithMembers, with_members}
 use Rattle.iv_cover.specs.declared.block.Block.{Block}

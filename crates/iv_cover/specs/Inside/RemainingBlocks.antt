@@ -1,7 +1,7 @@
 -- The blocks that remain of a walk over records in order. This is the state of `BlockWalk`, as seen by its proof: a new
 -- `BlockWalk` shows `blocks_of`.
 use Rattle.std.specs.Prelude.{ℕ, ◌+◌, ◌==◌, ◌&&◌, nat_le, Bool, List, [], ◌∷◌, ◌++◌, max, Option, None, Some, if◌then◌else◌}
-use Rattle.iv_text.specs.RecordValue.{RecordValue}
+use Rattle.iv_lines.specs.RecordValue.{RecordValue}
 use Rattle.iv_cover.specs.TrackBlocks.{BlockWithMembers}
 
 -- the record joins the block: it is on the same sequence, and starts at most d past the block's stop

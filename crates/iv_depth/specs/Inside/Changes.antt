@@ -1,9 +1,9 @@
 -- Net changes of depth, and how one record changes them.
 use Rattle.std.specs.Prelude.{◌≡◌, ◌≢◌, ℕ, ◌<◌, ◌^◌, Bool, List, length, ℤ, pos, ◌+ℤ◌, All, if◌then◌else◌}
 use Rattle.std.specs.Map.{values_of}
-use Rattle.iv_text.specs.RecordValue.{RecordValue}
+use Rattle.iv_lines.specs.RecordValue.{RecordValue}
 use Rattle.iv_track.specs.Entries.{IsLedger, pair_cmp}
-use Rattle.iv_text.specs.CoveredPositions.{covers}
+use Rattle.iv_lines.specs.CoveredPositions.{covers}
 use Rattle.iv_depth.specs.Changes.{AreChangesOf, ChangeKey, Entries, reaches, total}
 
 -- these are the net changes of the depth of some records, which are few

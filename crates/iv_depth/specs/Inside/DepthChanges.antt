@@ -1,6 +1,6 @@
 -- The depth along a sequence, from its changes, as a print goes over them.
 use Rattle.std.specs.Prelude.{◌≡◌, ◌≢◌, ℕ, ◌+◌, ◌<◌, ◌≤◌, ◌^◌, Option, Some, None, ℤ, pos, ◌+ℤ◌}
-use Rattle.iv_text.specs.Genome.{Sequences, sequence_length}
+use Rattle.iv_lines.specs.Genome.{Sequences, sequence_length}
 
 -- f is d from this position up to that of the change, which is on the sequence, and has another value there, d and the change
 pub record IsChange (f : ℕ → ℕ) (from length d : ℕ) (c : ℕ × ℤ) : Type 0 where

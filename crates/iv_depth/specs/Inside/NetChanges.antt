@@ -1,6 +1,6 @@
 -- Where records start and stop, as keys in order, and the net changes of depth there. This is the state of a build, as seen by its proof.
 use Rattle.std.specs.Prelude.{◌≡◌, ℕ, ◌+◌, ◌*◌, ◌/◌, ◌%◌, ◌^◌, List, Option, Some, None, count_by, ℤ}
-use Rattle.iv_text.specs.RecordValue.{RecordValue}
+use Rattle.iv_lines.specs.RecordValue.{RecordValue}
 use Rattle.iv_cover.specs.Depth.{depth}
 use Rattle.iv_depth.specs.Changes.{ChangeKey, reaches}
 use Rattle.iv_depth.specs.Inside.Edges.{Rise, Remaining, GivesChange}

@@ -1,8 +1,8 @@
 -- The texts of depth, of all sequences and of a region, as each print has them.
 use Rattle.std.specs.Prelude.{ℕ, ◌-◌, filter, List}
 use Rattle.std.specs.List.{flat_map, range_with_len}
-use Rattle.iv_text.specs.Genome.{Sequences, seq_count, sequence_name, sequence_length}
-use Rattle.iv_text.specs.RecordValue.{RecordValue}
+use Rattle.iv_lines.specs.Genome.{Sequences, seq_count, sequence_name, sequence_length}
+use Rattle.iv_lines.specs.RecordValue.{RecordValue}
 use Rattle.iv_cover.specs.Depth.{depth}
 use Rattle.iv_cover.specs.Runs.{runs}
 use Rattle.iv_depth.specs.DepthRows.{run_row, position_row, covered_runs}

@@ -3,7 +3,7 @@ use Rattle.std.specs.Prelude.{◌≡◌, ◌≢◌, ℕ, ◌+◌, ◌==◌, ◌<
 use Rattle.std.specs.Int.RustNames.{unsigned_abs}
 use Rattle.std.specs.List.{AllByRecursion}
 use Rattle.std.specs.Map.{values_of}
-use Rattle.iv_text.specs.Genome.{Sequences, sequence_length}
+use Rattle.iv_lines.specs.Genome.{Sequences, sequence_length}
 use Rattle.iv_track.specs.Entries.{IsLedger, pair_cmp}
 use Rattle.iv_depth.specs.Changes.{ChangeKey, Entries, total, reaches}
 

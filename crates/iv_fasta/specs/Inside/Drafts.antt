@@ -3,19 +3,19 @@ use Rattle.std.specs.Prelude.{◌≡◌, ◌≢◌, ◌≤◌, ◌<◌, ℕ, ◌
 use Rattle.std.specs.List.{list_any}
 use Rattle.std.specs.Coded.{×_prop, le_prop}
 use Rattle.std.specs.Option.{is_some}
-use Rattle.iv_text.specs.Chains.{after_all}
-use Rattle.iv_text.specs.Genome.{Sequences}
-use Rattle.iv_text.specs.GenomeFile.{bad_name}
-use Rattle.iv_text.specs.Named.{name_index}
+use Rattle.iv_lines.specs.Chains.{after_all}
+use Rattle.iv_lines.specs.Genome.{Sequences}
+use Rattle.iv_lines.specs.GenomeFile.{bad_name}
+use Rattle.iv_lines.specs.Named.{name_index}
 use Rattle.iv_fasta.specs.Fasta.{Found, with_bases, after_fasta_line}
 use Rattle.iv_fasta.specs.FastaReading.{Progress, Summaries, Summary, Wanted, said, with_part}
 use Rattle.iv_fasta.specs.Inside.Fasta.{is_no_base}
 use Rattle.iv_fasta.specs.Inside.BaseRanges.{bases_at}
 use Rattle.iv_fasta.specs.declared.held_sequences.BaseRange.{BaseRange}
 use Rattle.iv_fasta.specs.declared.held_sequences.Header.{Header}
-use Rattle.iv_text.specs.declared.fault.LoadCause.{LoadCause}
-use Rattle.iv_text.specs.declared.fault.LoadCause.TheVariants as cause
-use Rattle.iv_text.specs.declared.fault.LoadFault.{LoadFault}
+use Rattle.iv_lines.specs.declared.fault.LoadCause.{LoadCause}
+use Rattle.iv_lines.specs.declared.fault.LoadCause.TheVariants as cause
+use Rattle.iv_lines.specs.declared.fault.LoadFault.{LoadFault}
 
 -- the sequences with one more, or the fault of its header, which has this number
 abbrev pub with_sequence : ℕ → Found → List ℕ → Result Found LoadCause

@@ -1,10 +1,10 @@
 -- Bytes of a FASTA file, and a header with the lines of bases after it.
 use Rattle.std.specs.Prelude.{◌≡◌, ℕ, ◌++◌, ◌==◌, ◌||◌, nat_lt, Bool, true, false, List, [], ◌∷◌, None}
-use Rattle.iv_text.specs.Bytes.{tab, space}
+use Rattle.iv_lines.specs.Bytes.{tab, space}
 use Rattle.std.specs.List.{list_any, concat}
-use Rattle.iv_text.specs.Named.{name_index}
-use Rattle.iv_text.specs.GenomeFile.{bad_name}
-use Rattle.iv_text.specs.Lines.{begins_with}
+use Rattle.iv_lines.specs.Named.{name_index}
+use Rattle.iv_lines.specs.GenomeFile.{bad_name}
+use Rattle.iv_lines.specs.Lines.{begins_with}
 use Rattle.iv_fasta.specs.Fasta.{Found, header_name, header_sign}
 
 -- a name ends before a space and before a TAB

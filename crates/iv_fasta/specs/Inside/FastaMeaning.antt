@@ -4,14 +4,14 @@ use Rattle.std.specs.List.{list_any, concat}
 use Rattle.std.specs.Map.{lookup}
 use Rattle.std.specs.Option.{is_some, option_map}
 use Rattle.std.specs.Str.{bytes_eq}
-use Rattle.iv_text.specs.Genome.{Sequences}
-use Rattle.iv_text.specs.GenomeFile.{bad_name}
-use Rattle.iv_text.specs.Lines.{begins_with}
-use Rattle.iv_text.specs.Named.{name_index}
-use Rattle.iv_text.specs.Read.{length_of}
-use Rattle.iv_text.specs.declared.fault.LoadCause.{LoadCause}
-use Rattle.iv_text.specs.declared.fault.LoadCause.TheVariants as cause
-use Rattle.iv_text.specs.declared.fault.LoadFault.{LoadFault}
+use Rattle.iv_lines.specs.Genome.{Sequences}
+use Rattle.iv_lines.specs.GenomeFile.{bad_name}
+use Rattle.iv_lines.specs.Lines.{begins_with}
+use Rattle.iv_lines.specs.Named.{name_index}
+use Rattle.iv_lines.specs.Read.{length_of}
+use Rattle.iv_lines.specs.declared.fault.LoadCause.{LoadCause}
+use Rattle.iv_lines.specs.declared.fault.LoadCause.TheVariants as cause
+use Rattle.iv_lines.specs.declared.fault.LoadFault.{LoadFault}
 use Rattle.iv_fasta.specs.Fasta.{Bases, Found, Stretch, header_sign, header_name, has_wrong_length}
 use Rattle.iv_fasta.specs.Inside.Fasta.{is_no_base}
 

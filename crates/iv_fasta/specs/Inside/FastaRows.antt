@@ -1,7 +1,7 @@
 -- The parts of a row of getfasta.
 use Rattle.std.specs.Prelude.{ℕ, ◌++◌, List, [], Option, None, Some, map, reverse, codes, slice_range, if◌then◌else◌}
-use Rattle.iv_text.specs.Genome.{Sequences}
-use Rattle.iv_text.specs.RecordValue.{RecordValue}
+use Rattle.iv_lines.specs.Genome.{Sequences}
+use Rattle.iv_lines.specs.RecordValue.{RecordValue}
 use Rattle.iv_fasta.specs.declared.rows.FastaOutput.{FastaOutput}
 use Rattle.iv_fasta.specs.Complement.{complement}
 use Rattle.iv_fasta.specs.FastaRows.{framed, head, shown_bases, shown_strand}

@@ -1,7 +1,7 @@
 -- Records that are apart.
 use Rattle.std.specs.Prelude.{◌≡◌, ◌<◌, List}
 use Rattle.std.specs.List.{AllPairs}
-use Rattle.iv_text.specs.RecordValue.{RecordValue}
+use Rattle.iv_lines.specs.RecordValue.{RecordValue}
 
 -- of each two records of one sequence the first stops before the other starts: they share no position, and aren't book-ended
 abbrev pub AreApart : List RecordValue → Type 0

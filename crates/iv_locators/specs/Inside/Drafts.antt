@@ -2,7 +2,7 @@
 use Rattle.std.specs.Prelude.{◌≤◌, ℕ, All, List}
 use Rattle.std.specs.Ordering.{is_lt}
 use Rattle.std.specs.List.Sorted.{IsSortedBy}
-use Rattle.iv_text.specs.RecordValue.{record_cmp}
+use Rattle.iv_lines.specs.RecordValue.{record_cmp}
 use Rattle.iv_locators.specs.Inside.Locators.{HasAllColumns, HasBase, record_at}
 use Rattle.iv_locators.specs.declared.order.PrefixKeyed.{PrefixKeyed}
 use Rattle.iv_locators.specs.declared.locator.Locator.{Locator}

@@ -1,11 +1,11 @@
 -- The records of locators into a text, and their intervals.
 use Rattle.std.specs.Prelude.{◌≡◌, ◌<◌, ◌≤◌, ◌++◌, ℕ, nat_le, cond, List, [], None, codes, drop, map}
 use Rattle.std.specs.List.{flat_map, slice_index_or}
-use Rattle.iv_text.specs.Fields.{columns}
-use Rattle.iv_text.specs.Lines.{lines}
-use Rattle.iv_text.specs.RecordText.{rest_text}
-use Rattle.iv_text.specs.RecordValue.{RecordValue, strand_of}
-use Rattle.iv_text.specs.Read.{column}
+use Rattle.iv_lines.specs.Fields.{columns}
+use Rattle.iv_lines.specs.Lines.{lines}
+use Rattle.iv_lines.specs.RecordText.{rest_text}
+use Rattle.iv_lines.specs.RecordValue.{RecordValue, strand_of}
+use Rattle.iv_lines.specs.Read.{column}
 use Rattle.iv_locators.specs.declared.locator.Locator.{Locator}
 use Rattle.iv_locators.specs.declared.span.Span.{Span}
 

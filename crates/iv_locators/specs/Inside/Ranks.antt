@@ -1,7 +1,7 @@
 -- Which sequences have a record.
 use Rattle.std.specs.Prelude.{ℕ, ◌==◌, Bool, false, List, slice_get}
 use Rattle.std.specs.Option.{unwrap_or}
-use Rattle.iv_text.specs.RecordValue.{RecordValue}
+use Rattle.iv_lines.specs.RecordValue.{RecordValue}
 use Rattle.iv_locators.specs.declared.locator.Locator.{Locator}
 
 -- the record is on the sequence of this rank

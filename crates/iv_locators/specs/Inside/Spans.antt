@@ -1,7 +1,7 @@
 -- Records of which only the intervals are held.
 use Rattle.std.specs.Prelude.{Bool, List, [], None, map}
 use Rattle.std.specs.Ordering.{is_lt}
-use Rattle.iv_text.specs.RecordValue.{RecordValue, record_cmp}
+use Rattle.iv_lines.specs.RecordValue.{RecordValue, record_cmp}
 use Rattle.iv_locators.specs.declared.span.Span.{Span}
 
 -- the record of an interval, in three columns

@@ -1,8 +1,8 @@
 -- How many records begin before a position, and how many end up to it. Positions are in order by the rank of the sequence first.
 use Rattle.std.specs.Prelude.{◌≡◌, ◌<◌, ℕ, ◌==◌, ◌&&◌, ◌||◌, nat_le, nat_lt, Bool, List, All, count_by}
 use Rattle.std.specs.List.Sorted.{IsPartitionedBy}
-use Rattle.iv_text.specs.Ordered.{AreInOrder}
-use Rattle.iv_text.specs.RecordValue.{RecordValue}
+use Rattle.iv_lines.specs.Ordered.{AreInOrder}
+use Rattle.iv_lines.specs.RecordValue.{RecordValue}
 use Rattle.iv_locators.specs.declared.locator.Locator.{Locator}
 use Rattle.iv_pair.specs.declared.count_sweep.End.{End}
 

@@ -1,8 +1,8 @@
 -- Where a search for hits is. This is the state of `HitFinder`, as seen by its proof.
 use Rattle.std.specs.Prelude.{◌≡◌, ℕ, ◌<◌, ◌≤◌, ◌^◌, ◌++◌, Bool, true, false, List, [], ◌∷◌, Option, Some, None, All, length}
-use Rattle.iv_text.specs.Ordered.{AreInOrder}
-use Rattle.iv_text.specs.RecordValue.{RecordValue}
-use Rattle.iv_text.specs.CoveredPositions.{covers}
+use Rattle.iv_lines.specs.Ordered.{AreInOrder}
+use Rattle.iv_lines.specs.RecordValue.{RecordValue}
+use Rattle.iv_lines.specs.CoveredPositions.{covers}
 use Rattle.iv_track.specs.Regions.{hits}
 use Rattle.iv_pair.specs.Inside.Lengths.{AreUpTo}
 

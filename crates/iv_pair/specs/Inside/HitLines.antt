@@ -1,8 +1,8 @@
 -- Lines of one hit and of one part.
 use Rattle.std.specs.Prelude.{◌≡◌, ℕ, true, nat_lt, if◌then◌else◌, List, []}
 use Rattle.std.specs.List.{AllByRecursion}
-use Rattle.iv_text.specs.Genome.{Sequences}
-use Rattle.iv_text.specs.RecordValue.{RecordValue, part}
+use Rattle.iv_lines.specs.Genome.{Sequences}
+use Rattle.iv_lines.specs.RecordValue.{RecordValue, part}
 use Rattle.iv_track.specs.Regions.{overlaps}
 use Rattle.iv_pair.specs.IntersectRows.{record_line, pair_line, shared}
 use Rattle.iv_pair.specs.declared.intersect.IntersectOutput.{IntersectOutput}

@@ -1,5 +1,5 @@
 -- The interval of a record, by itself.
-use Rattle.iv_text.specs.RecordValue.{RecordValue}
+use Rattle.iv_lines.specs.RecordValue.{RecordValue}
 use Rattle.iv_locators.specs.declared.locator.Locator.{Locator}
 
 -- the interval of a record as a locator, whose line is never looked at

@@ -2,8 +2,8 @@
 use Rattle.std.specs.Prelude.{◌≡◌, ℕ, ◌+◌, ◌-◌, ◌<◌, ◌≤◌, ◌^◌, List, All, count_by, length}
 use Rattle.std.specs.Ordering.{is_eq}
 use Rattle.std.specs.Map.{keys_of, values_of}
-use Rattle.iv_text.specs.Inside.Ordered.{copies_by}
-use Rattle.iv_text.specs.RecordValue.{RecordValue}
+use Rattle.iv_lines.specs.Inside.Ordered.{copies_by}
+use Rattle.iv_lines.specs.RecordValue.{RecordValue}
 use Rattle.iv_track.specs.Copies.{expanded}
 use Rattle.iv_track.specs.Entries.{IsLedger, pair_cmp}
 use Rattle.iv_track.specs.Tracked.{Tracked}

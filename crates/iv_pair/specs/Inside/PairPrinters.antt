@@ -1,7 +1,7 @@
 -- A copy of the second file that stands for it.
 use Rattle.std.specs.Prelude.{◌≡◌, ◌<◌, ℕ, List, length}
-use Rattle.iv_text.specs.Genome.{Sequences}
-use Rattle.iv_text.specs.RecordValue.{RecordValue}
+use Rattle.iv_lines.specs.Genome.{Sequences}
+use Rattle.iv_lines.specs.RecordValue.{RecordValue}
 use Rattle.iv_track.specs.Regions.{hits}
 use Rattle.iv_pair.specs.PairRows.{pair_rows}
 use Rattle.iv_pair.specs.declared.pair_printer.FileCopy.{FileCopy}

@@ -1,9 +1,9 @@
 -- Requests that fit their session, and the two records of one line.
 use Rattle.std.specs.Prelude.{◌≤◌, IfSome, Result, Ok}
-use Rattle.iv_text.specs.Chains.{if_ok}
-use Rattle.iv_text.specs.Genome.{most_length}
-use Rattle.iv_text.specs.RecordValue.{RecordValue}
-use Rattle.iv_text.specs.declared.fault.Fault.{Fault}
+use Rattle.iv_lines.specs.Chains.{if_ok}
+use Rattle.iv_lines.specs.Genome.{most_length}
+use Rattle.iv_lines.specs.RecordValue.{RecordValue}
+use Rattle.iv_lines.specs.declared.fault.Fault.{Fault}
 use Rattle.iv_view.specs.RegionText.{IsWithin}
 use Rattle.iv_workspace.specs.States.{State}
 use Rattle.iv_workspace.specs.Edits.{EditFits, FitsIn}

@@ -1,8 +1,8 @@
 -- What one line writes, as the functions that run it see it.
 use Rattle.std.specs.Prelude.{◌≡◌, ℕ, List, Option, None, Some, Result, Ok, Err}
 use Rattle.iv_bytes.specs.Sinks.{SinkState, Takes, FailsIn}
-use Rattle.iv_text.specs.Fault.{fault_text}
-use Rattle.iv_text.specs.declared.fault.Fault.{Fault}
+use Rattle.iv_lines.specs.Fault.{fault_text}
+use Rattle.iv_lines.specs.declared.fault.Fault.{Fault}
 use Rattle.iv_workspace.specs.States.{State}
 use Rattle.iv_session.specs.Inside.Scripts.{refusal_of}
 use Rattle.iv_session.specs.Written.{Written}

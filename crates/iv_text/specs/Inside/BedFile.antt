@@ -1,14 +1,14 @@
 -- What is known of a BED file after one more line, and what holds of it.
 use Rattle.std.specs.Prelude.{◌≡◌, ◌≤◌, ◌++◌, nat_le, cond, All, MatchOption, ℕ, List, [], ◌∷◌, Some, Result, Ok, Err, length}
 use Rattle.std.specs.Option.{unwrap_or}
-use Rattle.iv_text.specs.Chains.{if_ok, map_fault}
-use Rattle.iv_text.specs.Fields.{columns}
-use Rattle.iv_text.specs.Read.{Fits}
-use Rattle.iv_text.specs.RecordValue.{RecordValue}
-use Rattle.iv_text.specs.declared.fault.Fault.{Fault}
-use Rattle.iv_text.specs.declared.fault.LoadCause.{LoadCause}
-use Rattle.iv_text.specs.declared.fault.LoadCause.TheVariants as cause
-use Rattle.iv_text.specs.Genome.{Sequences}
+use Rattle.iv_lines.specs.Chains.{if_ok, map_fault}
+use Rattle.iv_lines.specs.Fields.{columns}
+use Rattle.iv_lines.specs.Read.{Fits}
+use Rattle.iv_lines.specs.RecordValue.{RecordValue}
+use Rattle.iv_lines.specs.declared.fault.Fault.{Fault}
+use Rattle.iv_lines.specs.declared.fault.LoadCause.{LoadCause}
+use Rattle.iv_lines.specs.declared.fault.LoadCause.TheVariants as cause
+use Rattle.iv_lines.specs.Genome.{Sequences}
 use Rattle.iv_text.specs.BedFile.{Draft}
 
 -- the width of a line's record: that of the first record, which is the number of its columns

@@ -1,10 +1,9 @@
--- One line of a BED file that is read in pieces, and bytes that end with their line.
-use Rattle.std.specs.Prelude.{◌≡◌, ◌⊎◌, ℕ, ◌+◌, ◌++◌, List, [], ◌∷◌, Err, drop}
-use Rattle.iv_text.specs.Bytes.{line_feed}
-use Rattle.iv_text.specs.Genome.{Sequences}
-use Rattle.iv_text.specs.Lines.{lines}
-use Rattle.iv_text.specs.RecordValue.{RecordValue}
-use Rattle.iv_text.specs.declared.fault.LoadCause.{LoadCause}
+-- One line of a BED file that is read in pieces.
+use Rattle.std.specs.Prelude.{◌≡◌, ℕ, ◌+◌, ◌++◌, List, Err, drop}
+use Rattle.iv_lines.specs.Genome.{Sequences}
+use Rattle.iv_lines.specs.Lines.{lines}
+use Rattle.iv_lines.specs.RecordValue.{RecordValue}
+use Rattle.iv_lines.specs.declared.fault.LoadCause.{LoadCause}
 use Rattle.iv_text.specs.BedReading.{AreSoundLines, Held, LinesRead, Shows, known, projected_draft, shown, after_records}
 
 -- the first of these lines was read, and those others are left: whatever comes after them, and whatever the line's number is
@@ -26,11 +25,3 @@ module _ {K : Type 0} (held_of : RecordValue → ℕ → K) (g : Sequences) wher
   -- the first line of a text is the first faulty one, and this is its cause
   abbrev pub RefusesLine : ℕ → Held K → List ℕ → LoadCause → Type 0
   RefusesLine limit old text c = (projected : RecordValue → RecordValue) (row_of : K → RecordValue) → Refuses projected g limit (shown row_of old) (lines text) c
-
--- the bytes end at a line feed
-abbrev pub EndsAtFeed : List ℕ → Type 0
-EndsAtFeed bytes = (front : List ℕ) × (bytes ≡ front ++ line_feed ∷ [])
-
--- the bytes are lines that are ended, each by its line feed, or there are none
-abbrev pub IsEnded : List ℕ → Type 0
-IsEnded bytes = (bytes ≡ []) ⊎ EndsAtFeed bytes

@@ -1,17 +1,16 @@
 -- The parts of a line, as they are read in one pass from its front.
 use Rattle.std.specs.Prelude.{◌≡◌, ◌<◌, ◌≤◌, All, ℕ, ◌+◌, ◌||◌, Bool, false, List, [], ◌∷◌, ◌++◌, Some, length}
 use Rattle.iv_text.specs.BedFile.{is_unread}
-use Rattle.iv_text.specs.Bytes.{tab}
+use Rattle.iv_lines.specs.Bytes.{tab}
 use Rattle.iv_text.specs.FastLine.{IsFastLine}
-use Rattle.iv_text.specs.Fields.{columns}
-use Rattle.iv_text.specs.Inside.Fields.{HasNoTab, is_separator}
-use Rattle.iv_text.specs.Lines.{HasNoFeed}
-use Rattle.iv_text.specs.Number.{number}
-use Rattle.iv_text.specs.Genome.{Sequences, length_at}
-use Rattle.iv_text.specs.Named.{name_index}
-use Rattle.iv_text.specs.Read.{column, AreSoundColumns}
-use Rattle.iv_text.specs.Inside.Read.{is_line_byte}
-use Rattle.iv_text.specs.RecordValue.{RecordValue, strand_of}
+use Rattle.iv_lines.specs.Inside.Fields.{HasNoTab, is_separator}
+use Rattle.iv_lines.specs.Lines.{HasNoFeed}
+use Rattle.iv_lines.specs.Number.{number}
+use Rattle.iv_lines.specs.Genome.{Sequences, length_at}
+use Rattle.iv_lines.specs.Named.{name_index}
+use Rattle.iv_lines.specs.Read.{column, AreSoundColumns}
+use Rattle.iv_lines.specs.Inside.Read.{is_line_byte}
+use Rattle.iv_lines.specs.RecordValue.{RecordValue, strand_of}
 use Rattle.iv_text.specs.declared.record_reader.FastLine.{FastLine}
 
 -- the name is that of a sequence of the genome, with its rank and its length; it holds no TAB and no LF, and as a line it would be no header
@@ -29,10 +28,6 @@ BeginsWithName g text name rank len rest = IsNamed g name rank len × (text ≡ 
 -- the text begins with digits that mean n, and the rest is after them
 abbrev pub BeginsWithNumber : List ℕ → ℕ → List ℕ → Type 0
 BeginsWithNumber text n rest = (digits : List ℕ) × (text ≡ digits ++ rest) × (number digits ≡ Some n)
-
--- the columns after a column that ends at the rest of its line
-abbrev pub ArePassed : List ℕ → List (List ℕ) → Type 0
-ArePassed rest others = (column : List ℕ) → HasNoTab column → columns (column ++ rest) ≡ column ∷ others
 
 -- the text begins with the columns of an interval on the genome: a name, a start and a stop; the rest is after them
 pub record BeginsWithInterval (g : Sequences) (text : List ℕ) (rank start stop : ℕ) (rest : List ℕ) : Type 0 where

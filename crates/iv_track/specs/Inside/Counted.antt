@@ -4,8 +4,8 @@ use Rattle.std.specs.Prelude.{◌≡◌, ℕ, ◌+◌, ◌<◌, true, List, [], 
 use Rattle.std.specs.Map.{values_of}
 use Rattle.std.specs.declared.cmp.Ordering.{Ordering}
 use Rattle.std.specs.Ordering.{is_eq}
-use Rattle.iv_text.specs.Ascending.{ascends}
-use Rattle.iv_text.specs.Inside.Ordered.{copies_by}
+use Rattle.iv_lines.specs.Ascending.{ascends}
+use Rattle.iv_lines.specs.Inside.Ordered.{copies_by}
 use Rattle.iv_track.specs.Copies.{expanded}
 use Rattle.iv_track.specs.Entries.{IsLedger}
 

@@ -1,7 +1,7 @@
 -- How many records of a track are about as long as each other. This is a part of the state of `Track`, as seen by its proof.
 use Rattle.std.specs.Prelude.{◌≡◌, ℕ, ◌-◌, ◌==◌, List, length, count_by, slice_index_or}
 use Rattle.std.specs.Int.Count.{count_leading_zeros}
-use Rattle.iv_text.specs.RecordValue.{RecordValue}
+use Rattle.iv_lines.specs.RecordValue.{RecordValue}
 
 -- how many binary digits the number of the record's positions has
 abbrev pub length_class : RecordValue → ℕ

@@ -1,6 +1,6 @@
 -- Entries of a track that are lent.
 use Rattle.std.specs.Prelude.{ℕ}
-use Rattle.iv_text.specs.RecordValue.{RecordValue}
+use Rattle.iv_lines.specs.RecordValue.{RecordValue}
 use Rattle.iv_track.specs.declared.track_record.Lent.{Lent}
 use Rattle.iv_track.specs.Lent.{value_of}
 

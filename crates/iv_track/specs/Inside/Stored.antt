@@ -1,7 +1,7 @@
 -- How the entries of a track are stored.
 use Rattle.std.specs.Prelude.{◌≡◌, ⊤, ℕ, List, All}
 use Rattle.std.specs.Map.{keys_of}
-use Rattle.iv_text.specs.RecordValue.{RecordValue}
+use Rattle.iv_lines.specs.RecordValue.{RecordValue}
 use Rattle.iv_track.specs.declared.entries.Rest.{Rest}
 use Rattle.iv_track.specs.declared.entries.Rest.TheVariants as left
 use Rattle.iv_track.specs.declared.entries.Storage.{Storage}

@@ -1,11 +1,11 @@
 -- Rows of `records` that can be read again from a BED file.
 use Rattle.std.specs.Prelude.{◌≡◌, ℕ, false, List, Ok}
 use Rattle.iv_text.specs.BedFile.{is_unread}
-use Rattle.iv_text.specs.Genome.{Sequences, sequence_name}
-use Rattle.iv_text.specs.Lines.{HasNoFeed}
-use Rattle.iv_text.specs.Read.{read}
-use Rattle.iv_text.specs.RecordText.{record_text}
-use Rattle.iv_text.specs.RecordValue.{RecordValue}
+use Rattle.iv_lines.specs.Genome.{Sequences, sequence_name}
+use Rattle.iv_lines.specs.Lines.{HasNoFeed}
+use Rattle.iv_lines.specs.Read.{read}
+use Rattle.iv_lines.specs.RecordText.{record_text}
+use Rattle.iv_lines.specs.RecordValue.{RecordValue}
 
 -- some line of this width means the record
 abbrev pub IsOfLine : Sequences → ℕ → RecordValue → Type 0

@@ -1,8 +1,8 @@
 -- The invariant of a session.
 use Rattle.std.specs.Prelude.{◌≡◌, ◌≤◌, ℕ, false, List, [], Option, None, All, IsTrue, IsSome, IfSome, length}
 use Rattle.std.specs.List.{AllByRecursion}
-use Rattle.iv_text.specs.Genome.{Sequences}
-use Rattle.iv_text.specs.Read.{Fits}
+use Rattle.iv_lines.specs.Genome.{Sequences}
+use Rattle.iv_lines.specs.Read.{Fits}
 use Rattle.iv_track.specs.Tracked.{Tracked}
 use Rattle.iv_view.specs.KeptStates.{state_key_of}
 use Rattle.iv_view.specs.Views.{needs_second}

@@ -1,8 +1,8 @@
 -- The states of open views, and their repairs.
 use Rattle.std.specs.Prelude.{◌≡◌, ◌⊎◌, ℕ, zero, suc, Bool, true, false, List, [], ◌∷◌, Option, None, Some, IfSome, map}
 use Rattle.std.specs.List.{AllByRecursion}
-use Rattle.iv_text.specs.Ordered.{added}
-use Rattle.iv_text.specs.RecordValue.{RecordValue}
+use Rattle.iv_lines.specs.Ordered.{added}
+use Rattle.iv_lines.specs.RecordValue.{RecordValue}
 use Rattle.iv_track.specs.Steps.{TakesUpTo}
 use Rattle.iv_view.specs.KeptStates.{built_for, state_key_of, IsRight}
 use Rattle.iv_view.specs.declared.kept_state.KeptState.{KeptState}

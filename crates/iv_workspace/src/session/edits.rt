@@ -1,20 +1,20 @@
 //! Edits of the two tracks of a session: of its own, and of the second file.
 ghost use Rattle.std.specs.Prelude.{◌≡◌, ◌≤◌, ◌↔◌, None, Some, false, IsTrue, IfOk, IfErr, IfSome, OnOk, OnErr, Ok, Err};
-ghost use Rattle.iv_text.specs.Named.{names_of};
-ghost use Rattle.iv_text.specs.Read.{Fits};
+ghost use Rattle.iv_lines.specs.Named.{names_of};
+ghost use Rattle.iv_lines.specs.Read.{Fits};
 ghost use Rattle.iv_track.specs.Steps.{TakesUpTo};
 ghost use Rattle.iv_workspace.specs.Edits.{Allows, EditFits, FitsIn, IsDone, IsEdited, RefusesEdit, RefusesIn, edited, most_steps, read_second, width_of};
 ghost use Rattle.iv_workspace.specs.OpenViews.{stale_count};
 ghost use Rattle.iv_workspace.specs.States.{FitsSecond};
 ghost use Rattle.iv_workspace.specs.Inside.States.{IsTrackOn, over};
 ghost use Rattle.iv_workspace.specs.Inside.ViewStates.{AreRight, all_seen};
-ghost use Rattle.iv_text.specs.Widths.{IsWidth};
+ghost use Rattle.iv_lines.specs.Widths.{IsWidth};
 
 use super::Session;
 use crate::fault::SecondFault;
 use crate::views::{Change, Views};
+use iv_lines::{Fault, Genome, RecordRef, read_record};
 use iv_pair::Second;
-use iv_text::{Fault, Genome, RecordRef, read_record};
 use iv_track::{EditFault, Meter, Track};
 use std::alloc::Allocator;
 

@@ -4,7 +4,7 @@ ghost use Rattle.std.specs.Map.{remove_entry};
 ghost use Rattle.std.specs.Option.{is_some};
 ghost use Rattle.std.specs.Str.{bytes_eq};
 ghost use Rattle.iv_bytes.specs.Sinks.{Puts};
-ghost use Rattle.iv_text.specs.Read.{read};
+ghost use Rattle.iv_lines.specs.Read.{read};
 ghost use Rattle.iv_view.specs.RegionText.{IsWithin};
 ghost use Rattle.iv_workspace.specs.OpenViews.{stale_count};
 ghost use Rattle.iv_workspace.specs.Prints.{PrintedNamed, PrintedAll, NamedPrintsWithin, AllPrintWithin};
@@ -13,7 +13,7 @@ ghost use Rattle.iv_workspace.specs.Views.{all_text, is_view_name as is_name, vi
 use super::Session;
 use crate::fault::PrintFault;
 use iv_bytes::{Buffered, Sink, WriteFault, put_pieces};
-use iv_text::Fault;
+use iv_lines::Fault;
 use iv_track::{Meter, Region};
 use iv_view::{View, ViewFault};
 use std::alloc::Allocator;

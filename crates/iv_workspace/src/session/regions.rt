@@ -4,7 +4,7 @@ ghost use Rattle.iv_view.specs.RegionText.{IsWithin};
 ghost use Rattle.iv_workspace.specs.Regions.{region_said};
 
 use super::Session;
-use iv_text::{Fault, read_number};
+use iv_lines::{Fault, read_number};
 use iv_track::Region;
 use std::alloc::Allocator;
 

@@ -1,9 +1,9 @@
 //! The states of open views: which view has one, and its repair after an edit.
 ghost use Rattle.std.specs.Prelude.{◌≡◌, ◌≢◌, ◌↔◌, ◌<◌, ◌∷◌, ℕ, List, None, Some, IfSome, IfOk, OnOk, MatchOption, All, length, IsTrue, true, false};
 ghost use Rattle.std.specs.List.{slice_get};
-ghost use Rattle.iv_text.specs.Named.{names_of};
-ghost use Rattle.iv_text.specs.Read.{Fits};
-ghost use Rattle.iv_text.specs.RecordValue.{RecordValue};
+ghost use Rattle.iv_lines.specs.Named.{names_of};
+ghost use Rattle.iv_lines.specs.Read.{Fits};
+ghost use Rattle.iv_lines.specs.RecordValue.{RecordValue};
 ghost use Rattle.iv_track.specs.Steps.{TakesUpTo};
 ghost use Rattle.iv_view.specs.KeptStates.{built_for, state_key_of, IsRight, repair_steps};
 ghost use Rattle.iv_workspace.specs.OpenViews.{Stales, all_steps};
@@ -11,7 +11,7 @@ ghost use Rattle.iv_workspace.specs.Inside.ViewStates.{AreMarked, AreOwnRight, A
 
 use super::{OpenView, Views};
 use iv_cover::Kept;
-use iv_text::{Genome, RecordRef};
+use iv_lines::{Genome, RecordRef};
 use iv_track::{Meter, Track};
 use iv_view::{KeptState, StateKey, View};
 use std::alloc::{AllocError, Allocator};

@@ -1,6 +1,6 @@
 use Rattle.std.proofs.Common.{◌≡◌, ◌<◌, ◌-◌, refl, arith, not}
 use Rattle.iv_bytes.proofs.PutLemmas.{Underway-begin, Underway-more, Underway-fails, Underway-ends, Puts-err}
-use Rattle.iv_text.specs.Genome.{seq_count}
+use Rattle.iv_lines.specs.Genome.{seq_count}
 use Rattle.iv_blocks.specs.Inside.BlockCursor.{starts_until, drop_while}
 use Rattle.iv_blocks.proofs.BlockCursorLemmas.{TakesForEach-begin, TakesForEach-next}
 use Rattle.iv_blocks.proofs.ComplementLemmas.{texts-next, texts-none}

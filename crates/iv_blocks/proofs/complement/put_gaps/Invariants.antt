@@ -1,6 +1,6 @@
 use Rattle.std.proofs.Common.{◌-◌, not}
 use Rattle.iv_bytes.proofs.PutLemmas.{Underway}
-use Rattle.iv_text.specs.Genome.{seq_count}
+use Rattle.iv_lines.specs.Genome.{seq_count}
 use Rattle.iv_blocks.specs.Inside.BlockCursor.{texts, TakesForEach}
 use Rattle.iv_blocks.proofs.complement.put_gaps.Given as goal
 

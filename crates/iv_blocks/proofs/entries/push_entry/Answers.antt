@@ -1,5 +1,5 @@
 use Rattle.std.proofs.Common.{◌≡◌, ◌∙◌, ℕ, ◌++◌, ◌∷◌, [], List, ap, ap₂}
-use Rattle.iv_text.specs.Genome.{sequence_name}
+use Rattle.iv_lines.specs.Genome.{sequence_name}
 use Rattle.iv_cover.specs.Columns.{results_over}
 use Rattle.iv_blocks.specs.Groups.{listed}
 use Rattle.iv_blocks.specs.KeptBlocks.{Key, Kept}

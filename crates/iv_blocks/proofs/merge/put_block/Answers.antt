@@ -1,7 +1,7 @@
 use Rattle.std.proofs.Common.{append-nil, append_assoc}
 use Rattle.std.specs.Prelude.{codes}
 use Rattle.iv_bytes.proofs.PutLemmas.{FailsIn-front, Puts-back, Puts-err}
-use Rattle.iv_text.specs.RecordText.{interval_text}
+use Rattle.iv_lines.specs.RecordText.{interval_text}
 use Rattle.iv_blocks.proofs.merge.put_block.Goals as goal
 
 pub returns-in_err-put_after_numbers : goal.returns-in_err-put_after_numbers

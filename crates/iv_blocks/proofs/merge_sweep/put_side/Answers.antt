@@ -1,7 +1,7 @@
 use Rattle.std.proofs.Common.{◌≡◌, ◌≤◌, ◌∙◌, None, List, filter, length, vec_capacity, ap, sym, subst, length-append, arith}
 use Rattle.std.specs.List.{flat_map}
 use Rattle.iv_bytes.proofs.PutLemmas.{Underway-begin, Puts-err}
-use Rattle.iv_text.specs.RecordValue.{RecordValue}
+use Rattle.iv_lines.specs.RecordValue.{RecordValue}
 use Rattle.iv_cover.specs.Inside.RemainingBlocks.{remaining_blocks}
 use Rattle.iv_cover.specs.TrackBlocks.{BlockWithMembers}
 use Rattle.iv_cover.specs.declared.column.ColumnSummary.{ColumnSummary}

@@ -1,5 +1,5 @@
 use Rattle.std.proofs.Common.{◌∙◌, ap, not}
-use Rattle.iv_text.specs.Genome.{seq_count}
+use Rattle.iv_lines.specs.Genome.{seq_count}
 use Rattle.iv_locators.specs.Inside.Spans.{span_records}
 use Rattle.iv_blocks.specs.Inside.BlockCursor.{texts}
 use Rattle.iv_blocks.proofs.ComplementTexts.{gap-texts}

@@ -1,7 +1,7 @@
 use Rattle.std.proofs.Common.{Option, sym, subst, IfSome, length, ◌≤◌}
 use Rattle.std.specs.Prelude.{All}
 use Rattle.iv_text.specs.BedFile.{Bed}
-use Rattle.iv_text.specs.Read.{Fits}
+use Rattle.iv_lines.specs.Read.{Fits}
 use Rattle.iv_text.proofs.BedReadingLemmas.{fit-all}
 use Rattle.iv_cli.proofs.LoadLemmas.{few-beside, fits-beside}
 use Rattle.iv_cli.proofs.begin.session_of.Goals as goal

@@ -1,7 +1,7 @@
 use Rattle.std.proofs.Common.{◌≡◌, ◌∙◌, ap, sym, subst, rules}
 use Rattle.std.specs.Cmp.Lexicographic.{slice_cmp}
 use Rattle.std.specs.Ordering.{nat_cmp}
-use Rattle.iv_text.specs.Ordered.{InOrder}
+use Rattle.iv_lines.specs.Ordered.{InOrder}
 use Rattle.iv_cover.specs.Summaries.{different}
 use Rattle.iv_cover.proofs.DistinctLemmas.{sorted-rise, sorted-by-bytes, different-moved}
 use Rattle.iv_cover.proofs.summaries.put_distinct.Goals as goal

@@ -3,8 +3,8 @@ use Rattle.std.specs.Cmp.Lexicographic.{slice_cmp}
 use Rattle.std.specs.Ordering.{nat_cmp}
 use Rattle.std.specs.List.{join_with_byte}
 use Rattle.iv_bytes.proofs.PutLemmas.{Underway}
-use Rattle.iv_text.specs.Bytes.{comma}
-use Rattle.iv_text.specs.Ordered.{InOrder}
+use Rattle.iv_lines.specs.Bytes.{comma}
+use Rattle.iv_lines.specs.Ordered.{InOrder}
 use Rattle.iv_cover.specs.Summaries.{different}
 use Rattle.iv_cover.specs.Inside.Results.{after_commas}
 use Rattle.iv_cover.proofs.DistinctLemmas.{begun}

@@ -1,7 +1,7 @@
 use Rattle.std.proofs.Common.{length}
 use Rattle.std.specs.List.{join_with_byte}
 use Rattle.iv_bytes.proofs.PutLemmas.{Underway}
-use Rattle.iv_text.specs.Bytes.{comma}
+use Rattle.iv_lines.specs.Bytes.{comma}
 use Rattle.iv_cover.specs.Inside.Results.{after_commas}
 use Rattle.iv_cover.proofs.summaries.put_values.Given as goal
 

@@ -1,6 +1,6 @@
 use Rattle.std.specs.Prelude.{List}
 use Rattle.std.proofs.lemmas.Result.{on_ok_weaker}
-use Rattle.iv_text.specs.RecordValue.{RecordValue}
+use Rattle.iv_lines.specs.RecordValue.{RecordValue}
 use Rattle.iv_depth.proofs.ChangesLemmas.{AreChangesOf-added}
 use Rattle.iv_depth.proofs.changes.add_record.Goals as goal
 

@@ -1,6 +1,6 @@
 use Rattle.std.proofs.Common.{◌<◌, arith, ap, length}
 use Rattle.iv_bytes.proofs.PutLemmas.{Underway-begin, Underway-more, Underway-fails, Puts-err}
-use Rattle.iv_text.specs.Genome.{seq_count}
+use Rattle.iv_lines.specs.Genome.{seq_count}
 use Rattle.iv_depth.specs.Changes.{Entries}
 use Rattle.iv_depth.specs.Inside.Walks.{depth_by}
 use Rattle.iv_depth.proofs.Genomes.{texts-next, texts-all}

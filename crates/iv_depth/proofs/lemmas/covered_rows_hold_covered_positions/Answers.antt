@@ -1,5 +1,5 @@
 use Rattle.iv_cover.specs.Depth.{depth}
-use Rattle.iv_text.proofs.ListLemmas.{contains-mem, mem-contains}
+use Rattle.iv_lines.proofs.ListLemmas.{contains-mem, mem-contains}
 use Rattle.iv_depth.specs.DepthRows.{covered_runs}
 use Rattle.iv_depth.proofs.Covered.{covered-held, covered-run}
 use Rattle.iv_depth.proofs.lemmas.covered_rows_hold_covered_positions.Goals as goal

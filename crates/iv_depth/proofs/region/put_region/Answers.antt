@@ -2,7 +2,7 @@ use Rattle.std.proofs.Common.{◌≡◌, ◌<◌, ◌∙◌, ap, refl, arith, ru
 use Rattle.std.proofs.lemmas.Int.{ints, to_z-of_z}
 use lib.IntN.{nat_abs}
 use Rattle.iv_bytes.proofs.PutLemmas.{Underway-begin, Underway-more, Underway-fails, Underway-ends, Puts-err}
-use Rattle.iv_text.specs.Genome.{sequence_name, sequence_length}
+use Rattle.iv_lines.specs.Genome.{sequence_name, sequence_length}
 use Rattle.iv_track.proofs.StepLemmas.{takes_one_more}
 use Rattle.iv_depth.specs.Inside.Texts.{rows_in}
 use Rattle.iv_depth.specs.RegionRows.{covered_runs_in}

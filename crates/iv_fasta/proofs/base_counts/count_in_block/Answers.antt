@@ -1,5 +1,5 @@
 use Rattle.std.proofs.Common.{get_or}
-use Rattle.iv_text.proofs.BlockLemmas.{before-outside, none-outside}
+use Rattle.iv_lines.proofs.BlockLemmas.{before-outside, none-outside}
 use Rattle.iv_fasta.proofs.BlockLemmas.{value-base}
 use Rattle.iv_fasta.proofs.base_counts.count_in_block.Goals as goal
 

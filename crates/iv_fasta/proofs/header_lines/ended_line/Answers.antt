@@ -1,7 +1,7 @@
 use Rattle.std.proofs.Common.{◌+◌, ◌∷◌, ◌++◌, ℕ, List, ap, sym, ◌∙◌, drop, append-nil, get_or}
 use Rattle.std.proofs.lemmas.Bool.{eqb-true}
-use Rattle.iv_text.specs.Lines.{lines}
-use Rattle.iv_text.proofs.BedReadingLemmas.{fed-at}
+use Rattle.iv_lines.specs.Lines.{lines}
+use Rattle.iv_lines.proofs.PieceLemmas.{fed-at}
 use Rattle.iv_fasta.proofs.SaidLemmas.{line-in-front}
 use Rattle.iv_fasta.proofs.header_lines.ended_line.Goals as goal
 

@@ -1,5 +1,5 @@
 use Rattle.std.proofs.Common.{◌≡◌, ◌∙◌, ℕ, List, unwrap_or, sym, ap, subst, inl, inr}
-use Rattle.iv_text.proofs.BedReadingLemmas.{handed-on}
+use Rattle.iv_lines.proofs.PieceLemmas.{handed-on}
 use Rattle.iv_locators.specs.declared.locator.Locator.{Locator}
 use Rattle.iv_locators.proofs.ReadingLemmas.{AreRead, text-read, text-refused}
 use Rattle.iv_locators.proofs.bed_text.locate.Given.{Over}

@@ -1,5 +1,5 @@
 use Rattle.std.proofs.Common.{rules}
-use Rattle.iv_text.specs.RecordValue.{record_cmp}
+use Rattle.iv_lines.specs.RecordValue.{record_cmp}
 use Rattle.std.specs.Ordering.{is_lt}
 use Rattle.iv_locators.specs.Inside.Locators.{record_at}
 use Rattle.iv_locators.proofs.OrderLemmas.{in-order}

@@ -1,6 +1,6 @@
 use Rattle.std.proofs.Common.{sym, ◌∙◌, ap}
 use Rattle.std.specs.Ordering.{is_ne, nat_cmp}
-use Rattle.iv_text.specs.Inside.RecordValue.{beside_cmp}
+use Rattle.iv_lines.specs.Inside.RecordValue.{beside_cmp}
 use Rattle.iv_locators.specs.Inside.Locators.{record_at}
 use Rattle.iv_locators.proofs.OrderLemmas.{decided, tied}
 use Rattle.iv_locators.proofs.order.compare.Goals as goal

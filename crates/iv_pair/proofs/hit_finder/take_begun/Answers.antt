@@ -1,8 +1,8 @@
 use Rattle.std.proofs.Common.{◌≡◌, ◌≤◌, ◌++◌, [], ◌∷◌, List, true, length, rules, sym, ap, ◌∙◌, subst, arith}
 use Rattle.std.proofs.lemmas.List.Elements.{All-push}
-use Rattle.iv_text.specs.Ordered.{AreInOrder}
-use Rattle.iv_text.specs.RecordValue.{RecordValue}
-use Rattle.iv_text.specs.CoveredPositions.{covers}
+use Rattle.iv_lines.specs.Ordered.{AreInOrder}
+use Rattle.iv_lines.specs.RecordValue.{RecordValue}
+use Rattle.iv_lines.specs.CoveredPositions.{covers}
 use Rattle.iv_pair.specs.Inside.HitFinder.{AllCover, HitAlike, IsOnward}
 use Rattle.iv_pair.proofs.CarryLemmas.{alike-pushed, alike-passed, begun-not_from}
 use Rattle.iv_pair.proofs.hit_finder.take_begun.Goals.{then-covers+else-not-push, else-covers}

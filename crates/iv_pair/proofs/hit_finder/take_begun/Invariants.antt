@@ -1,5 +1,5 @@
 use Rattle.std.proofs.Common.{◌≤◌, ◌++◌, length}
-use Rattle.iv_text.specs.Ordered.{AreInOrder}
+use Rattle.iv_lines.specs.Ordered.{AreInOrder}
 use Rattle.iv_pair.specs.Inside.HitFinder.{AllCover, HitAlike}
 use Rattle.iv_pair.proofs.hit_finder.take_begun.Given as goal
 

@@ -1,5 +1,5 @@
 use Rattle.std.proofs.Common.{◌≡◌, ◌++◌, ◌∙◌, List, ℕ, codes, decimal, append_assoc, sym}
-use Rattle.iv_text.specs.RecordText.{record_text}
+use Rattle.iv_lines.specs.RecordText.{record_text}
 use Rattle.iv_pair.proofs.intersect.put_count.Goals as goal
 
 pub returns : goal.returns

@@ -1,7 +1,7 @@
 use Rattle.std.proofs.Common.{List}
 use Rattle.std.specs.Iterator.{AlwaysYields}
 use Rattle.std.specs.List.{flat_map}
-use Rattle.iv_text.specs.RecordValue.{RecordValue}
+use Rattle.iv_lines.specs.RecordValue.{RecordValue}
 use Rattle.iv_pair.specs.Inside.HitLines.{AllOverlap, hit_line}
 use Rattle.iv_pair.proofs.LineLemmas.{LinesLeft}
 use Rattle.iv_pair.proofs.intersect.put_each_hit.Given as goal

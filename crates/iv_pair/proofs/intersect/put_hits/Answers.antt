@@ -1,6 +1,6 @@
 use Rattle.std.proofs.Common.{◌∷◌, List, subst}
 use Rattle.iv_bytes.proofs.PutLemmas.{FailsIn-front, Puts-back, Puts-err, Takes-nothing}
-use Rattle.iv_text.specs.RecordValue.{RecordValue}
+use Rattle.iv_lines.specs.RecordValue.{RecordValue}
 use Rattle.iv_pair.specs.Inside.HitLines.{AllOverlap}
 use Rattle.iv_pair.proofs.YieldLemmas.{ended, went}
 use Rattle.iv_pair.proofs.intersect.put_hits.Goals as goal

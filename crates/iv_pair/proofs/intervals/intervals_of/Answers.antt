@@ -1,7 +1,7 @@
 use Rattle.std.proofs.Common.{◌≡◌, ◌++◌, ◌∷◌, ◌∙◌, [], All, List, map, sym, ap, subst, append-nil}
 use Rattle.std.proofs.lemmas.List.Elements.{All-nil, All-append, All-cons}
 use Rattle.iv_text.specs.BedFile.{Bed}
-use Rattle.iv_text.specs.RecordValue.{RecordValue}
+use Rattle.iv_lines.specs.RecordValue.{RecordValue}
 use Rattle.iv_locators.specs.Locators.{bare}
 use Rattle.iv_locators.specs.Inside.Locators.{HasBase, records_at}
 use Rattle.iv_locators.specs.declared.locator.Locator.{Locator}

@@ -1,5 +1,5 @@
 use Rattle.std.proofs.Common.{◌∙◌, List, drop, sym, ap, subst, arith}
-use Rattle.iv_text.specs.RecordValue.{RecordValue}
+use Rattle.iv_lines.specs.RecordValue.{RecordValue}
 use Rattle.iv_track.specs.Regions.{hits}
 use Rattle.iv_pair.specs.Inside.HitFinder.{HitAlike}
 use Rattle.iv_pair.proofs.CopyLemmas.{drop-next, ended-alike}

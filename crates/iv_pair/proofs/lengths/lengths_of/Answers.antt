@@ -1,6 +1,6 @@
 use Rattle.std.proofs.Common.{◌∙◌, List, sym, ap, subst, arith}
-use Rattle.iv_text.specs.Ordered.{added_by}
-use Rattle.iv_text.specs.RecordValue.{RecordValue}
+use Rattle.iv_lines.specs.Ordered.{added_by}
+use Rattle.iv_lines.specs.RecordValue.{RecordValue}
 use Rattle.iv_track.specs.Copies.{expanded}
 use Rattle.iv_track.specs.Entries.{pair_cmp}
 use Rattle.iv_track.proofs.WalkLemmas.{filter-from_first}

@@ -1,6 +1,6 @@
 use Rattle.std.proofs.Common.{◌∙◌, ℕ, List, ap, subst}
 use Rattle.iv_bytes.specs.Sinks.{Puts}
-use Rattle.iv_text.specs.RecordValue.{RecordValue}
+use Rattle.iv_lines.specs.RecordValue.{RecordValue}
 use Rattle.iv_pair.specs.Inside.PairPrinters.{GiveRowsAlike, ServesAs}
 use Rattle.iv_pair.specs.PairRows.{pair_rows}
 use Rattle.iv_pair.proofs.pair_printer.put_by_copy.Goals as goal

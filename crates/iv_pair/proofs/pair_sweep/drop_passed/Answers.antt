@@ -1,7 +1,7 @@
 use Rattle.std.proofs.Common.{◌==◌, List, length, rules, ap, sym, ◌∙◌}
 use Rattle.std.specs.Prelude.{filter}
 use Rattle.std.proofs.lemmas.Fn.{filter_same}
-use Rattle.iv_text.specs.RecordValue.{RecordValue}
+use Rattle.iv_lines.specs.RecordValue.{RecordValue}
 use Rattle.iv_pair.specs.Inside.PairSweeps.{reaches}
 use Rattle.iv_pair.proofs.HitsLemmas.{none-active}
 use Rattle.iv_pair.proofs.pair_sweep.drop_passed.Goals as goal

@@ -1,5 +1,5 @@
 use Rattle.std.proofs.Common.{◌≤◌, ◌+◌, ◌++◌, All, length, vec_len, vec_capacity}
-use Rattle.iv_text.specs.Ordered.{AreInOrder}
+use Rattle.iv_lines.specs.Ordered.{AreInOrder}
 use Rattle.iv_pair.specs.Inside.PairSweeps.{Covers, HitAlike}
 use Rattle.iv_pair.proofs.pair_sweep.take_begun.Given as goal
 

@@ -1,5 +1,5 @@
 use Rattle.std.proofs.Common.{◌∙◌, ℕ, ◌<◌, sym, ap, subst}
-use Rattle.iv_text.specs.Inside.Ordered.{copies_by}
+use Rattle.iv_lines.specs.Inside.Ordered.{copies_by}
 use Rattle.iv_track.specs.Copies.{removed_by, expanded}
 use Rattle.iv_track.specs.Tracked.{Tracked}
 use Rattle.iv_pair.specs.Inside.Lengths.{AreLengths}

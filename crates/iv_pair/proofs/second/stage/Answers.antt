@@ -1,8 +1,8 @@
 use Rattle.std.proofs.Common.{◌≡◌, ◌∙◌, ℕ, sym, ap, subst, arith}
 use Rattle.std.proofs.Common.{Result, Ok, Err}
 use Rattle.std.specs.Prelude.{OnErr}
-use Rattle.iv_text.specs.Ordered.{added_by, copies}
-use Rattle.iv_text.specs.Inside.Ordered.{copies_by}
+use Rattle.iv_lines.specs.Ordered.{added_by, copies}
+use Rattle.iv_lines.specs.Inside.Ordered.{copies_by}
 use Rattle.iv_track.specs.Copies.{expanded}
 use Rattle.iv_track.specs.Tracked.{Tracked}
 use Rattle.iv_pair.specs.Inside.Lengths.{AreLengths}

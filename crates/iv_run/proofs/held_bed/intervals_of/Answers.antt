@@ -1,6 +1,6 @@
 use Rattle.std.proofs.Common.{◌∙◌, Ok, All, ap, sym, subst}
 use Rattle.iv_text.specs.BedFile.{Bed}
-use Rattle.iv_text.specs.Read.{Fits}
+use Rattle.iv_lines.specs.Read.{Fits}
 use Rattle.iv_run.proofs.HeldLemmas.{answers-intervals, answers-whole, bases-fit, three-file}
 use Rattle.iv_run.proofs.held_bed.intervals_of.Goals as goal
 

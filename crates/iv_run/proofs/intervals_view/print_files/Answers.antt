@@ -1,9 +1,9 @@
 use Rattle.std.proofs.Common.{List, None, sym, subst, ap, ◌∙◌}
 use Rattle.std.specs.Prelude.{All}
-use Rattle.iv_text.specs.Ordered.{AreInOrder, ordered}
-use Rattle.iv_text.specs.Read.{IsOnGenome}
-use Rattle.iv_text.specs.RecordValue.{RecordValue}
-use Rattle.iv_text.proofs.OrderedLemmas.{ordered-in_order}
+use Rattle.iv_lines.specs.Ordered.{AreInOrder, ordered}
+use Rattle.iv_lines.specs.Read.{IsOnGenome}
+use Rattle.iv_lines.specs.RecordValue.{RecordValue}
+use Rattle.iv_lines.proofs.OrderedLemmas.{ordered-in_order}
 use Rattle.iv_locators.specs.Inside.Spans.{span_records}
 use Rattle.iv_locators.proofs.BareLemmas.{kept-on_genome}
 use Rattle.iv_locators.proofs.SortedLemmas.{ordered-all}

@@ -1,6 +1,6 @@
 use Rattle.std.proofs.Common.{◌∙◌, ℕ, Result, ap, sym, subst}
 use Rattle.iv_text.specs.BedFile.{Bed}
-use Rattle.iv_text.specs.declared.fault.LoadFault.{LoadFault}
+use Rattle.iv_lines.specs.declared.fault.LoadFault.{LoadFault}
 use Rattle.iv_run.specs.Inside.Held.{IsEnough, IsHeld}
 use Rattle.iv_run.specs.RunFiles.{AreOf, FilesRead}
 use Rattle.iv_run.specs.Shots.{Shows, shown}

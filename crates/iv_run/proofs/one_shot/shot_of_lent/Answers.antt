@@ -1,7 +1,7 @@
 use Rattle.std.proofs.Common.{◌≡◌, ◌∙◌, Ok, sym, ap, subst}
 use Rattle.std.proofs.lemmas.Result.{err_from_is_err_and}
-use Rattle.iv_text.specs.Genome.{Sequences}
-use Rattle.iv_text.specs.GenomeFile.{genome_of}
+use Rattle.iv_lines.specs.Genome.{Sequences}
+use Rattle.iv_lines.specs.GenomeFile.{genome_of}
 use Rattle.iv_run.specs.Inside.Held.{FitsOn, IsEnough, IsHeld}
 use Rattle.iv_run.specs.RunFiles.{IsEnoughOf, IsIfNamed}
 use Rattle.iv_run.proofs.RunFilesLemmas.{sizes-damaged, sizes-sound}

@@ -2,10 +2,10 @@ use Rattle.std.proofs.Common.{◌∙◌, Option, Result, sym, ap, subst}
 use Rattle.std.specs.Option.{option_transpose}
 use Rattle.std.proofs.lemmas.Result.{err_from_is_err_and}
 use Rattle.iv_text.specs.BedFile.{Bed}
-use Rattle.iv_text.specs.Genome.{Sequences}
+use Rattle.iv_lines.specs.Genome.{Sequences}
 use Rattle.iv_fasta.specs.Fasta.{Bases}
 use Rattle.iv_run.proofs.FastaPieceLemmas.{fasta-if-named}
-use Rattle.iv_text.specs.declared.fault.LoadFault.{LoadFault}
+use Rattle.iv_lines.specs.declared.fault.LoadFault.{LoadFault}
 use Rattle.iv_run.specs.Inside.Shots.{bases_said}
 use Rattle.iv_run.specs.Loading.{IsAnswer}
 use Rattle.iv_run.specs.RunFiles.{AreAllWanted, AreOf, FilesRead, GenomeRead, IsParsed}

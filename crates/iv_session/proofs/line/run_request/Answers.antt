@@ -1,6 +1,6 @@
 use Rattle.std.proofs.Common.{refl}
 use Rattle.std.proofs.lemmas.Result.{err_from_is_err_and}
-use Rattle.iv_text.specs.declared.fault.Fault.TheVariants as fault
+use Rattle.iv_lines.specs.declared.fault.Fault.TheVariants as fault
 use Rattle.iv_session.specs.declared.request.Request.TheVariants as request
 use Rattle.iv_session.proofs.RunLemmas.{done-silent, refused, Opens-cut, RefusesOpen-cut, printed-view, printed-all}
 use Rattle.iv_session.proofs.line.run_request.Goals as goal

@@ -1,6 +1,6 @@
 use Rattle.std.proofs.Common.{inl, inr, length, refl, sym, ap, ap₂, ◌∙◌, arith}
 use Rattle.std.proofs.lemmas.List.{length-append}
-use Rattle.iv_text.specs.Fields.{columns, fields_left}
+use Rattle.iv_lines.specs.Fields.{columns, fields_left}
 use Rattle.iv_session.specs.Inside.Requests.{both}
 use Rattle.iv_session.proofs.ColumnLemmas.{fields-after, two-split_up}
 use Rattle.iv_session.proofs.request.two_rows.Goals as goal

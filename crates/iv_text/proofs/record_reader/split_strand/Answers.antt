@@ -1,7 +1,7 @@
 use Rattle.std.proofs.Common.{◌∷◌, List, ℕ, get_or, take, drop, length, ◌-◌, ap, sym, ◌∙◌, subst}
 use Rattle.std.specs.Prelude.{IsSome}
 use Rattle.iv_text.specs.Inside.OnePass.{BeginsWithCell}
-use Rattle.iv_text.specs.RecordValue.{strand_of}
+use Rattle.iv_lines.specs.RecordValue.{strand_of}
 use Rattle.iv_text.proofs.FastLineLemmas.{cell-strand, first-alone, first-byte}
 use Rattle.iv_text.proofs.record_reader.split_strand.Goals as goal
 

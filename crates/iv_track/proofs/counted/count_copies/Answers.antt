@@ -1,6 +1,6 @@
 use Rattle.std.proofs.Common.{◌∙◌, sym, arith}
 use Rattle.std.proofs.lemmas.List.Sorted.{IsPermutation-refl, length_permutation}
-use Rattle.iv_text.proofs.BatchLemmas.{strictly-sorted}
+use Rattle.iv_lines.proofs.BatchLemmas.{strictly-sorted}
 use Rattle.iv_track.proofs.CountedLemmas.{given-built, given-ordered}
 use Rattle.iv_track.proofs.counted.count_copies.Goals as goal
 

@@ -1,7 +1,7 @@
 use Rattle.std.proofs.Common.{◌∙◌, ap}
 use Rattle.std.specs.Prelude.{filter, find}
 use Rattle.std.specs.Ordering.{is_le, is_lt}
-use Rattle.iv_text.specs.RecordValue.{record_cmp}
+use Rattle.iv_lines.specs.RecordValue.{record_cmp}
 use Rattle.iv_track.proofs.StoredLemmas.{find-after}
 use Rattle.iv_track.proofs.entries.bed3_after.Goals as goal
 

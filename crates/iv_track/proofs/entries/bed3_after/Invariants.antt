@@ -1,7 +1,7 @@
 use Rattle.std.proofs.Common.{◌≡◌, length}
 use Rattle.std.specs.Prelude.{find}
 use Rattle.std.specs.Ordering.{is_lt}
-use Rattle.iv_text.specs.RecordValue.{record_cmp}
+use Rattle.iv_lines.specs.RecordValue.{record_cmp}
 use Rattle.iv_track.proofs.entries.bed3_after.Given as goal
 
 -- the first record after this one is the first among those that are left

@@ -1,5 +1,5 @@
-use Rattle.iv_text.specs.RecordValue.{record_cmp, records_total}
-use Rattle.iv_text.proofs.OrderedLemmas.{in_order-added}
+use Rattle.iv_lines.specs.RecordValue.{record_cmp, records_total}
+use Rattle.iv_lines.proofs.OrderedLemmas.{in_order-added}
 use Rattle.iv_track.proofs.CopyLemmas.{added-itself, added-others}
 use Rattle.iv_track.proofs.lemmas.one_record_added.Goals as goal
 

@@ -1,4 +1,4 @@
-use Rattle.iv_text.specs.RecordValue.{record_cmp}
+use Rattle.iv_lines.specs.RecordValue.{record_cmp}
 use Rattle.iv_track.proofs.Counts.{in_order-removed}
 use Rattle.iv_track.proofs.CopyLemmas.{removed-absent, removed-itself, removed-others}
 use Rattle.iv_track.proofs.lemmas.one_record_removed.Goals as goal

@@ -1,6 +1,6 @@
 use Rattle.std.proofs.Common.{◌≡◌, IfOk, List, ◌∙◌, sym, subst}
 use Rattle.std.specs.Prelude.{All}
-use Rattle.iv_text.specs.RecordValue.{RecordValue}
+use Rattle.iv_lines.specs.RecordValue.{RecordValue}
 use Rattle.iv_track.specs.Inside.Stored.{HasThreeColumns}
 use Rattle.iv_track.proofs.short_records.short_records.Goals as goal
 

@@ -1,7 +1,7 @@
 use Rattle.std.proofs.Common.{◌∙◌, ℕ, ◌≤◌, List, None, map, length, nat_le, le-leb, sym, ap, arith}
 use Rattle.std.proofs.lemmas.Bool.{cond-true}
-use Rattle.iv_text.specs.Fields.{fields}
-use Rattle.iv_text.specs.Bytes.{comma}
+use Rattle.iv_lines.specs.Fields.{fields}
+use Rattle.iv_lines.specs.Bytes.{comma}
 use Rattle.iv_view.specs.Lists.{all_some}
 use Rattle.iv_view.proofs.ListLemmas.{with_rest, rest-ends}
 use Rattle.iv_view.proofs.merge.read_items.Goals as goal

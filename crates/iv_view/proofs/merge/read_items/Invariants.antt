@@ -1,6 +1,6 @@
 use Rattle.std.proofs.Common.{◌≡◌, ◌+◌, ◌≤◌, map, length}
-use Rattle.iv_text.specs.Fields.{fields}
-use Rattle.iv_text.specs.Bytes.{comma}
+use Rattle.iv_lines.specs.Fields.{fields}
+use Rattle.iv_lines.specs.Bytes.{comma}
 use Rattle.iv_view.specs.Lists.{all_some}
 use Rattle.iv_view.proofs.ListLemmas.{with_rest}
 use Rattle.iv_view.proofs.merge.read_items.Given as goal

@@ -1,7 +1,7 @@
 use Rattle.std.proofs.Common.{◌≡◌, ap, ◌∙◌}
 use Rattle.std.specs.Option.{unwrap_or}
 use Rattle.std.proofs.lemmas.Result.{on_ok_weaker}
-use Rattle.iv_text.specs.Genome.{sequence_length}
+use Rattle.iv_lines.specs.Genome.{sequence_length}
 use Rattle.iv_blocks.specs.declared.group.Side.TheVariants.{Plus, Minus}
 use Rattle.iv_blocks.proofs.Builds.{all-others, put-both}
 use Rattle.iv_blocks.proofs.blocks.Blocks.insert_sequence.Goals as goal

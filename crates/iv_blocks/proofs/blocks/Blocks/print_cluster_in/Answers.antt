@@ -2,10 +2,10 @@ use Rattle.std.proofs.Common.{◌≡◌, ◌+◌, refl, sym, ap, subst, arith, l
 use Rattle.std.specs.List.{take_while}
 use Rattle.std.proofs.lemmas.List.{length-map}
 use Rattle.iv_bytes.proofs.PutLemmas.{Underway-begin, Underway-more, Underway-fails, Puts-err}
-use Rattle.iv_text.specs.Ordered.{AreInOrder}
-use Rattle.iv_text.specs.RecordValue.{RecordValue, record_cmp}
-use Rattle.iv_text.proofs.InOrderLemmas.{in_order-filter}
-use Rattle.iv_text.proofs.ListLemmas.{Mem, mem-filter}
+use Rattle.iv_lines.specs.Ordered.{AreInOrder}
+use Rattle.iv_lines.specs.RecordValue.{RecordValue, record_cmp}
+use Rattle.iv_lines.proofs.InOrderLemmas.{in_order-filter}
+use Rattle.iv_lines.proofs.ListLemmas.{Mem, mem-filter}
 use Rattle.iv_track.specs.Regions.{hits, overlaps}
 use Rattle.iv_track.proofs.RegionLemmas.{overlaps_parts}
 use Rattle.iv_blocks.specs.Inside.BlockCursor.{interval_of, starts_until, drop_while}

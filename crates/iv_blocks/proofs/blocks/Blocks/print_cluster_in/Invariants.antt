@@ -1,9 +1,9 @@
 use Rattle.std.proofs.Common.{◌≡◌, ◌+◌, ◌<◌, ◌≤◌, length, map}
 use Rattle.std.specs.List.{flat_map}
 use Rattle.iv_bytes.proofs.PutLemmas.{Underway}
-use Rattle.iv_text.specs.Ordered.{AreInOrder}
-use Rattle.iv_text.specs.RecordValue.{RecordValue}
-use Rattle.iv_text.proofs.ListLemmas.{Mem}
+use Rattle.iv_lines.specs.Ordered.{AreInOrder}
+use Rattle.iv_lines.specs.RecordValue.{RecordValue}
+use Rattle.iv_lines.proofs.ListLemmas.{Mem}
 use Rattle.iv_track.specs.Regions.{near}
 use Rattle.iv_blocks.specs.Inside.BlockCursor.{interval_of}
 use Rattle.iv_blocks.specs.ClusterRows.{blocks_until, cluster_row}

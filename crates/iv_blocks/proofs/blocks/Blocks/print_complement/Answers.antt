@@ -1,6 +1,6 @@
 use Rattle.std.proofs.Common.{◌≡◌, ◌∙◌, ap, arith, length, not, List}
 use Rattle.std.proofs.lemmas.List.{length-map}
-use Rattle.iv_text.specs.Genome.{seq_count}
+use Rattle.iv_lines.specs.Genome.{seq_count}
 use Rattle.iv_cover.specs.declared.block.Block.{Block}
 use Rattle.iv_blocks.specs.Inside.BlockCursor.{interval_of, texts}
 use Rattle.iv_blocks.specs.declared.options.BlockOptions.{BlockOptions}

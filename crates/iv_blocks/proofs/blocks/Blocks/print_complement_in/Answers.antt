@@ -1,7 +1,7 @@
 use Rattle.std.proofs.Common.{◌≡◌, ◌∙◌, List, length, min, ap, subst, arith}
 use Rattle.std.specs.Option.{unwrap_or}
-use Rattle.iv_text.specs.Genome.{sequence_length}
-use Rattle.iv_text.specs.Named.{names_of}
+use Rattle.iv_lines.specs.Genome.{sequence_length}
+use Rattle.iv_lines.specs.Named.{names_of}
 use Rattle.iv_cover.specs.Runs.{Run}
 use Rattle.iv_blocks.specs.KeptBlocks.{AreBlocksOf}
 use Rattle.iv_blocks.specs.declared.options.BlockOptions.{BlockOptions}

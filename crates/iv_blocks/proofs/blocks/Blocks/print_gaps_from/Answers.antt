@@ -1,7 +1,7 @@
 use Rattle.std.proofs.Common.{◌<◌, subst, arith}
 use Rattle.iv_bytes.proofs.PutLemmas.{Underway-begin, Underway-more, Underway-fails, Underway-ends, Underway-last, Puts-err}
-use Rattle.iv_text.specs.Genome.{sequence_name}
-use Rattle.iv_text.specs.Named.{names_of}
+use Rattle.iv_lines.specs.Genome.{sequence_name}
+use Rattle.iv_lines.specs.Named.{names_of}
 use Rattle.iv_blocks.specs.KeptBlocks.{AreBlocksOf}
 use Rattle.iv_blocks.specs.declared.options.BlockOptions.{BlockOptions}
 use Rattle.iv_blocks.proofs.GapRegionLemmas.{text-next, count-next, begins-next, stops-past, left-last, left-none}

@@ -1,7 +1,7 @@
 use Rattle.std.proofs.Common.{◌≡◌, ℕ, ◌+◌, ◌-◌, ◌<◌, ◌≤◌, length, Some}
 use Rattle.std.specs.List.{flat_map}
 use Rattle.iv_bytes.proofs.PutLemmas.{Underway}
-use Rattle.iv_text.specs.Genome.{sequence_name}
+use Rattle.iv_lines.specs.Genome.{sequence_name}
 use Rattle.iv_blocks.specs.ComplementRows.{gap_row}
 use Rattle.iv_blocks.specs.Inside.Regions.{BeginsGap, gaps_from, kept_on}
 use Rattle.iv_blocks.specs.KeptBlocks.{Kept}

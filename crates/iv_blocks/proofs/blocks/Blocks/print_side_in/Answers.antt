@@ -1,7 +1,7 @@
 use Rattle.std.proofs.Common.{◌≡◌, ◌∙◌, ◌∷◌, ℕ, inr, ap, ap₂, sym, subst, arith}
 use Rattle.std.specs.Ordering.{is_le}
 use Rattle.iv_bytes.proofs.PutLemmas.{Underway-begin, Underway-more, Underway-fails, Underway-ends, Puts-err}
-use Rattle.iv_text.proofs.ListLemmas.{Mem, mem-filter}
+use Rattle.iv_lines.proofs.ListLemmas.{Mem, mem-filter}
 use Rattle.iv_track.proofs.StepLemmas.{takes_none, takes_one_more}
 use Rattle.iv_blocks.specs.Inside.Groups.{is_minus}
 use Rattle.iv_blocks.specs.Inside.Insertion.{key_of}

@@ -2,8 +2,8 @@ use Rattle.std.proofs.Common.{◌≡◌, ◌+◌, ◌≤◌, filter, length, tru
 use Rattle.std.specs.List.{flat_map}
 use Rattle.std.specs.Ordering.{is_le}
 use Rattle.iv_bytes.proofs.PutLemmas.{Underway}
-use Rattle.iv_text.specs.Genome.{sequence_name}
-use Rattle.iv_text.proofs.ListLemmas.{Mem}
+use Rattle.iv_lines.specs.Genome.{sequence_name}
+use Rattle.iv_lines.proofs.ListLemmas.{Mem}
 use Rattle.iv_blocks.specs.Groups.{listed}
 use Rattle.iv_blocks.specs.Inside.Groups.{is_minus}
 use Rattle.iv_blocks.specs.Inside.Insertion.{key_of}

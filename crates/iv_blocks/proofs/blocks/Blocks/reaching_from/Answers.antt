@@ -1,6 +1,6 @@
 use Rattle.std.proofs.Common.{◌≡◌, ◌∙◌, ap, arith, min}
 use Rattle.std.specs.Option.{unwrap_or}
-use Rattle.iv_text.specs.Genome.{sequence_length}
+use Rattle.iv_lines.specs.Genome.{sequence_length}
 use Rattle.iv_blocks.specs.Inside.Groups.{is_minus}
 use Rattle.iv_blocks.proofs.RegionLemmas.{reaches-none, reaches-past, reaches-some}
 use Rattle.iv_blocks.proofs.blocks.Blocks.reaching_from.Goals as goal

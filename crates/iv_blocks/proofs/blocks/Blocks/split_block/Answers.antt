@@ -1,7 +1,7 @@
 use Rattle.std.proofs.Common.{◌≡◌, ◌⊎◌, inl, inr, ◌+◌, ◌<◌, ◌≤◌, ℕ, List, [], ◌∷◌, length, max, refl, ap, sym, subst, ◌∙◌, arith}
 use Rattle.std.proofs.lemmas.Bool.{cases_lt}
-use Rattle.iv_text.specs.RecordValue.{RecordValue}
-use Rattle.iv_text.proofs.ListLemmas.{all-mem}
+use Rattle.iv_lines.specs.RecordValue.{RecordValue}
+use Rattle.iv_lines.proofs.ListLemmas.{all-mem}
 use Rattle.iv_track.specs.Entries.{IsLedger}
 use Rattle.iv_blocks.specs.Inside.MembersLeft.{MembersLeft}
 use Rattle.iv_blocks.specs.Inside.Groups.{between_on, members_between}

@@ -1,5 +1,5 @@
 use Rattle.std.proofs.Common.{◌≡◌, ◌∙◌, ℕ, refl, sym, ap, subst}
-use Rattle.iv_text.specs.Named.{names_of}
+use Rattle.iv_lines.specs.Named.{names_of}
 use Rattle.iv_track.specs.Entries.{IsLedger}
 use Rattle.iv_blocks.specs.KeptBlocks.{AreBlocksOf, key_cmp, KeptBlocks}
 use Rattle.iv_blocks.specs.Inside.Lookups.{kept_in}

@@ -1,9 +1,9 @@
 use Rattle.std.proofs.Common.{◌≡◌, ◌∙◌, ℕ, false, List, map, sym, ap, subst, arith}
 use Rattle.std.specs.Prelude.{All}
-use Rattle.iv_text.specs.Named.{names_of}
-use Rattle.iv_text.specs.Ordered.{AreInOrder}
-use Rattle.iv_text.specs.Read.{IsOnGenome}
-use Rattle.iv_text.specs.RecordValue.{RecordValue}
+use Rattle.iv_lines.specs.Named.{names_of}
+use Rattle.iv_lines.specs.Ordered.{AreInOrder}
+use Rattle.iv_lines.specs.Read.{IsOnGenome}
+use Rattle.iv_lines.specs.RecordValue.{RecordValue}
 use Rattle.iv_cover.specs.TrackBlocks.{blocks_of}
 use Rattle.iv_cover.proofs.WalkLemmas.{merge-all}
 use Rattle.iv_track.specs.Entries.{IsLedger, value_at}

@@ -1,7 +1,7 @@
 use Rattle.std.proofs.Common.{◌≡◌, ◌≤◌, ◌∙◌, ℕ, refl, ap, sym, subst}
 use Rattle.std.proofs.lemmas.Result.{on_ok_weaker}
-use Rattle.iv_text.specs.Named.{names_of}
-use Rattle.iv_text.specs.Ordered.{added}
+use Rattle.iv_lines.specs.Named.{names_of}
+use Rattle.iv_lines.specs.Ordered.{added}
 use Rattle.iv_blocks.specs.KeptBlocks.{AreBlocksOf, KeptBlocks}
 use Rattle.iv_blocks.specs.Inside.Groups.{between, members_between}
 use Rattle.iv_blocks.specs.Inside.Lookups.{kept_in, IsLastBlock}

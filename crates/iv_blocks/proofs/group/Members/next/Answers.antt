@@ -1,5 +1,5 @@
 use Rattle.std.proofs.Common.{◌≡◌, ◌+◌, ◌<◌, ◌≤◌, ◌⊎◌, inl, inr, List, [], ◌∷◌, length, ap, sym, subst, ◌∙◌, arith}
-use Rattle.iv_text.specs.RecordValue.{RecordValue}
+use Rattle.iv_lines.specs.RecordValue.{RecordValue}
 use Rattle.iv_blocks.specs.Inside.MembersLeft.{MembersLeft, IsAhead}
 use Rattle.iv_blocks.specs.Inside.Groups.{between_on, members_between}
 use Rattle.iv_blocks.proofs.MembersLemmas.{ahead-rest, past-members, past-records, rest-none, here-records, here-member, other-member}

@@ -1,5 +1,5 @@
 use Rattle.std.proofs.Common.{List, inl, inr, ap, sym, subst, ◌∙◌, ℕ}
-use Rattle.iv_text.specs.RecordValue.{RecordValue}
+use Rattle.iv_lines.specs.RecordValue.{RecordValue}
 use Rattle.iv_blocks.specs.Inside.MembersLeft.{IsAhead}
 use Rattle.iv_blocks.proofs.MembersLemmas.{ahead-walked, remaining-walked}
 use Rattle.iv_blocks.proofs.group.Members.of.Goals as goal

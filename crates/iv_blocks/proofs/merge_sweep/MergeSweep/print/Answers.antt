@@ -1,9 +1,9 @@
 use Rattle.std.proofs.Common.{◌≡◌, ◌≤◌, ◌<◌, ◌-◌, ◌==◌, ◌∙◌, nat_lt, filter, List, ℕ, All, length, vec_capacity, ap, sym, subst, arith}
 use Rattle.iv_bytes.proofs.PutLemmas.{Underway-begin, Puts-err}
-use Rattle.iv_text.specs.Genome.{seq_count}
-use Rattle.iv_text.specs.Ordered.{AreInOrder}
-use Rattle.iv_text.specs.RecordValue.{RecordValue}
-use Rattle.iv_text.specs.CoveredPositions.{on}
+use Rattle.iv_lines.specs.Genome.{seq_count}
+use Rattle.iv_lines.specs.Ordered.{AreInOrder}
+use Rattle.iv_lines.specs.RecordValue.{RecordValue}
+use Rattle.iv_lines.specs.CoveredPositions.{on}
 use Rattle.iv_blocks.specs.Groups.{listed}
 use Rattle.iv_blocks.specs.declared.options.BlockOptions.{BlockOptions}
 use Rattle.iv_cover.specs.Results.{HasRoom}

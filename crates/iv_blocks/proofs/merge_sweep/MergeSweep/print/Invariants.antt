@@ -1,7 +1,7 @@
 use Rattle.std.proofs.Common.{◌≡◌, ◌-◌, filter, length, vec_capacity}
 use Rattle.std.specs.List.{flat_map, range_with_len}
 use Rattle.iv_bytes.proofs.PutLemmas.{Underway}
-use Rattle.iv_text.specs.Genome.{seq_count}
+use Rattle.iv_lines.specs.Genome.{seq_count}
 use Rattle.iv_blocks.specs.Groups.{listed, sides}
 use Rattle.iv_blocks.specs.Inside.Texts.{merge_text, side_rows}
 use Rattle.iv_cover.specs.Results.{HasRoom}

@@ -1,6 +1,6 @@
 use Rattle.std.proofs.Common.{List, ℕ, [], length, ap, arith}
 use Rattle.std.proofs.lemmas.List.{length-map}
-use Rattle.iv_text.specs.RecordValue.{RecordValue}
+use Rattle.iv_lines.specs.RecordValue.{RecordValue}
 use Rattle.iv_cover.specs.Columns.{column_value}
 use Rattle.iv_cover.specs.declared.column.Column.TheVariants.{Sequence}
 use Rattle.iv_blocks.proofs.side_blocks.SideRecordsValues.count.Goals as goal

@@ -1,6 +1,6 @@
 use Rattle.std.proofs.Common.{◌≡◌, List, ◌∷◌, arith}
 use Rattle.std.proofs.lemmas.Result.{on_ok_weaker}
-use Rattle.iv_text.specs.RecordValue.{RecordValue}
+use Rattle.iv_lines.specs.RecordValue.{RecordValue}
 use Rattle.iv_depth.specs.Changes.{AreChangesOf}
 use Rattle.iv_depth.proofs.DepthLemmas.{AreChangesOf-in_front, AreChanges-with}
 use Rattle.iv_depth.proofs.depth.DepthKept.removed.Goals as goal

@@ -1,6 +1,6 @@
 use Rattle.std.proofs.Common.{[], ap, sym, ◌∙◌, inl, inr}
-use Rattle.iv_text.specs.Lines.{lines}
-use Rattle.iv_text.proofs.BedReadingLemmas.{handed-on}
+use Rattle.iv_lines.specs.Lines.{lines}
+use Rattle.iv_lines.proofs.PieceLemmas.{handed-on}
 use Rattle.iv_fasta.specs.Fasta.{fasta_of}
 use Rattle.iv_fasta.specs.Inside.FastaMeaning.{sequences_said}
 use Rattle.iv_fasta.proofs.FastaMeaningLemmas.{fasta-value}

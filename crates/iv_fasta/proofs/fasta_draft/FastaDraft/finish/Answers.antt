@@ -1,7 +1,7 @@
 use Rattle.std.proofs.Common.{ℕ, List, ap, sym, ◌∙◌, inr, Ok, Result}
 use Rattle.std.specs.Option.{option_map}
-use Rattle.iv_text.specs.declared.fault.LoadFault.{LoadFault}
-use Rattle.iv_text.proofs.BedReadingLemmas.{handed-on}
+use Rattle.iv_lines.specs.declared.fault.LoadFault.{LoadFault}
+use Rattle.iv_lines.proofs.PieceLemmas.{handed-on}
 use Rattle.iv_fasta.specs.Fasta.{Bases}
 use Rattle.iv_fasta.specs.FastaReading.{Progress, Wanted, ended}
 use Rattle.iv_fasta.specs.Inside.Drafts.{cut}

@@ -1,6 +1,6 @@
 use Rattle.std.proofs.Common.{ap, sym, ◌∙◌, inr}
 use Rattle.std.specs.Option.{is_some}
-use Rattle.iv_text.specs.Named.{name_index}
+use Rattle.iv_lines.specs.Named.{name_index}
 use Rattle.iv_fasta.specs.FastaReading.{Draft, Progress, with_header}
 use Rattle.iv_fasta.specs.Inside.Drafts.{cut}
 use Rattle.iv_fasta.proofs.SaidLemmas.{header-repeated, header-taken}

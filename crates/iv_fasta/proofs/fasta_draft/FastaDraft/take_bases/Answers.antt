@@ -2,7 +2,7 @@ use Rattle.std.proofs.Common.{◌≡◌, ◌≤◌, ◌+◌, ◌++◌, ℕ, List
 use Rattle.std.proofs.lemmas.Bool.{cond-true, cond-false}
 use Rattle.std.specs.Option.{option_map}
 use Rattle.std.specs.List.{list_any}
-use Rattle.iv_text.proofs.BedReadingLemmas.{rest-whole}
+use Rattle.iv_lines.proofs.PieceLemmas.{rest-whole}
 use Rattle.iv_fasta.specs.FastaReading.{Progress, Wanted, said}
 use Rattle.iv_fasta.specs.Inside.Fasta.{is_no_base}
 use Rattle.iv_fasta.specs.Inside.Drafts.{cut, with_bases_read}

@@ -1,5 +1,5 @@
 use Rattle.std.proofs.Common.{◌++◌, Bool, ap, sym, ◌∙◌, drop}
-use Rattle.iv_text.specs.Genome.{Sequences}
+use Rattle.iv_lines.specs.Genome.{Sequences}
 use Rattle.iv_fasta.specs.FastaReading.{Progress, said}
 use Rattle.iv_fasta.specs.Inside.Drafts.{Reads, Refuses}
 use Rattle.iv_fasta.proofs.SaidLemmas.{feed-reads, ok-at, err-at, err-or-at}

@@ -1,6 +1,6 @@
 use Rattle.std.proofs.Common.{◌≡◌, ◌++◌, ℕ, List, [], true, Err, ap, ◌∙◌, arith, refl}
-use Rattle.iv_text.specs.Fault.{fault_at}
-use Rattle.iv_text.proofs.BedReadingLemmas.{rest-whole}
+use Rattle.iv_lines.specs.Fault.{fault_at}
+use Rattle.iv_lines.proofs.PieceLemmas.{rest-whole}
 use Rattle.iv_fasta.specs.FastaReading.{Progress, said}
 use Rattle.iv_fasta.proofs.BlockLemmas.{length-after}
 use Rattle.iv_fasta.proofs.SaidLemmas.{none-read, reads-on, refused-on, line-fault}

@@ -1,5 +1,5 @@
 use Rattle.std.proofs.Common.{◌≡◌, ◌++◌, ap, sym, ◌∙◌, inl, inr, take, drop}
-use Rattle.iv_text.proofs.BedReadingLemmas.{handed-on}
+use Rattle.iv_lines.proofs.PieceLemmas.{handed-on}
 use Rattle.iv_fasta.specs.FastaReading.{Reading, read_on}
 use Rattle.iv_fasta.proofs.ReadingLemmas.{carried-so}
 use Rattle.iv_fasta.proofs.fasta_reader.FastaReader.end_line.Goals as goal

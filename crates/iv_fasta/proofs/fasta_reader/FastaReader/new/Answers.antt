@@ -1,6 +1,6 @@
 use Rattle.std.proofs.Common.{◌++◌, ℕ, List, ap, ◌∙◌}
 use Rattle.std.specs.Option.{option_map}
-use Rattle.iv_text.specs.Chains.{if_ok}
+use Rattle.iv_lines.specs.Chains.{if_ok}
 use Rattle.iv_fasta.specs.FastaReading.{Progress, Wanted, said, ended}
 use Rattle.iv_fasta.specs.Inside.Drafts.{begun_with}
 use Rattle.iv_fasta.proofs.SummaryLemmas.{text-remaining}

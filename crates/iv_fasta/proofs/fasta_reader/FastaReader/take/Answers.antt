@@ -1,5 +1,5 @@
 use Rattle.std.proofs.Common.{◌≡◌, ◌++◌, ℕ, List, [], ap, sym, ◌∙◌, inl, inr, ◌-◌, length, take, drop, arith, length-drop}
-use Rattle.iv_text.proofs.BedReadingLemmas.{handed-on, rest-whole}
+use Rattle.iv_lines.proofs.PieceLemmas.{handed-on, rest-whole}
 use Rattle.iv_fasta.specs.FastaReading.{Reading, read_on, size_of}
 use Rattle.iv_fasta.proofs.ReadingLemmas.{taken-so, refused-so}
 use Rattle.iv_fasta.proofs.fasta_reader.FastaReader.take.Goals as goal

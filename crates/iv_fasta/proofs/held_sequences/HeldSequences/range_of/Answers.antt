@@ -1,6 +1,6 @@
 use Rattle.std.proofs.Common.{ap, sym, ◌∙◌}
 use Rattle.std.specs.Option.{option_map}
-use Rattle.iv_text.proofs.NamedLemmas.{unnamed}
+use Rattle.iv_lines.proofs.NamedLemmas.{unnamed}
 use Rattle.iv_fasta.specs.FastaReading.{Summary}
 use Rattle.iv_fasta.specs.Inside.Drafts.{cut}
 use Rattle.iv_fasta.proofs.CutLemmas.{index-cut, lookup-at, index-there}

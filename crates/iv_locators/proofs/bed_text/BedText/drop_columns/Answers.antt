@@ -1,5 +1,5 @@
 use Rattle.std.proofs.Common.{List, map, ap, arith, ◌∙◌}
-use Rattle.iv_text.specs.RecordValue.{RecordValue}
+use Rattle.iv_lines.specs.RecordValue.{RecordValue}
 use Rattle.iv_text.specs.BedFile.{Bed}
 use Rattle.iv_locators.specs.Locators.{bare}
 use Rattle.iv_locators.proofs.BareLemmas.{rows-bare}

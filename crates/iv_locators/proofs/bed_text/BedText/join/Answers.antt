@@ -1,7 +1,7 @@
 use Rattle.std.proofs.Common.{All, List, map, sym, ap, subst, ◌≡◌, ◌∙◌}
 use Rattle.iv_text.specs.BedFile.{Bed}
-use Rattle.iv_text.specs.RecordValue.{RecordValue}
-use Rattle.iv_text.specs.Ordered.{AreInOrder}
+use Rattle.iv_lines.specs.RecordValue.{RecordValue}
+use Rattle.iv_lines.specs.Ordered.{AreInOrder}
 use Rattle.iv_locators.specs.Cover.{is_covered}
 use Rattle.iv_locators.specs.Inside.Cover.{AreApart}
 use Rattle.iv_locators.specs.Inside.Joins.{joined_locators}

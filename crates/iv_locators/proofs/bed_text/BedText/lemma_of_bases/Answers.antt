@@ -1,7 +1,7 @@
 use Rattle.std.proofs.Common.{◌<◌, All, subst}
 use Rattle.std.proofs.lemmas.List.Elements.{All-map}
 use Rattle.iv_text.specs.BedFile.{Bed}
-use Rattle.iv_text.specs.RecordValue.{RecordValue}
+use Rattle.iv_lines.specs.RecordValue.{RecordValue}
 use Rattle.iv_locators.specs.Inside.Locators.{record_at}
 use Rattle.iv_locators.proofs.bed_text.BedText.lemma_of_bases.Goals as goal
 

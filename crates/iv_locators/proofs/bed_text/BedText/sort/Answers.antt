@@ -1,7 +1,7 @@
 use Rattle.std.proofs.Common.{sym, subst, ◌∙◌, ap, List, rules}
 use Rattle.std.proofs.lemmas.List.Sorted.{All-permutation, IsPermutation-refl, IsPermutation-trans}
-use Rattle.iv_text.specs.RecordValue.{RecordValue}
-use Rattle.iv_text.specs.Ordered.{ordered}
+use Rattle.iv_lines.specs.RecordValue.{RecordValue}
+use Rattle.iv_lines.specs.Ordered.{ordered}
 use Rattle.iv_text.specs.BedFile.{Bed}
 use Rattle.iv_locators.specs.Inside.Drafts.{AreInOrder}
 use Rattle.iv_locators.specs.Inside.Locators.{HasAllColumns, HasBase, record_at}

@@ -1,7 +1,7 @@
 use Rattle.std.proofs.Common.{◌≤◌, All, count_by}
 use Rattle.std.specs.List.{flat_map}
 use Rattle.iv_bytes.proofs.PutLemmas.{Underway}
-use Rattle.iv_text.specs.Ordered.{AreInOrder}
+use Rattle.iv_lines.specs.Ordered.{AreInOrder}
 use Rattle.iv_pair.specs.PairRows.{pair_rows, pair_text}
 use Rattle.iv_pair.specs.declared.intersect.IntersectOutput.TheVariants.{Count}
 use Rattle.iv_pair.specs.declared.pair_rows.PairOutput.TheVariants.{Intersect}

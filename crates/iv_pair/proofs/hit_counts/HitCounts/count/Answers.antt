@@ -1,5 +1,5 @@
 use Rattle.std.proofs.Common.{◌≡◌, ◌+◌, ◌∙◌, [], None, List, length, map, ap, arith, refl}
-use Rattle.iv_text.specs.RecordValue.{RecordValue}
+use Rattle.iv_lines.specs.RecordValue.{RecordValue}
 use Rattle.iv_locators.specs.Inside.Locators.{span_of}
 use Rattle.iv_track.specs.Regions.{hits}
 use Rattle.iv_pair.specs.Inside.Counts.{AreEndsOf}

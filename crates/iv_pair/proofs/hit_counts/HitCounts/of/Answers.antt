@@ -1,6 +1,6 @@
 use Rattle.std.proofs.Common.{◌∙◌, List, map, sym, ap, subst}
-use Rattle.iv_text.specs.Ordered.{AreInOrder}
-use Rattle.iv_text.specs.RecordValue.{RecordValue}
+use Rattle.iv_lines.specs.Ordered.{AreInOrder}
+use Rattle.iv_lines.specs.RecordValue.{RecordValue}
 use Rattle.iv_locators.specs.Inside.Locators.{span_of}
 use Rattle.iv_locators.proofs.BareLemmas.{in_order-bare}
 use Rattle.iv_pair.proofs.CountLemmas.{AreEndsOf-moved}

@@ -1,7 +1,7 @@
 use Rattle.std.proofs.Common.{ap, ◌∙◌, rules}
 use Rattle.std.specs.Prelude.{filter}
 use Rattle.arrayvec.proofs.ArrayVecLemmas.{filter-from_retain}
-use Rattle.iv_text.specs.CoveredPositions.{covers}
+use Rattle.iv_lines.specs.CoveredPositions.{covers}
 use Rattle.iv_pair.specs.Inside.HitFinder.{held, keeps}
 use Rattle.iv_pair.proofs.CarryLemmas.{held-filter}
 use Rattle.iv_pair.proofs.hit_finder.Carried.keep.Goals as goal

@@ -1,5 +1,5 @@
 use Rattle.std.proofs.Common.{◌++◌, [], ◌∷◌, List, Some, ap, ◌∙◌}
-use Rattle.iv_text.specs.RecordValue.{RecordValue}
+use Rattle.iv_lines.specs.RecordValue.{RecordValue}
 use Rattle.iv_pair.specs.Inside.HitFinder.{held}
 use Rattle.iv_pair.proofs.CarryLemmas.{held-append}
 use Rattle.iv_pair.proofs.hit_finder.Carried.push.Goals as goal

@@ -1,6 +1,6 @@
 use Rattle.std.proofs.Common.{◌≡◌, ◌++◌, ◌∙◌, List, refl, sym, ap, subst, arith, rules}
 use Rattle.std.specs.Prelude.{filter}
-use Rattle.iv_text.specs.RecordValue.{RecordValue}
+use Rattle.iv_lines.specs.RecordValue.{RecordValue}
 use Rattle.iv_track.specs.Tracked.{is_from}
 use Rattle.iv_pair.specs.Inside.HitFinder.{AllBegun, AllCover, Finding, HitAlike, IsOnward}
 use Rattle.iv_pair.specs.Inside.Lengths.{AreUpTo}

@@ -1,5 +1,5 @@
 use Rattle.std.proofs.Common.{List, length, ap, arith, length-append}
-use Rattle.iv_text.specs.RecordValue.{RecordValue}
+use Rattle.iv_lines.specs.RecordValue.{RecordValue}
 use Rattle.iv_pair.specs.Inside.HitFinder.{held}
 use Rattle.iv_track.specs.Regions.{overlaps, hits}
 use Rattle.iv_pair.proofs.CarryLemmas.{held-few}

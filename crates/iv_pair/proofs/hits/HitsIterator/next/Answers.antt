@@ -1,6 +1,6 @@
 use Rattle.std.proofs.Common.{◌++◌, List, Option, sym, ap, ◌∙◌, subst}
-use Rattle.iv_text.specs.Ordered.{AreInOrder}
-use Rattle.iv_text.specs.RecordValue.{RecordValue}
+use Rattle.iv_lines.specs.Ordered.{AreInOrder}
+use Rattle.iv_lines.specs.RecordValue.{RecordValue}
 use Rattle.iv_pair.specs.Inside.HitFinder.{held}
 use Rattle.iv_track.specs.Regions.{hits}
 use Rattle.iv_track.proofs.RegionLemmas.{hit_not, hits_beyond}

@@ -1,6 +1,6 @@
 use Rattle.std.proofs.Common.{List, drop, sym, ap, subst, ◌∙◌}
-use Rattle.iv_text.specs.Ordered.{AreInOrder}
-use Rattle.iv_text.specs.RecordValue.{RecordValue}
+use Rattle.iv_lines.specs.Ordered.{AreInOrder}
+use Rattle.iv_lines.specs.RecordValue.{RecordValue}
 use Rattle.iv_pair.proofs.CopyLemmas.{in_order-drop}
 use Rattle.iv_pair.proofs.joined_cover.JoinedCover.hits.Goals as goal
 

@@ -1,5 +1,5 @@
 use Rattle.std.proofs.Common.{List, length, ap, arith, length-append}
-use Rattle.iv_text.specs.RecordValue.{RecordValue}
+use Rattle.iv_lines.specs.RecordValue.{RecordValue}
 use Rattle.iv_track.specs.Regions.{overlaps, hits}
 use Rattle.iv_pair.proofs.HitsLemmas.{length-filter_le}
 use Rattle.iv_pair.proofs.pair_sweep.ActiveHits.lemma_of_few.Goals as goal

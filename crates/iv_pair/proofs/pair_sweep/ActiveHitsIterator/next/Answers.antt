@@ -1,6 +1,6 @@
 use Rattle.std.proofs.Common.{◌++◌, List, ap, sym, ◌∙◌, subst}
-use Rattle.iv_text.specs.Ordered.{AreInOrder}
-use Rattle.iv_text.specs.RecordValue.{RecordValue}
+use Rattle.iv_lines.specs.Ordered.{AreInOrder}
+use Rattle.iv_lines.specs.RecordValue.{RecordValue}
 use Rattle.iv_track.specs.Regions.{hits}
 use Rattle.iv_track.proofs.RegionLemmas.{hit_not, hits_beyond}
 use Rattle.iv_pair.proofs.pair_sweep.ActiveHitsIterator.next.Goals as goal

@@ -1,5 +1,5 @@
 use Rattle.std.proofs.Common.{◌==◌, ◌++◌, List, length, ap, sym, ◌∙◌}
-use Rattle.iv_text.specs.RecordValue.{RecordValue}
+use Rattle.iv_lines.specs.RecordValue.{RecordValue}
 use Rattle.iv_track.specs.Regions.{hits}
 use Rattle.iv_pair.proofs.HitsLemmas.{none-active, none-from}
 use Rattle.iv_pair.proofs.pair_sweep.PairSweep.is_alone.Goals as goal

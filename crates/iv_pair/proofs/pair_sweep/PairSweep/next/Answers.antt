@@ -1,7 +1,7 @@
 use Rattle.std.proofs.Common.{◌≡◌, ◌∷◌, ◌++◌, All, List, refl, sym, ap, ◌∙◌, subst}
 use Rattle.std.proofs.lemmas.List.Elements.{All-head}
-use Rattle.iv_text.specs.RecordValue.{RecordValue}
-use Rattle.iv_text.specs.Ordered.{AreInOrder}
+use Rattle.iv_lines.specs.RecordValue.{RecordValue}
+use Rattle.iv_lines.specs.Ordered.{AreInOrder}
 use Rattle.iv_track.specs.Regions.{hits}
 use Rattle.iv_pair.specs.Hits.{hits_of}
 use Rattle.iv_pair.specs.Inside.PairSweeps.{Covers, Precedes}

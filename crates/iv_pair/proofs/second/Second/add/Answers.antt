@@ -1,6 +1,6 @@
 use Rattle.std.proofs.Common.{◌≤◌, length, arith, sym, subst}
-use Rattle.iv_text.specs.RecordValue.{record_cmp}
-use Rattle.iv_text.proofs.OrderedLemmas.{length-added}
+use Rattle.iv_lines.specs.RecordValue.{record_cmp}
+use Rattle.iv_lines.proofs.OrderedLemmas.{length-added}
 use Rattle.iv_track.specs.Tracked.{Tracked}
 use Rattle.iv_pair.proofs.second.Second.add.Goals as goal
 

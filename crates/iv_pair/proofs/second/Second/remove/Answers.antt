@@ -1,5 +1,5 @@
 use Rattle.std.proofs.Common.{◌≤◌, length, arith, sym, subst}
-use Rattle.iv_text.specs.RecordValue.{record_cmp}
+use Rattle.iv_lines.specs.RecordValue.{record_cmp}
 use Rattle.iv_track.specs.Tracked.{Tracked}
 use Rattle.iv_track.proofs.Counts.{length-removed}
 use Rattle.iv_pair.proofs.second.Second.remove.Goals as goal

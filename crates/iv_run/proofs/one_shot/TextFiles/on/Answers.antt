@@ -2,8 +2,8 @@ use Rattle.std.proofs.Common.{◌∙◌, Result, Err, IfOk, refl, subst, sym}
 use Rattle.std.specs.Prelude.{All}
 use Rattle.std.proofs.lemmas.Result.{err_from_is_err_and}
 use Rattle.iv_text.specs.BedFile.{Bed, bed_of}
-use Rattle.iv_text.specs.Read.{Fits}
-use Rattle.iv_text.specs.declared.fault.LoadFault.{LoadFault}
+use Rattle.iv_lines.specs.Read.{Fits}
+use Rattle.iv_lines.specs.declared.fault.LoadFault.{LoadFault}
 use Rattle.iv_locators.proofs.SortedLemmas.{on_genome-fit}
 use Rattle.iv_run.specs.Inside.Held.{IsEnough}
 use Rattle.iv_run.proofs.FastaPieceLemmas.{answer-if-named, wanted-found, wanted-why}

@@ -1,5 +1,5 @@
 use Rattle.std.proofs.Common.{sym, subst}
-use Rattle.iv_text.specs.Ordered.{AreInOrder}
+use Rattle.iv_lines.specs.Ordered.{AreInOrder}
 use Rattle.iv_locators.proofs.SortedLemmas.{order-sorted}
 use Rattle.iv_run.proofs.one_shot.TextFiles.put_pairs.Goals as goal
 

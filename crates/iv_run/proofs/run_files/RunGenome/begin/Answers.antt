@@ -1,7 +1,7 @@
 use Rattle.std.proofs.Common.{Result, Some, IfErr, refl, subst}
-use Rattle.iv_text.specs.Genome.{Sequences}
-use Rattle.iv_text.specs.GenomeFile.{genome_of}
-use Rattle.iv_text.specs.declared.fault.LoadFault.{LoadFault}
+use Rattle.iv_lines.specs.Genome.{Sequences}
+use Rattle.iv_lines.specs.GenomeFile.{genome_of}
+use Rattle.iv_lines.specs.declared.fault.LoadFault.{LoadFault}
 use Rattle.iv_run.specs.RunFiles.{GenomeRead}
 use Rattle.iv_run.proofs.LoadLemmas.{IsWhy, says-no_sizes}
 use Rattle.iv_run.proofs.run_files.RunGenome.begin.Goals as goal

@@ -1,7 +1,8 @@
 use Rattle.std.proofs.Common.{◌∙◌, List, [], Ok, sym, ap, inl, inr}
-use Rattle.iv_text.specs.RecordValue.{RecordValue}
+use Rattle.iv_lines.specs.RecordValue.{RecordValue}
 use Rattle.iv_text.specs.BedReading.{finished}
-use Rattle.iv_text.proofs.BedReadingLemmas.{handed-on, rows-all, fit-all, text-whole}
+use Rattle.iv_lines.proofs.PieceLemmas.{handed-on}
+use Rattle.iv_text.proofs.BedReadingLemmas.{rows-all, fit-all, text-whole}
 use Rattle.iv_text.proofs.bed_file.BedFile.parse.Goals as goal
 
 pub returns-in_err-take_piece-clause-err : goal.returns-in_err-take_piece-clause-err

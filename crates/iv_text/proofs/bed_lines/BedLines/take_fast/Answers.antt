@@ -1,8 +1,9 @@
 use Rattle.std.proofs.Common.{◌∙◌, ◌<◌, ◌^◌, ℕ, sym, ap, subst, inl, inr}
-use Rattle.iv_text.specs.declared.fault.LoadCause.{LoadCause}
+use Rattle.iv_lines.specs.declared.fault.LoadCause.{LoadCause}
 use Rattle.iv_text.specs.BedReading.{shown}
 use Rattle.iv_text.specs.Inside.BedReading.{RefusesLine}
-use Rattle.iv_text.proofs.BedReadingLemmas.{handed-on, known-wide, short-read, short-taken, short-full}
+use Rattle.iv_lines.proofs.PieceLemmas.{handed-on}
+use Rattle.iv_text.proofs.BedReadingLemmas.{known-wide, short-read, short-taken, short-full}
 use Rattle.iv_text.proofs.bed_lines.BedLines.take_fast.Goals as goal
 
 pub returns-in_err-take_one-clause-err : goal.returns-in_err-take_one-clause-err

@@ -1,10 +1,11 @@
 use Rattle.std.proofs.Common.{◌≡◌, ◌∙◌, ◌<◌, ◌^◌, ℕ, sym, ap, subst, inl, inr, drop}
-use Rattle.iv_text.specs.Lines.{lines}
-use Rattle.iv_text.specs.declared.fault.LoadCause.{LoadCause}
-use Rattle.iv_text.specs.declared.fault.LoadCause.TheVariants as cause
+use Rattle.iv_lines.specs.Lines.{lines}
+use Rattle.iv_lines.specs.declared.fault.LoadCause.{LoadCause}
+use Rattle.iv_lines.specs.declared.fault.LoadCause.TheVariants as cause
 use Rattle.iv_text.specs.BedReading.{shown}
 use Rattle.iv_text.specs.Inside.BedReading.{RefusesLine, TakesLine}
-use Rattle.iv_text.proofs.BedReadingLemmas.{handed-on, columns-refused, record-refused, held-unread, held-taken, held-full}
+use Rattle.iv_lines.proofs.PieceLemmas.{handed-on}
+use Rattle.iv_text.proofs.BedReadingLemmas.{columns-refused, record-refused, held-unread, held-taken, held-full}
 use Rattle.iv_text.proofs.bed_lines.BedLines.take_line.Goals as goal
 
 pub returns-then-is_unread-clause-ok : goal.returns-then-is_unread-clause-ok

@@ -1,7 +1,8 @@
 use Rattle.std.proofs.Common.{◌≡◌, ◌∙◌, ◌-◌, List, ℕ, length, take, drop, sym, ap, subst, arith, length-drop}
 use Rattle.iv_text.specs.BedReading.{AreSoundLines, shown}
 use Rattle.iv_text.specs.Inside.BedReading.{TakesLine}
-use Rattle.iv_text.proofs.BedReadingLemmas.{begins-further, begins-next, rest-whole, stands-so, takes-more}
+use Rattle.iv_text.proofs.BedReadingLemmas.{begins-further, begins-next, stands-so, takes-more}
+use Rattle.iv_lines.proofs.PieceLemmas.{rest-whole}
 use Rattle.iv_text.proofs.bed_lines.BedLines.take_lines.Goals as goal
 
 pub lines-preserved : goal.lines-preserved

@@ -1,7 +1,8 @@
 use Rattle.std.proofs.Common.{◌≡◌, ◌∙◌, ◌++◌, ℕ, List, [], sym, ap, inl, inr, take, drop, rules}
-use Rattle.iv_text.specs.Lines.{lines}
+use Rattle.iv_lines.specs.Lines.{lines}
 use Rattle.iv_text.specs.BedReading.{after, shown}
-use Rattle.iv_text.proofs.BedReadingLemmas.{carried-lines, ended-rest, handed-on, refused-so, taken-so}
+use Rattle.iv_text.proofs.BedReadingLemmas.{carried-lines, refused-so, taken-so}
+use Rattle.iv_lines.proofs.PieceLemmas.{ended-rest, handed-on}
 use Rattle.iv_text.proofs.bed_reader.BedReader.end_line.Goals as goal
 
 pub returns-in_err-take_lines-clause-err : goal.returns-in_err-take_lines-clause-err

@@ -1,10 +1,11 @@
 use Rattle.std.proofs.Common.{All, subst, ◌∙◌, ℕ, List, [], Result, Ok, sym, ap, inl, inr, map, unwrap_or, append-nil}
 use Rattle.iv_text.specs.BedFile.{Bed}
-use Rattle.iv_text.specs.Lines.{lines}
-use Rattle.iv_text.specs.RecordValue.{RecordValue}
-use Rattle.iv_text.specs.declared.fault.LoadFault.{LoadFault}
+use Rattle.iv_lines.specs.Lines.{lines}
+use Rattle.iv_lines.specs.RecordValue.{RecordValue}
+use Rattle.iv_lines.specs.declared.fault.LoadFault.{LoadFault}
 use Rattle.iv_text.specs.BedReading.{IsProjected, Reading, after, read_on, shown, finished}
-use Rattle.iv_text.proofs.BedReadingLemmas.{handed-on, projected-again, refused-so, sound-kept, taken-so}
+use Rattle.iv_lines.proofs.PieceLemmas.{handed-on}
+use Rattle.iv_text.proofs.BedReadingLemmas.{projected-again, refused-so, sound-kept, taken-so}
 use Rattle.iv_text.proofs.bed_reader.BedReader.finish.Goals as goal
 
 pub returns-in_err-take_lines-clause-err : goal.returns-in_err-take_lines-clause-err

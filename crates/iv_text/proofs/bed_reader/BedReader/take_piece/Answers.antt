@@ -1,7 +1,8 @@
 use Rattle.std.proofs.Common.{◌≡◌, ◌∙◌, ◌++◌, ℕ, List, [], sym, ap, inl, inr, take-append-drop}
-use Rattle.iv_text.specs.Lines.{lines}
+use Rattle.iv_lines.specs.Lines.{lines}
 use Rattle.iv_text.specs.BedReading.{Reading, after, shown}
-use Rattle.iv_text.proofs.BedReadingLemmas.{handed-on, piece-lines, refused-so, rest-whole, taken-so}
+use Rattle.iv_lines.proofs.PieceLemmas.{handed-on, rest-whole}
+use Rattle.iv_text.proofs.BedReadingLemmas.{piece-lines, refused-so, taken-so}
 use Rattle.iv_text.proofs.bed_reader.BedReader.take_piece.Goals as goal
 
 pub returns-in_err-take_lines-clause-err : goal.returns-in_err-take_lines-clause-err

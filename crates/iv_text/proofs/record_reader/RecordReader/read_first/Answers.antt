@@ -2,7 +2,7 @@ use Rattle.std.proofs.Common.{◌-◌, length, Option, ap, sym, ◌∙◌, refl}
 use Rattle.iv_text.proofs.FastLineLemmas.{cells-record, short-line}
 use Rattle.iv_text.proofs.OnePassLemmas.{record_of}
 use Rattle.iv_text.specs.declared.record_reader.FastLine.{FastLine}
-use Rattle.iv_text.specs.declared.record_ref.Strand.{Strand}
+use Rattle.iv_lines.specs.declared.record_ref.Strand.{Strand}
 use Rattle.iv_text.proofs.record_reader.RecordReader.read_first.Goals as goal
 
 pub of_columns-record-requires : goal.of_columns-record-requires

@@ -1,6 +1,6 @@
 use Rattle.std.proofs.Common.{◌≡◌, ◌∙◌, ◌∷◌, suc, length, sym, ap, subst, arith}
 use Rattle.iv_track.specs.Inside.Counted.{grouped, AreDistinct}
-use Rattle.iv_text.proofs.BatchLemmas.{strictly-rest}
+use Rattle.iv_lines.proofs.BatchLemmas.{strictly-rest}
 use Rattle.iv_track.proofs.CountedLemmas.{distinct-first}
 use Rattle.iv_track.proofs.counted.DistinctIterator.next.Given as given
 use Rattle.iv_track.proofs.counted.DistinctIterator.next.Goals as goal

@@ -1,6 +1,6 @@
 use Rattle.std.proofs.Common.{◌≡◌, sym, subst}
 use Rattle.std.specs.Prelude.{All}
-use Rattle.iv_text.specs.RecordValue.{RecordValue}
+use Rattle.iv_lines.specs.RecordValue.{RecordValue}
 use Rattle.iv_track.specs.Inside.Stored.{HasThreeColumns}
 use Rattle.iv_track.proofs.BuiltLemmas.{counted-keys}
 use Rattle.iv_track.proofs.entries.Entries.of.Goals as goal

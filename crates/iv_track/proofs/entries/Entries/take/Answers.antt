@@ -1,7 +1,7 @@
 use Rattle.std.proofs.Common.{◌≡◌, ◌∙◌, ap, sym, subst}
 use Rattle.std.specs.BTreeMap.{is_at}
 use Rattle.std.specs.Map.{remove_entry}
-use Rattle.iv_text.specs.RecordValue.{RecordValue, record_cmp}
+use Rattle.iv_lines.specs.RecordValue.{RecordValue, record_cmp}
 use Rattle.iv_track.specs.Entries.{IsLedger}
 use Rattle.iv_track.specs.Inside.Stored.{IsStored, stored}
 use Rattle.iv_track.proofs.StoredLemmas.{of-bed3, of-full, three-stored, three-taken, absent-removed}

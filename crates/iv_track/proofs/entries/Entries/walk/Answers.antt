@@ -1,7 +1,7 @@
 use Rattle.std.proofs.Common.{◌≡◌, ◌∙◌, ap}
 use Rattle.std.specs.Prelude.{filter}
 use Rattle.std.specs.Ordering.{is_le}
-use Rattle.iv_text.specs.RecordValue.{IsPlaced, record_cmp}
+use Rattle.iv_lines.specs.RecordValue.{IsPlaced, record_cmp}
 use Rattle.iv_track.specs.Tracked.{is_from}
 use Rattle.iv_track.proofs.EntryIndexLemmas.{filter-least}
 use Rattle.iv_track.proofs.StoredLemmas.{of-bed3, of-full, each-bed3, each-full, three-stored, filter-three}

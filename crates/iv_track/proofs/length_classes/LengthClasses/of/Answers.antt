@@ -2,7 +2,7 @@ use Rattle.std.proofs.Common.{ℕ, List, ◌∙◌, ◌+◌, ◌<◌, ap, sym, s
 use Rattle.std.specs.Prelude.{All, slice_index_or, slice_set}
 use Rattle.std.specs.Map.{keys_of}
 use Rattle.std.proofs.lemmas.List.Elements.{All-cons, All-nil}
-use Rattle.iv_text.specs.RecordValue.{RecordValue, IsPlaced}
+use Rattle.iv_lines.specs.RecordValue.{RecordValue, IsPlaced}
 use Rattle.iv_track.specs.Copies.{expanded}
 use Rattle.iv_track.specs.Inside.LengthClasses.{length_class}
 use Rattle.iv_track.specs.Lent.{value_of}

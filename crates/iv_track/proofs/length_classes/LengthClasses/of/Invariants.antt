@@ -1,7 +1,7 @@
 use Rattle.std.proofs.Common.{length}
 use Rattle.std.specs.Prelude.{All}
 use Rattle.std.specs.Map.{keys_of}
-use Rattle.iv_text.specs.RecordValue.{IsPlaced}
+use Rattle.iv_lines.specs.RecordValue.{IsPlaced}
 use Rattle.iv_track.specs.Copies.{expanded}
 use Rattle.iv_track.proofs.ClassLemmas.{AreCountedBut}
 use Rattle.iv_track.proofs.length_classes.LengthClasses.of.Given as goal

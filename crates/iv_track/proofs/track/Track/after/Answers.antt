@@ -1,6 +1,6 @@
 use Rattle.std.proofs.Common.{◌∙◌, sym, ap, Some}
 use Rattle.std.specs.Ordering.{is_lt}
-use Rattle.iv_text.specs.RecordValue.{RecordValue, record_cmp}
+use Rattle.iv_lines.specs.RecordValue.{RecordValue, record_cmp}
 use Rattle.iv_track.specs.Tracked.{Tracked, next_after}
 use Rattle.iv_track.proofs.TrackLemmas.{next-entry}
 use Rattle.iv_track.proofs.track.Track.after.Goals as goal

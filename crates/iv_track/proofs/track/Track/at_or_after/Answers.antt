@@ -1,5 +1,5 @@
 use Rattle.std.proofs.Common.{◌∙◌, sym, ap, Some}
-use Rattle.iv_text.specs.RecordValue.{RecordValue}
+use Rattle.iv_lines.specs.RecordValue.{RecordValue}
 use Rattle.iv_track.specs.Tracked.{Tracked, next_from, is_from}
 use Rattle.iv_track.proofs.EntryIndexLemmas.{find-begun, find-nowhere}
 use Rattle.iv_track.proofs.TrackLemmas.{next-entry}

@@ -1,9 +1,8 @@
 use Rattle.std.proofs.Common.{◌∙◌, sym, ap, subst, lit≤}
 use Rattle.std.specs.Prelude.{unwrap_or}
 use Rattle.iv_track.proofs.StepLemmas.{takes_none, takes_one_more, takes_within}
-use Rattle.iv_text.specs.RecordValue.{record_cmp}
-use Rattle.iv_text.specs.RecordValue.{records_total}
-use Rattle.iv_text.specs.Ordered.{AreInOrder, copies}
+use Rattle.iv_lines.specs.RecordValue.{record_cmp, records_total}
+use Rattle.iv_lines.specs.Ordered.{AreInOrder, copies}
 use Rattle.iv_track.specs.Tracked.{Tracked}
 use Rattle.iv_track.proofs.Counts.{copies-expanded, in_order-expanded}
 use Rattle.iv_track.proofs.track.Track.copies.Goals as goal

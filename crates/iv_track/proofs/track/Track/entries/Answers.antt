@@ -1,7 +1,7 @@
 use Rattle.std.proofs.Common.{◌≡◌, ◌∙◌, length, sym, ap, subst}
 use Rattle.std.specs.Prelude.{filter}
 use Rattle.std.proofs.lemmas.List.Kept.{IsStrictlySortedBy-filter}
-use Rattle.iv_text.specs.RecordValue.{record_cmp, records_total}
+use Rattle.iv_lines.specs.RecordValue.{record_cmp, records_total}
 use Rattle.std.specs.List.Sorted.{IsStrictlySortedBy}
 use Rattle.std.specs.Map.{keys_of}
 use Rattle.iv_track.specs.Copies.{expanded}

@@ -1,7 +1,7 @@
 use Rattle.std.proofs.Common.{ℕ, List, length, subst, ap, arith}
 use Rattle.std.specs.Prelude.{All}
 use Rattle.std.specs.Map.{keys_of}
-use Rattle.iv_text.specs.RecordValue.{RecordValue, IsPlaced}
+use Rattle.iv_lines.specs.RecordValue.{RecordValue, IsPlaced}
 use Rattle.iv_track.specs.Copies.{expanded}
 use Rattle.iv_track.specs.Inside.LengthClasses.{AreClasses}
 use Rattle.iv_track.proofs.BuiltLemmas.{counted-ordered, counted-length, counted_track}

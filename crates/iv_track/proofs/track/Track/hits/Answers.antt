@@ -1,7 +1,7 @@
 use Rattle.std.proofs.Common.{◌∙◌, ◌≤◌, List, sym, ap, subst, arith, length}
-use Rattle.iv_text.specs.Ordered.{AreInOrder}
-use Rattle.iv_text.specs.RecordValue.{RecordValue, record_cmp}
-use Rattle.iv_text.proofs.InOrderLemmas.{in_order-filter}
+use Rattle.iv_lines.specs.Ordered.{AreInOrder}
+use Rattle.iv_lines.specs.RecordValue.{RecordValue, record_cmp}
+use Rattle.iv_lines.proofs.InOrderLemmas.{in_order-filter}
 use Rattle.iv_track.specs.Regions.{hits, near}
 use Rattle.iv_track.specs.Tracked.{is_from}
 use Rattle.iv_track.specs.Inside.Tracked.{starting_before}

@@ -1,8 +1,8 @@
 use Rattle.std.proofs.Common.{◌∙◌, sym, ap, subst, length}
-use Rattle.iv_text.specs.Ordered.{AreInOrder}
+use Rattle.iv_lines.specs.Ordered.{AreInOrder}
 use Rattle.iv_track.specs.Tracked.{Tracked}
 use Rattle.iv_track.proofs.Counts.{length-expanded, in_order-expanded}
-use Rattle.iv_text.specs.RecordValue.{record_cmp, records_total}
+use Rattle.iv_lines.specs.RecordValue.{record_cmp, records_total}
 use Rattle.iv_track.proofs.track.Track.len.Goals as goal
 
 pub returns-clause-len : goal.returns-clause-len

@@ -1,11 +1,11 @@
 use Rattle.std.proofs.Common.{◌≡◌, ◌∙◌, ◌<◌, sym, ap, arith, List}
-use Rattle.iv_text.specs.RecordValue.{RecordValue, record_cmp, records_total}
-use Rattle.iv_text.specs.Ordered.{copies, added}
+use Rattle.iv_lines.specs.RecordValue.{RecordValue, record_cmp, records_total}
+use Rattle.iv_lines.specs.Ordered.{copies, added}
 use Rattle.iv_track.specs.Tracked.{Tracked, removed}
-use Rattle.iv_text.proofs.OrderedLemmas.{copies-added}
+use Rattle.iv_lines.proofs.OrderedLemmas.{copies-added}
 use Rattle.iv_track.proofs.Counts.{removed-added}
 use Rattle.iv_track.proofs.Edits.{refused-absent}
-use Rattle.iv_text.proofs.RecordLemmas.{rows_exact}
+use Rattle.iv_lines.proofs.RecordLemmas.{rows_exact}
 use Rattle.iv_track.proofs.track.Track.replace.Goals as goal
 
 pub unreachable-requires : goal.unreachable-requires

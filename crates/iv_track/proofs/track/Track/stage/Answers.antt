@@ -2,9 +2,9 @@ use Rattle.std.proofs.Common.{ℕ, ◌≡◌, ◌+◌, ◌<◌, ◌∙◌, sym, 
 use Rattle.std.proofs.Common.{Result, Ok, Err}
 use Rattle.std.specs.Prelude.{All, unwrap_or, OnErr, slice_index_or, slice_set}
 use Rattle.std.specs.Map.{keys_of}
-use Rattle.iv_text.specs.RecordValue.{RecordValue, record_cmp}
+use Rattle.iv_lines.specs.RecordValue.{RecordValue, record_cmp}
 use Rattle.iv_track.specs.Entries.{value_at}
-use Rattle.iv_text.specs.Ordered.{added, copies}
+use Rattle.iv_lines.specs.Ordered.{added, copies}
 use Rattle.iv_track.specs.Tracked.{Tracked}
 use Rattle.iv_track.specs.Copies.{expanded}
 use Rattle.iv_track.specs.Inside.LengthClasses.{AreClasses, length_class}

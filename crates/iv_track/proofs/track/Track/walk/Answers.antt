@@ -1,8 +1,8 @@
 use Rattle.std.proofs.Common.{◌∙◌, ap, subst}
 use Rattle.std.specs.Prelude.{filter}
-use Rattle.iv_text.specs.RecordValue.{record_cmp, records_total}
+use Rattle.iv_lines.specs.RecordValue.{record_cmp, records_total}
 use Rattle.iv_track.specs.Copies.{expanded}
-use Rattle.iv_text.specs.Ordered.{AreInOrder}
+use Rattle.iv_lines.specs.Ordered.{AreInOrder}
 use Rattle.iv_track.specs.Tracked.{Tracked, is_from}
 use Rattle.iv_track.proofs.Counts.{in_order-expanded}
 use Rattle.iv_track.proofs.WalkLemmas.{expanded-filter, present-filter}

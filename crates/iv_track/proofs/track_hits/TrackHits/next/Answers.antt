@@ -1,5 +1,5 @@
 use Rattle.std.proofs.Common.{sym, ◌∙◌, subst}
-use Rattle.iv_text.specs.Ordered.{AreInOrder}
+use Rattle.iv_lines.specs.Ordered.{AreInOrder}
 use Rattle.iv_track.proofs.RegionLemmas.{hit_not, hits_beyond}
 use Rattle.iv_track.proofs.track_hits.TrackHits.next.Goals as goal
 

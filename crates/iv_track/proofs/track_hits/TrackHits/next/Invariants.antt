@@ -1,5 +1,5 @@
 use Rattle.std.proofs.Common.{◌≡◌, ◌+◌, ◌≤◌, length}
-use Rattle.iv_text.specs.Ordered.{AreInOrder}
+use Rattle.iv_lines.specs.Ordered.{AreInOrder}
 use Rattle.iv_track.specs.Regions.{hits}
 use Rattle.iv_track.specs.Inside.Tracked.{starting_before}
 use Rattle.iv_track.proofs.track_hits.TrackHits.next.Given as goal

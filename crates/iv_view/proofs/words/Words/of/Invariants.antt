@@ -1,6 +1,6 @@
 use Rattle.std.proofs.Common.{◌≡◌, ◌≤◌, ◌++◌, filter, length, take}
 use Rattle.std.specs.Prelude.{not, ◌==◌}
-use Rattle.iv_text.specs.Fields.{words as words_of}
+use Rattle.iv_lines.specs.Fields.{words as words_of}
 use Rattle.iv_view.proofs.CuttingLemmas.{shown}
 use Rattle.iv_view.proofs.words.Words.of.Given as goal
 

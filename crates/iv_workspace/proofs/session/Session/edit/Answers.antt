@@ -1,6 +1,6 @@
 use Rattle.std.specs.Prelude.{IsSomeAnd, IfSome}
 use Rattle.std.proofs.Common.{Option, sym, ap, subst}
-use Rattle.iv_text.specs.Read.{Fits}
+use Rattle.iv_lines.specs.Read.{Fits}
 use Rattle.iv_track.specs.Tracked.{Tracked}
 use Rattle.iv_workspace.specs.Edits.{EditFits, FitsIn}
 use Rattle.iv_workspace.specs.States.{State}

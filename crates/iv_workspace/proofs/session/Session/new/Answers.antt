@@ -1,7 +1,7 @@
 use Rattle.std.proofs.Common.{◌≡◌, Option, sym, subst, length, ◌≤◌}
 use Rattle.std.specs.Prelude.{All, IfOk, IfSome}
 use Rattle.iv_text.specs.BedFile.{Bed}
-use Rattle.iv_text.specs.Read.{Fits}
+use Rattle.iv_lines.specs.Read.{Fits}
 use Rattle.iv_workspace.specs.States.{begun}
 use Rattle.iv_workspace.proofs.session.Session.new.Goals as goal
 

@@ -1,6 +1,6 @@
 use Rattle.std.proofs.Common.{◌∙◌, List, ℕ, sym, ap, subst}
-use Rattle.iv_text.specs.Named.{names_of, name_index}
-use Rattle.iv_text.proofs.LengthLemmas.{names-with_length, rank-within}
+use Rattle.iv_lines.specs.Named.{names_of, name_index}
+use Rattle.iv_lines.proofs.LengthLemmas.{names-with_length, rank-within}
 use Rattle.iv_workspace.specs.Inside.ViewStates.{AreRight, all_seen}
 use Rattle.iv_workspace.specs.States.{State}
 use Rattle.iv_workspace.proofs.ResizeLemmas.{session-resized, resized-unknown, resized-shorter, resized-fixed, resized-in}

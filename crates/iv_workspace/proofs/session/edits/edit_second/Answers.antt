@@ -1,7 +1,7 @@
 use Rattle.std.specs.Prelude.{IfErr}
 use Rattle.std.proofs.Common.{inr, sym, subst}
 use Rattle.std.proofs.lemmas.Result.{IfErr-weaker}
-use Rattle.iv_text.specs.RecordValue.{RecordValue}
+use Rattle.iv_lines.specs.RecordValue.{RecordValue}
 use Rattle.iv_track.specs.Edits.{RefusesAdd, RefusesReplace}
 use Rattle.iv_workspace.specs.Edits.{RefusesEdit}
 use Rattle.iv_workspace.specs.declared.session.edits.Edit.{Edit}

@@ -1,10 +1,10 @@
 use Rattle.std.specs.Prelude.{IfErr}
 use Rattle.std.proofs.Common.{◌≡◌, ◌∙◌, ◌<◌, List, inr, ap, sym, subst, arith}
 use Rattle.std.proofs.lemmas.Result.{err_from_is_err_and}
-use Rattle.iv_text.specs.Ordered.{added, copies}
-use Rattle.iv_text.specs.Read.{Fits}
-use Rattle.iv_text.specs.RecordValue.{RecordValue}
-use Rattle.iv_text.specs.declared.fault.Fault.TheVariants as fault
+use Rattle.iv_lines.specs.Ordered.{added, copies}
+use Rattle.iv_lines.specs.Read.{Fits}
+use Rattle.iv_lines.specs.RecordValue.{RecordValue}
+use Rattle.iv_lines.specs.declared.fault.Fault.TheVariants as fault
 use Rattle.iv_track.specs.Edits.{RefusesAdd, without_record}
 use Rattle.iv_track.specs.Steps.{TakesUpTo}
 use Rattle.iv_track.specs.Tracked.{Tracked}

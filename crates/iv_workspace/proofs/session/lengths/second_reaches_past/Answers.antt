@@ -1,5 +1,5 @@
 use Rattle.std.proofs.Common.{◌∙◌, List}
-use Rattle.iv_text.specs.RecordValue.{RecordValue}
+use Rattle.iv_lines.specs.RecordValue.{RecordValue}
 use Rattle.iv_workspace.proofs.ResizeLemmas.{hit-past}
 use Rattle.iv_workspace.proofs.session.lengths.second_reaches_past.Goals as goal
 

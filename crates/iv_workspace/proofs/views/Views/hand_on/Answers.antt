@@ -1,6 +1,6 @@
 use Rattle.std.proofs.Common.{◌≡◌, ◌∷◌, Some, arith, sym, subst}
 use Rattle.std.specs.Prelude.{IfSome}
-use Rattle.iv_text.proofs.NamedLemmas.{length-set_value_at}
+use Rattle.iv_lines.proofs.NamedLemmas.{length-set_value_at}
 use Rattle.iv_view.specs.KeptStates.{built_for, state_key_of, IsRight}
 use Rattle.iv_workspace.specs.Inside.ViewStates.{HaveStates, all_owned, all_seen, kept_with}
 use Rattle.iv_workspace.proofs.StateLemmas.{handed-in, handed-seen}

@@ -1,6 +1,6 @@
 use Rattle.std.proofs.Common.{◌≡◌, ◌∙◌, true, ap, refl, subst, length, arith}
 use Rattle.std.specs.Prelude.{◌||◌, not}
-use Rattle.iv_text.proofs.NamedLemmas.{length-set_value_at}
+use Rattle.iv_lines.proofs.NamedLemmas.{length-set_value_at}
 use Rattle.iv_workspace.specs.Inside.ViewStates.{IsKept, all_owned}
 use Rattle.iv_workspace.proofs.StateLemmas.{marked, marks-begin, marks-in, marks-end, same-there}
 use Rattle.iv_workspace.proofs.views.Views.mark_stale.Goals as goal

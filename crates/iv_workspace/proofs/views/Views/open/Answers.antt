@@ -1,7 +1,7 @@
 use Rattle.std.proofs.Common.{◌∙◌, ◌++◌, ◌∷◌, [], ap, sym, subst}
 use Rattle.std.proofs.lemmas.Result.{on_ok_weaker}
-use Rattle.iv_text.specs.Named.{names_of, name_index}
-use Rattle.iv_text.proofs.NamedLemmas.{unplaced}
+use Rattle.iv_lines.specs.Named.{names_of, name_index}
+use Rattle.iv_lines.proofs.NamedLemmas.{unplaced}
 use Rattle.iv_workspace.specs.Inside.ViewStates.{AreRight, all_seen}
 use Rattle.iv_workspace.proofs.OpenViewLemmas.{seen-append}
 use Rattle.iv_workspace.proofs.StateLemmas.{opened-right, renewed}

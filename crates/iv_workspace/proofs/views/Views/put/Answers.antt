@@ -1,5 +1,5 @@
 use Rattle.std.proofs.Common.{◌∙◌}
-use Rattle.iv_text.specs.Named.{names_of}
+use Rattle.iv_lines.specs.Named.{names_of}
 use Rattle.iv_workspace.proofs.views.Views.put.Goals as goal
 
 pub print-requires-clause-kept : goal.print-requires-clause-kept

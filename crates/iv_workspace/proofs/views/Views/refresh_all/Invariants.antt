@@ -1,5 +1,5 @@
 use Rattle.std.proofs.Common.{◌≡◌, ◌⊎◌, ◌<◌, length}
-use Rattle.iv_text.specs.Named.{names_of}
+use Rattle.iv_lines.specs.Named.{names_of}
 use Rattle.iv_workspace.specs.Inside.ViewStates.{AreRight, all_seen}
 use Rattle.iv_workspace.specs.OpenViews.{stale_count}
 use Rattle.iv_workspace.proofs.StateLemmas.{current_to}

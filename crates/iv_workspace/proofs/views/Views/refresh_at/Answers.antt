@@ -1,6 +1,6 @@
 use Rattle.std.proofs.Common.{◌≡◌, inl, inr, refl, true, subst, arith}
-use Rattle.iv_text.proofs.NamedLemmas.{length-set_value_at}
-use Rattle.iv_text.specs.Named.{names_of}
+use Rattle.iv_lines.proofs.NamedLemmas.{length-set_value_at}
+use Rattle.iv_lines.specs.Named.{names_of}
 use Rattle.iv_workspace.specs.Inside.ViewStates.{IsMissing, all_owned}
 use Rattle.iv_bytes.proofs.PutLemmas.{OnErr-all}
 use Rattle.iv_workspace.proofs.StateLemmas.{current-there, stale-there, renewed-in, renewed-seen, same-there}

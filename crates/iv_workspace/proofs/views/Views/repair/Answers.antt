@@ -1,4 +1,4 @@
-use Rattle.iv_text.specs.Named.{names_of}
+use Rattle.iv_lines.specs.Named.{names_of}
 use Rattle.iv_workspace.proofs.OpenViewLemmas.{stales-trans}
 use Rattle.iv_workspace.proofs.views.Views.repair.Goals as goal
 

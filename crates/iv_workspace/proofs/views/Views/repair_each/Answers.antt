@@ -1,6 +1,6 @@
 use Rattle.std.proofs.Common.{◌∙◌, sym, arith}
-use Rattle.iv_text.proofs.NamedLemmas.{length-set_value_at}
-use Rattle.iv_text.specs.Named.{names_of}
+use Rattle.iv_lines.proofs.NamedLemmas.{length-set_value_at}
+use Rattle.iv_lines.specs.Named.{names_of}
 use Rattle.iv_workspace.specs.Inside.ViewStates.{IsOwnRight}
 use Rattle.iv_workspace.proofs.StateLemmas.{repairs-begin, repairs-at, repairs-next, repairs-end}
 use Rattle.iv_workspace.proofs.views.Views.repair_each.Goals as goal

@@ -1,5 +1,5 @@
 use Rattle.std.proofs.Common.{◌≡◌, ◌≤◌, length}
-use Rattle.iv_text.specs.Named.{names_of}
+use Rattle.iv_lines.specs.Named.{names_of}
 use Rattle.iv_workspace.specs.Inside.ViewStates.{with_edited}
 use Rattle.iv_workspace.proofs.StateLemmas.{Repairing}
 use Rattle.iv_workspace.proofs.views.Views.repair_each.Given as goal

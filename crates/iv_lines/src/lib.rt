@@ -1,0 +1,42 @@
+//! Lines, numbers, names, records and genome files.
+#![tactic(auto)]
+
+mod batches;
+mod bed3_record;
+mod bed_record;
+mod fault;
+mod genome;
+mod lemmas;
+mod lines;
+mod name_and_score;
+mod name_map;
+mod number;
+mod record;
+mod record_batches;
+mod record_columns;
+mod record_ref;
+mod record_text;
+mod row_buffer;
+
+pub use batches::{BatchItems, Batches};
+pub use bed_record::BedRecord;
+pub use bed3_record::Bed3Record;
+pub use fault::{Fault, LoadCause, LoadFault, RecordFault, fault_text, load_text};
+pub use genome::{Genome, MOST_LENGTH, is_bad_name};
+pub use lemmas::{
+    first_line_ends_at_feed, genome_or_first_fault, last_line_ends_at_end, one_length_changes,
+    one_ordered_list,
+};
+pub use lines::{
+    Fields, after_byte, columns, columns_after, cut_first_column, lines_of, split_first_column,
+    split_line,
+};
+pub use name_map::{ContentSeed, NameHasher, NameMap};
+pub use number::{read_digits, read_number};
+pub use record::Record;
+pub use record_batches::{KeepsRecords, RecordBatches};
+pub use record_ref::{
+    OptionalColumns, RecordRef, Strand, are_sound, optional_columns_of, read_record, read_strand,
+};
+pub use record_text::{put_line, put_numbered, put_record, put_row, strand_bytes};
+pub use row_buffer::{RowBuffer, put_interval};
