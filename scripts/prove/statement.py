@@ -11,7 +11,7 @@ from collections import Counter, defaultdict, namedtuple
 PROGRAM = ("iv_program", "run_program")
 LINES_OF_A_SCRIPT = ("iv_session", "ScriptLines")  # with these the first part begins
 BYTES = ("iv_lines", "Bytes")  # names of bytes, which are lines of the glossary
-NOTICES = {("iv_args", "InfoRequests"), ("iv_args", "Texts")}  # what has a section of its own at the end
+NOTICES = {("iv_args", "Notices"), ("iv_args", "Texts")}  # what has a section of its own at the end
 # Several definitions of one file have a heading of their own if they are all that it has, or have so many lines; the second number is
 # for all that a part of the page has of the file.
 LINES_FOR_A_HEADING = 8, 6

@@ -1,4 +1,4 @@
 pub mod Arguments
-pub mod InfoRequests
+pub mod Notices
 pub mod Texts
 pub mod Inside

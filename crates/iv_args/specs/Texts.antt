@@ -1,9 +1,9 @@
 -- What the program says about itself.
 use Rattle.std.specs.Prelude.{ℕ, List}
 use Rattle.iv_args.specs.declared.help.TheConstants.{HELP, SESSION, MERGE, CLUSTER, COMPLEMENT, GENOMECOV, INTERSECT, SUBTRACT, GETFASTA, RECORDS}
-use Rattle.iv_args.specs.declared.info_request.TheConstants.{VERSION}
-use Rattle.iv_args.specs.declared.info_request.InfoRequest.{InfoRequest}
-use Rattle.iv_args.specs.declared.info_request.InfoRequest.TheVariants.{Help, HelpOf, Version}
+use Rattle.iv_args.specs.declared.notice.TheConstants.{VERSION}
+use Rattle.iv_args.specs.declared.notice.Notice.{Notice}
+use Rattle.iv_args.specs.declared.notice.Notice.TheVariants.{Help, HelpOf, Version}
 use Rattle.iv_args.specs.declared.subcommand.Subcommand.{Subcommand}
 use Rattle.iv_args.specs.declared.subcommand.Subcommand.TheVariants as kind
 
@@ -20,7 +20,7 @@ help_text kind.Getfasta = GETFASTA.now
 help_text kind.Records = RECORDS.now
 
 -- the text of a notice
-abbrev pub notice_text : InfoRequest → List ℕ
+abbrev pub notice_text : Notice → List ℕ
 notice_text Help = HELP.now
 notice_text (HelpOf run) = help_text run
 notice_text Version = VERSION.now

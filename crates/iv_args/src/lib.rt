@@ -2,12 +2,12 @@
 #![tactic(auto)]
 
 mod help;
-mod info_request;
+mod notice;
 mod options;
 mod plan;
 mod subcommand;
 
-pub use info_request::InfoRequest;
+pub use notice::Notice;
 pub use options::{OptionUsage, OptionValue, RUNS, RunUsage};
 pub use plan::{Plan, Slot};
 pub use subcommand::{Subcommand, no_option_twice, options_among_view_arguments};

@@ -57,8 +57,8 @@ pub(crate) fn put_gaps<B: BlocksAhead, A: Allocator + Copy, S: Sink>(
     ensures steps { TakesForEach (B.steps counter.old) (B.steps counter.new) (B.left blocks.old) (B.left blocks.new) }
 {
     for rank in 0..genome.count() {
-        let name = genome.name_of(rank);
-        let length = genome.length_of(rank);
+        let name = genome.name_or_empty(rank);
+        let length = genome.length_or_zero(rank);
         put_sequence(!limited, name, rank, length, blocks, counter, sink)?;
     }
     Ok(())

@@ -91,11 +91,11 @@ impl<A: Allocator + Copy> Blocks<A> {
             rank: seq,
             side: Side::Both,
         };
-        let name = genome.name_of(seq);
+        let name = genome.name_or_empty(seq);
         let mut low = low;
         'gaps: while u64::from(low) < stop {
             let Some((next, high)) = self.from(group, low, meter) else {
-                let end = genome.length_of(seq);
+                let end = genome.length_or_zero(seq);
                 return put_last_gap(limited, name, low as u64, end, start, sink);
             };
             put_gap(name, low as u64, next as u64, sink)?;

@@ -85,7 +85,7 @@ fn push_entry<A: Allocator + Copy>(
 ) -> Result<Vec<u8, A>, AllocError>
     ensures { OnOk result (entries.new ≡ entries.old ++ kept_entry genome.now (listed options.now.summaries) (with_members block members.now) ∷ []) }
 {
-    let name = genome.name_of(block.sequence);
+    let name = genome.name_or_empty(block.sequence);
     let results = results_in(alloc, options.summaries.as_slice(), name, members, memory)?;
     let kept = KeptBlock::copy_of(alloc, block.stop, results.as_slice())?;
     entries.push(MOST_IN_BATCH, (key_of(block), kept))?;

@@ -34,7 +34,7 @@ impl<A: Allocator + Copy> Blocks<A> {
         let mut walk = self.ledger.walk(&FIRST_KEY, meter);
         while let Some(block) = walk.next(meter) {
             let (sequence, _, _) = block.key;
-            let name = genome.name_of(sequence);
+            let name = genome.name_or_empty(sequence);
             put_block(name, block, sink)?;
         }
         Ok(())

@@ -82,7 +82,7 @@ impl<A: Allocator + Copy> Blocks<A> {
             (side_blocks_in self.now.options genome.now track.now.records group.rank start stop (is_minus group.side))) }
         ensures steps { TakesUpTo meter.old meter.new (3 + length (side_blocks_in self.now.options genome.now track.now.records group.rank start stop (is_minus group.side))) }
     {
-        let name = genome.name_of(group.rank);
+        let name = genome.name_or_empty(group.rank);
         let low = self.reaching_from(group, start, track, genome, meter);
         let mut walk = self.ledger.walk(&group.key(low), meter);
         while let Some(block) = walk.next(meter) {

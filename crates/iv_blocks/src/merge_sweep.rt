@@ -77,7 +77,7 @@ impl<'t, A: Allocator + Copy> MergeSweep<'t, A> {
     {
         let mut left = self.records.again();
         for rank in 0..genome.count() {
-            let name = genome.name_of(rank);
+            let name = genome.name_or_empty(rank);
             let (here, later) = left.split_sequence(rank);
             put_sequence(&self.options, name, &here, &mut self.values, sink)?;
             left = later;

@@ -282,7 +282,7 @@ impl<A: Allocator + Copy> Blocks<A> {
         }
         let members = Members::of(track, group, start, stop, meter);
         let records = gather(self.alloc, members, meter)?;
-        let name = genome.name_of(group.rank);
+        let name = genome.name_or_empty(group.rank);
         let results = results(self.alloc, summaries, name, records.as_slice())?;
         Ok(KeptBlock::copy_of(self.alloc, stop, results.as_slice())?)
     }

@@ -52,7 +52,7 @@ fn put_block<A: Allocator + Copy, S: Sink>(
 ) -> Result<(), WriteFault>
     ensures { Puts (S.state sink.old) (S.state sink.new) result (interval_row genome.now block) }
 {
-    let name = genome.name_of(block.sequence);
+    let name = genome.name_or_empty(block.sequence);
     put_interval(name, u64::from(block.start), u64::from(block.stop), sink)
 }
 

@@ -35,7 +35,7 @@ same-files files = λ i. record files { first = same-bed files.first i; second =
 -- records that fit a genome
 pub fits-beside : (g : Sequences) (limit : ℕ) (o : Option Bed) → IfSome o (AreProjected (λ r. r) g limit) → IfSome o (λ file. All (Fits g file.width) file.records)
 fits-beside g limit None kept = tt
-fits-beside g limit (Some file) kept = fit-all g file.width file.records kept.kept_all
+fits-beside g limit (Some file) kept = fit-all g file.width file.records kept.held_all
 
 pub few-beside : (g : Sequences) (limit : ℕ) (o : Option Bed) → IfSome o (AreProjected (λ r. r) g limit) → IfSome o (λ file. length file.records ≤ limit)
 few-beside g limit None kept = tt

@@ -7,7 +7,7 @@ mod exit_reason;
 
 pub use begin::{begin_session, load};
 pub use exit_reason::{ExitReason, run_status, status};
-pub use iv_args::{InfoRequest, Plan, Slot, Subcommand};
+pub use iv_args::{Notice, Plan, Slot, Subcommand};
 pub use iv_lines::Fault;
 pub use iv_run::{
     CliFault, FileFault, HeldFasta, HeldRecords, HoldsFile, Inputs, RunFiles, RunGenome, read_all,

@@ -117,8 +117,8 @@ pub(crate) fn put_sequence<A: Allocator + Copy, C: DepthChanges, S: Sink>(
     ensures past { (f : ℕ → ℕ → ℕ) → C.are_of changes.old genome.now f rank 0 0 → OnOk result (C.are_past changes.new genome.now f (rank + 1)) }
     ensures steps { TakesForEach (C.reading meter.old) (C.reading meter.new) (C.left changes.old) (C.left changes.new) }
 {
-    let name = genome.name_of(rank);
-    let length = genome.length_of(rank);
+    let name = genome.name_or_empty(rank);
+    let length = genome.length_or_zero(rank);
     let mut start: u64 = 0;
     let mut depth: i64 = 0;
     while let Some((stop, change)) = changes.next_on(rank, meter) {

@@ -104,7 +104,7 @@ pub(crate) fn put_region<A: Allocator + Copy, S: Sink>(
     ensures text { Puts (S.state sink.old) (S.state sink.new) result (rows_in output (sequence_name genome.now rank) (depth_by changes.now rank) (sequence_length genome.now rank) start stop) }
     ensures steps { TakesUpTo meter.old meter.new (3 + 2 * length (covered_runs_in (depth_by changes.now rank) (sequence_length genome.now rank) start stop)) }
 {
-    let name = genome.name_of(rank);
+    let name = genome.name_or_empty(rank);
     let length = length_of(genome, rank);
     let mut from = run_start(changes, rank, start, meter);
     let mut depth = at;

@@ -75,7 +75,7 @@ fn differs<A: Allocator + Copy>(genome: &Genome<A>, name: &[u8], count: u64) -> 
     ensures { result ≡ differs_in genome.now name.now count }
 {
     match genome.rank(name) {
-        Some(rank) => count != genome.length_of(rank),
+        Some(rank) => count != genome.length_or_zero(rank),
         None => false,
     }
 }

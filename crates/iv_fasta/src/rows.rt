@@ -68,7 +68,7 @@ fn put_front<R: BedRecord, A: Allocator + Copy, S: Sink>(
     requires { strand ≡ strand_of output (R.as_record feature.now) }
     ensures { Puts (S.state sink.old) (S.state sink.new) result (front output genome.now (R.as_record feature.now)) }
 {
-    let sequence = genome.name_of(feature.seq());
+    let sequence = genome.name_or_empty(feature.seq());
     let mut start = itoa::Buffer::new();
     let mut stop = itoa::Buffer::new();
     put_pieces(

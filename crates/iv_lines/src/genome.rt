@@ -89,7 +89,7 @@ impl<A: Allocator + Copy> Genome<A> {
     }
 
     /// The name of the sequence of a rank; empty if there is none.
-    pub fn name_of(&self, rank: u32) -> &[u8]
+    pub fn name_or_empty(&self, rank: u32) -> &[u8]
         ensures { result.now ≡ sequence_name self.now rank }
     {
         match self.name(rank) {
@@ -115,7 +115,7 @@ impl<A: Allocator + Copy> Genome<A> {
     }
 
     /// The length of the sequence of a rank; 0 if there is none.
-    pub fn length_of(&self, rank: u32) -> u64
+    pub fn length_or_zero(&self, rank: u32) -> u64
         ensures { result ≡ sequence_length self.now rank }
     {
         self.length(rank).unwrap_or(0)

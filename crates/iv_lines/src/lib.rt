@@ -34,7 +34,7 @@ pub use lines::{
 pub use name_map::{ContentSeed, NameHasher, NameMap};
 pub use number::{read_digits, read_number};
 pub use record::Record;
-pub use record_batches::{KeepsRecords, RecordBatches};
+pub use record_batches::{HoldsRecords, RecordBatches};
 pub use record_ref::{
     OptionalColumns, RecordRef, Strand, are_sound, optional_columns_of, read_record, read_strand,
 };

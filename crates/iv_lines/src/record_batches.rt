@@ -8,7 +8,7 @@ use std::alloc::{AllocError, Allocator, Global};
 use std::marker::Model;
 
 /// What is held of the records of a file, in their order, while they are read.
-pub trait KeepsRecords<K, A: Allocator>: Sized + Drop {
+pub trait HoldsRecords<K, A: Allocator>: Sized + Drop {
     /// What is held, in order.
     ghost items: { Self → List K };
 
@@ -21,11 +21,11 @@ pub trait KeepsRecords<K, A: Allocator>: Sized + Drop {
         ensures { IsTrue result ↔ (length (items self.now) < limit) };
 
     /// Holds one more. If it takes memory, that is for `most` of them.
-    fn keep(&mut self, most: usize, one: K) -> Result<(), AllocError>
+    fn hold(&mut self, most: usize, one: K) -> Result<(), AllocError>
         ensures { OnOk result (items self.new ≡ items self.old ++ one ∷ []) };
 }
 
-impl<K: Drop, A: Allocator + Copy> KeepsRecords<K, A> for Batches<K, A> {
+impl<K: Drop, A: Allocator + Copy> HoldsRecords<K, A> for Batches<K, A> {
     ghost items = { λ batches. batches };
 
     fn empty(alloc: A) -> Self {
@@ -37,7 +37,7 @@ impl<K: Drop, A: Allocator + Copy> KeepsRecords<K, A> for Batches<K, A> {
     }
 
     #[inline(always)]
-    fn keep(&mut self, most: usize, one: K) -> Result<(), AllocError> {
+    fn hold(&mut self, most: usize, one: K) -> Result<(), AllocError> {
         self.push(most, one)
     }
 }
@@ -62,7 +62,7 @@ impl<A: Allocator> Model for RecordBatches<A> {
     ghost view = { λ b. b.bed3 ++ b.others };
 }
 
-impl<A: Allocator + Copy> KeepsRecords<Record<A>, A> for RecordBatches<A> {
+impl<A: Allocator + Copy> HoldsRecords<Record<A>, A> for RecordBatches<A> {
     ghost items = { λ records. records };
 
     fn empty(alloc: A) -> Self {
@@ -78,7 +78,7 @@ impl<A: Allocator + Copy> KeepsRecords<Record<A>, A> for RecordBatches<A> {
     }
 
     #[inline(always)]
-    fn keep(&mut self, most: usize, one: Record<A>) -> Result<(), AllocError> {
+    fn hold(&mut self, most: usize, one: Record<A>) -> Result<(), AllocError> {
         if self.others.is_empty() {
             if let Some(bed3) = one.to_bed3() {
                 return self.bed3.push(most, bed3);

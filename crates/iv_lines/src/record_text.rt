@@ -30,7 +30,7 @@ fn put_interval_of<S: Sink, A: Allocator + Copy>(
 ) -> Result<(), WriteFault>
     ensures { Puts (S.state sink.old) (S.state sink.new) result (interval_columns genome.now feature.now) }
 {
-    let name = genome.name_of(feature.seq());
+    let name = genome.name_or_empty(feature.seq());
     RowBuffer::new().put_after_numbers(name, feature.start(), feature.stop(), sink)
 }
 
@@ -96,7 +96,7 @@ fn put_cut<S: Sink, A: Allocator + Copy>(
         return put_all(sink, tail.as_slice());
     }
     prepend_rest(tail, feature);
-    let name = genome.name_of(feature.seq());
+    let name = genome.name_or_empty(feature.seq());
     tail.put_after_numbers(name, feature.start(), feature.stop(), sink)
 }
 
@@ -117,7 +117,7 @@ fn put_joined<S: Sink, A: Allocator + Copy>(
     }
     tail.prepend(joined);
     tail.prepend_byte(b'\t');
-    let name = genome.name_of(feature.seq());
+    let name = genome.name_or_empty(feature.seq());
     tail.put_after_numbers(name, feature.start(), feature.stop(), sink)
 }
 
@@ -132,7 +132,7 @@ fn put_long<S: Sink, A: Allocator + Copy>(
     requires { codes "\t" ++ joined.now ≡ rest_text feature.now }
     ensures { Puts (S.state sink.old) (S.state sink.new) result (record_text genome.now feature.now ++ tail.old) }
 {
-    let name = genome.name_of(feature.seq());
+    let name = genome.name_or_empty(feature.seq());
     let mut front = RowBuffer::new();
     front.prepend_byte(b'\t');
     front.put_after_numbers(name, feature.start(), feature.stop(), sink)?;

@@ -29,9 +29,9 @@ line-is text at line rest e = rw e refl
 -- ---- the columns after the third
 
 -- a line with as many columns as the width, the sixth of them a strand, has no others than its record
-pub line-whole : (w : ℕ) (text : List ℕ) (p : Locator) → length (columns (line_at text p.line)) ≡ w → w ≤ 6
-    → (6 ≤ w → IsSome (strand_of (column (columns (line_at text p.line)) 5))) → HasAllColumns w text p
-line-whole w text p count few strand = record { all = whole-printed w (columns (line_at text p.line)) count few strand }
+pub line-whole : (w : ℕ) (text : List ℕ) (p : Locator) → length (columns (line_at text p.line_start)) ≡ w → w ≤ 6
+    → (6 ≤ w → IsSome (strand_of (column (columns (line_at text p.line_start)) 5))) → HasAllColumns w text p
+line-whole w text p count few strand = record { all = whole-printed w (columns (line_at text p.line_start)) count few strand }
 
 -- at width 3 it holds for any line
 pub three-whole : (text : List ℕ) (ps : List Locator) → All (HasAllColumns 3 text) ps
@@ -68,12 +68,12 @@ after-third w p (a ∷ b ∷ []) = refl
 after-third w p (a ∷ b ∷ c ∷ cs) = refl
 
 -- the record of the columns after the third is that of the locator
-pub joined-is : (w : ℕ) (text joined : List ℕ) (p : Locator) → columns joined ≡ drop 3 (columns (line_at text p.line))
+pub joined-is : (w : ℕ) (text joined : List ℕ) (p : Locator) → columns joined ≡ drop 3 (columns (line_at text p.line_start))
     → joined_record p.span.seq p.span.start p.span.stop joined w ≡ record_at w text p
-joined-is w text joined p are = ap (record_with w p) are ∙ after-third w p (columns (line_at text p.line))
+joined-is w text joined p are = ap (record_with w p) are ∙ after-third w p (columns (line_at text p.line_start))
 
 -- the text after the third TAB is what is printed
-pub joined-whole : (w : ℕ) (text joined : List ℕ) (p : Locator) → HasAllColumns w text p → 4 ≤ w → columns joined ≡ drop 3 (columns (line_at text p.line))
+pub joined-whole : (w : ℕ) (text joined : List ℕ) (p : Locator) → HasAllColumns w text p → 4 ≤ w → columns joined ≡ drop 3 (columns (line_at text p.line_start))
     → codes "\t" ++ joined ≡ rest_text (joined_record p.span.seq p.span.start p.span.stop joined w)
 joined-whole w text joined p whole some are =
     tabs-columns joined ∙ ap with_tabs are ∙ sym (whole.all some) ∙ ap rest_text (sym (joined-is w text joined p are))
@@ -94,11 +94,11 @@ untested w p false false true = refl
 untested w p false false false = refl
 
 -- at width 3, or on a line without a fourth column, the record has no column after the third
-pub none-after-third : (w : ℕ) (text : List ℕ) (p : Locator) → (w < 4) ⊎ (drop 3 (columns (line_at text p.line)) ≡ []) → none_after w p ≡ record_at w text p
+pub none-after-third : (w : ℕ) (text : List ℕ) (p : Locator) → (w < 4) ⊎ (drop 3 (columns (line_at text p.line_start)) ≡ []) → none_after w p ≡ record_at w text p
 none-after-third w text p (inr none) =
-    untested w p (nat_le 4 w) (nat_le 5 w) (nat_le 6 w) ∙ ap (record_with w p) (sym none) ∙ after-third w p (columns (line_at text p.line))
+    untested w p (nat_le 4 w) (nat_le 5 w) (nat_le 6 w) ∙ ap (record_with w p) (sym none) ∙ after-third w p (columns (line_at text p.line_start))
 none-after-third w text p (inl low) =
-    let cs = columns (line_at text p.line) in
+    let cs = columns (line_at text p.line_start) in
     let four : nat_le 4 w ≡ false = grind (arith, nat_tests, low) in
     let five : nat_le 5 w ≡ false = grind (arith, nat_tests, low) in
     let six : nat_le 6 w ≡ false = grind (arith, nat_tests, low) in

@@ -74,7 +74,7 @@ locator-row g w line r p says rank start stop =
 
 -- the record of a locator into a text, of as many columns as its line has
 abbrev row_in : List ℕ → Locator → RecordValue
-row_in text p = row_of (length (columns (line_at text p.line))) (line_at text p.line) p
+row_in text p = row_of (length (columns (line_at text p.line_start))) (line_at text p.line_start) p
 
 no-line : (line : List ℕ) (others : List (List ℕ)) → lines [] ≡ line ∷ others → ⊥
 no-line line others e = cc
@@ -98,7 +98,7 @@ fits-whole : (g : Sequences) (w : ℕ) (text : List ℕ) (ps : List Locator) →
 fits-whole g w text [] few fit = All-nil (HasAllColumns w text)
 fits-whole g w text (p ∷ ps) few fit =
     let fits : Fits g w (row_in text p) = All-head (Fits g w) (row_in text p) (map (row_in text) ps) fit in
-    let cs = columns (line_at text p.line) in
+    let cs = columns (line_at text p.line_start) in
     let strand : 6 ≤ w → IsSome (strand_of (column cs 5)) = λ six.
     let wide : nat_le 6 (length cs) ≡ true = grind (arith, nat_tests, six, fits.width_is) in
     subst (λ (b : Bool). IsSome (cond b (strand_of (column cs 5)) None)) wide (fits.beside.strand_good six) in
@@ -109,8 +109,8 @@ fits-whole g w text (p ∷ ps) few fit =
 rows-in : (g : Sequences) (w : ℕ) (text : List ℕ) (ps : List Locator) → All (Fits g w) (map (row_in text) ps) → map (row_in text) ps ≡ records_at w text ps
 rows-in g w text [] fit = refl
 rows-in g w text (p ∷ ps) fit =
-    let wide : length (columns (line_at text p.line)) ≡ w = (All-head (Fits g w) (row_in text p) (map (row_in text) ps) fit).width_is in
-    λ i. row_of (wide i) (line_at text p.line) p ∷ rows-in g w text ps (All-tail (Fits g w) (row_in text p) (map (row_in text) ps) fit) i
+    let wide : length (columns (line_at text p.line_start)) ≡ w = (All-head (Fits g w) (row_in text p) (map (row_in text) ps) fit).width_is in
+    λ i. row_of (wide i) (line_at text p.line_start) p ∷ rows-in g w text ps (All-tail (Fits g w) (row_in text p) (map (row_in text) ps) fit) i
 
 -- the locators are those of the records of the text
 pub record AreRead (g : Sequences) (limit empty : ℕ) (text : List ℕ) (w : ℕ) (locators : List Locator) : Type 0 where
@@ -128,7 +128,7 @@ module _ (g : Sequences) (limit empty : ℕ) (text : List ℕ) (small : length t
         let p : Locator = locator_at r (byte_after 0 skipped) in
         let within : skipped < length text = line-within text skipped line others are in
         let at : byte_after 0 skipped ≡ skipped = ap (λ (n : ℕ). n % 2 ^ 32) (omega arith) ∙ mod-eq_of_lt (omega (arith, within, small)) in
-        let line_is : line_at text p.line ≡ line = ap (line_at text) at ∙ line-is text skipped line others are in
+        let line_is : line_at text p.line_start ≡ line = ap (line_at text) at ∙ line-is text skipped line others are in
         ap (λ (l : List ℕ). row_of (length (columns l)) l p) line_is
         ∙ ap (λ (n : ℕ). row_of n line p) (count-is g w line r reads)
         ∙ sym (locator-row g w line r p reads refl refl refl);
@@ -148,22 +148,22 @@ module _ (g : Sequences) (limit empty : ℕ) (text : List ℕ) (small : length t
       says (Err f) (begun_refuses (λ r. r) (row_in text) shows-locators [])
 
   pub text-read : (old now : Held Locator) → old ≡ none_held → TakesLines locator_at g limit old now text → 3 ≤ empty → empty ≤ 6
-      → AreRead g limit empty text (unwrap_or now.width empty) now.kept
+      → AreRead g limit empty text (unwrap_or now.width empty) now.held
   text-read old now none takes low high =
       let w : ℕ = unwrap_or now.width empty in
-      let records : List RecordValue = map (row_in text) now.kept in
+      let records : List RecordValue = map (row_in text) now.held in
       let begun_takes : TakesLines locator_at g limit none_held now text = subst (λ (h : Held Locator). TakesLines locator_at g limit h now text) none takes in
       let taken = begun_takes (λ r. r) (row_in text) shows-locators in
       let sound : AreSoundLines (λ r. r) g limit (shown (row_in text) now) = taken.0 (begun-sound (λ r. r) g limit) in
       let wide = sound-kept (λ r. r) g limit (shown (row_in text) now) empty sound low high in
       let fit : All (Fits g w) records = fit-all g w records wide.2 in
-      let same : records ≡ records_at w text now.kept = rows-in g w text now.kept fit in
-      let fit_at : All (Fits g w) (records_at w text now.kept) = subst (All (Fits g w)) same fit in
+      let same : records ≡ records_at w text now.held = rows-in g w text now.held fit in
+      let fit_at : All (Fits g w) (records_at w text now.held) = subst (All (Fits g w)) same fit in
       record {
         says =
             says (Ok (record { width = now.width; records = map (λ r. r) records })) (taken.1 [])
             ∙ ap (λ (l : List RecordValue). Ok (record { width = w; records = l })) (rows-all records ∙ same);
         fit = fit_at;
         few = subst (λ (l : List RecordValue). length l ≤ limit) same sound.few;
-        places_are = record { low = wide.0; high = wide.1; some = fits-base g w w text now.kept fit_at; whole = fits-whole g w text now.kept wide.1 fit };
+        places_are = record { low = wide.0; high = wide.1; some = fits-base g w w text now.held fit_at; whole = fits-whole g w text now.held wide.1 fit };
       }

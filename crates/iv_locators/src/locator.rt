@@ -19,11 +19,11 @@ pub struct Locator {
     /// The record's interval, 0-based and half-open.
     pub span: Span,
     /// The byte of the text at which its line begins.
-    pub line: u32,
+    pub line_start: u32,
 }
 
 impl<A: Allocator + Copy> FromRecord<A> for Locator {
-    type Kept = Batches<Self, A>;
+    type Holder = Batches<Self, A>;
 
     ghost projected = { bare };
 
@@ -37,7 +37,10 @@ impl<A: Allocator + Copy> FromRecord<A> for Locator {
 
     fn from_record(alloc: A, record: &RecordRef<'_>, at: u32) -> Result<Locator, AllocError> {
         let span = Span::from_record(alloc, record, at)?;
-        Ok(Locator { span, line: at })
+        Ok(Locator {
+            span,
+            line_start: at,
+        })
     }
 
     fn most_in_batch() -> usize {
@@ -50,7 +53,10 @@ impl<A: Allocator + Copy> FromRecord<A> for Locator {
 
     fn from_interval(alloc: A, width: u8, line: &FastLine, at: u32) -> Option<Locator> {
         let span = Span::from_interval(alloc, width, line, at)?;
-        Some(Locator { span, line: at })
+        Some(Locator {
+            span,
+            line_start: at,
+        })
     }
 }
 
@@ -108,18 +114,18 @@ pub(crate) fn optional_columns_of(text: &[u8], locator: Locator, width: u8) -> O
             strand: None,
         };
     }
-    optional_columns_in(line_from(text, locator.line), width)
+    optional_columns_in(line_from(text, locator.line_start), width)
 }
 
 /// The columns after the third of a locator's line, with a TAB between two of them, if it has so many. At width 3 its line isn't
 /// looked at, and there are none.
 pub(crate) fn joined_columns_of(text: &[u8], locator: Locator, width: u8) -> Option<&[u8]>
-    ensures { MatchOption result ((width < 4) ⊎ (drop 3 (columns_of (line_at text.now locator.line)) ≡ [])) (λ joined. (4 ≤ width) × (columns_of joined.now ≡ drop 3 (columns_of (line_at text.now locator.line)))) }
+    ensures { MatchOption result ((width < 4) ⊎ (drop 3 (columns_of (line_at text.now locator.line_start)) ≡ [])) (λ joined. (4 ≤ width) × (columns_of joined.now ≡ drop 3 (columns_of (line_at text.now locator.line_start)))) }
 {
     if width < 4 {
         return None;
     }
-    after_three_columns(line_from(text, locator.line))
+    after_three_columns(line_from(text, locator.line_start))
 }
 
 /// What follows the third TAB of a line, if it has so many.

@@ -26,7 +26,7 @@ pub struct Span {
 }
 
 impl<A: Allocator + Copy> FromRecord<A> for Span {
-    type Kept = Batches<Self, A>;
+    type Holder = Batches<Self, A>;
 
     ghost projected = { bare };
 

@@ -36,6 +36,6 @@ fn locator_of<A: Allocator + Copy>(feature: &TrackRecord<'_, A>) -> Locator
             start: feature.start() as u32,
             stop: feature.stop() as u32,
         },
-        line: 0,
+        line_start: 0,
     }
 }

@@ -68,7 +68,7 @@ impl<A: Allocator + Copy> Second<A> {
         ensures { IfOk result (λ s. s ≡ record { records = ordered records; width = width; limit = limit }) }
     {
         let mut meter = Meter::new();
-        let track = Track::from_kept(alloc, width, limit, records)?;
+        let track = Track::from_held(alloc, width, limit, records)?;
         let lengths = lengths_of(alloc, &track, &mut meter)?;
         Ok(Second {
             alloc,

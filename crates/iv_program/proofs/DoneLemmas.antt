@@ -10,14 +10,14 @@ use Rattle.iv_session.specs.declared.script.RunCause.{RunCause}
 use Rattle.iv_session.specs.declared.script.RunCause.TheVariants as cause
 use Rattle.iv_session.specs.declared.script.RunFault.{RunFault}
 use Rattle.iv_session.specs.declared.script.Summary.{Summary}
-use Rattle.iv_args.specs.InfoRequests.{notice_of}
+use Rattle.iv_args.specs.Notices.{notice_of}
 use Rattle.iv_args.specs.Texts.{notice_text}
 use Rattle.iv_args.specs.Arguments.{RunPlan, IsPlan, is_session, run_of}
 use Rattle.iv_args.proofs.ArgumentLemmas.{for-kind}
 use Rattle.iv_args.specs.declared.subcommand.Subcommand.{Subcommand}
 use Rattle.iv_args.specs.declared.subcommand.Subcommand.TheVariants as kind
 use Rattle.std.specs.Option.{option_to_list}
-use Rattle.iv_args.specs.declared.info_request.InfoRequest.{InfoRequest}
+use Rattle.iv_args.specs.declared.notice.Notice.{Notice}
 use Rattle.iv_run.specs.Shots.{Shows, shown}
 use Rattle.iv_run.specs.declared.fault.CliFault.{CliFault}
 use Rattle.iv_run.specs.declared.fault.CliFault.TheVariants as fault
@@ -155,14 +155,14 @@ pub none-waits : (arguments : List (List ℕ)) (before after : World) (answer : 
     → waiting after.streams.output ≡ []
 none-waits arguments before after answer ran zero = (finished arguments before after answer ran zero).2
 
-pub info_request-done : (arguments : List (List ℕ)) (before after : World) (info_request : InfoRequest) (answer : Ended) → notice_of arguments ≡ Some info_request → Runs arguments before after answer
-    → status_of answer.exit_reason ≡ 0 → Takes before.streams.output after.streams.output (notice_text info_request)
-info_request-done arguments before after info_request answer is ran zero =
+pub notice-done : (arguments : List (List ℕ)) (before after : World) (notice : Notice) (answer : Ended) → notice_of arguments ≡ Some notice → Runs arguments before after answer
+    → status_of answer.exit_reason ≡ 0 → Takes before.streams.output after.streams.output (notice_text notice)
+notice-done arguments before after notice answer is ran zero =
     let ends = finished arguments before after answer ran zero in
-    let serves : Serves (Some info_request) arguments before ran.reached ran.ended ran.name answer.line =
-    subst (λ (o : Option InfoRequest). Serves o arguments before ran.reached ran.ended ran.name answer.line) is ran.serves in
+    let serves : Serves (Some notice) arguments before ran.reached ran.ended ran.name answer.line =
+    subst (λ (o : Option Notice). Serves o arguments before ran.reached ran.ended ran.name answer.line) is ran.serves in
     elim serves.0 [
-      | inl took ↦ then-flushed before.streams.output ran.reached.streams.output after.streams.output (notice_text info_request) took.1 ends.1
+      | inl took ↦ then-flushed before.streams.output ran.reached.streams.output after.streams.output (notice_text notice) took.1 ends.1
       | inr lost ↦ absurd (cc (sym lost.0 ∙ ends.0))
     ]
 
@@ -207,7 +207,7 @@ one-plan arguments p q a b =
 pub plan-all-done : (arguments : List (List ℕ)) (before after : World) (plan : RunPlan) (answer : Ended) → notice_of arguments ≡ None → IsPlan arguments plan → Runs arguments before after answer
     → status_of answer.exit_reason ≡ 0 → DoesAll plan before after
 plan-all-done arguments before after plan answer none is ran zero =
-    by (subst (λ (o : Option InfoRequest). Serves o arguments before ran.reached ran.ended ran.name answer.line) none ran.serves)
+    by (subst (λ (o : Option Notice). Serves o arguments before ran.reached ran.ended ran.name answer.line) none ran.serves)
   where
     ends : (ran.ended ≡ exit_reason.Done) × Takes ran.reached.streams.output after.streams.output [] × (waiting after.streams.output ≡ [])
     ends = finished arguments before after answer ran zero

@@ -17,10 +17,10 @@ use Rattle.iv_session.specs.Stops.{Stopped}
 use Rattle.iv_session.specs.Streams.{Streams}
 use Rattle.iv_session.specs.declared.script.RunFault.{RunFault}
 use Rattle.iv_session.specs.declared.script.Summary.{Summary}
-use Rattle.iv_args.specs.InfoRequests.{notice_of}
+use Rattle.iv_args.specs.Notices.{notice_of}
 use Rattle.iv_args.specs.Texts.{notice_text}
 use Rattle.iv_args.specs.Arguments.{RunPlan, IsPlan, file_of, is_session}
-use Rattle.iv_args.specs.declared.info_request.InfoRequest.{InfoRequest}
+use Rattle.iv_args.specs.declared.notice.Notice.{Notice}
 use Rattle.iv_args.specs.declared.subcommand.Subcommand.{Subcommand}
 use Rattle.iv_args.specs.declared.subcommand.Subcommand.TheVariants as kind
 use Rattle.iv_args.specs.declared.plan.Slot.{Slot}
@@ -228,15 +228,15 @@ finished ended name out0 out1 said0 said1 reported ends = record { flushed = by 
     by false flush is = inr (flush, is)
 
 module _ (arguments : List (List ℕ)) (answer : Ended) where
-  pub gave-info_request : (info_request : InfoRequest) (files : FilesState) (input : SourceState) (o0 o1 o2 s0 s1 : SinkState) (ended : ExitReason) → notice_of arguments ≡ Some info_request
-      → ((ended ≡ exit_reason.Done) × Takes o0 o1 (notice_text info_request)) ⊎ ((ended ≡ exit_reason.Output) × FailsIn o0 o1 (notice_text info_request))
+  pub gave-notice : (notice : Notice) (files : FilesState) (input : SourceState) (o0 o1 o2 s0 s1 : SinkState) (ended : ExitReason) → notice_of arguments ≡ Some notice
+      → ((ended ≡ exit_reason.Done) × Takes o0 o1 (notice_text notice)) ⊎ ((ended ≡ exit_reason.Output) × FailsIn o0 o1 (notice_text notice))
       → EndsRun ended [] o1 o2 s0 s1 answer.exit_reason → answer.line ≡ 0
       → Runs arguments (world files input o0 s0) (world files input o2 s1) answer
-  gave-info_request info_request files input o0 o1 o2 s0 s1 ended is gives finishes no_line = record {
+  gave-notice notice files input o0 o1 o2 s0 s1 ended is gives finishes no_line = record {
     reached = world files input o1 s0;
     ended = ended;
     name = [];
-    serves = subst (λ (o : Option InfoRequest). Serves o arguments (world files input o0 s0) (world files input o1 s0) ended [] answer.line) (sym is) (gives, refl, no_line);
+    serves = subst (λ (o : Option Notice). Serves o arguments (world files input o0 s0) (world files input o1 s0) ended [] answer.line) (sym is) (gives, refl, no_line);
     finishes = finished ended [] o1 o2 s0 s1 answer.exit_reason finishes;
     files = refl;
     input = refl;
@@ -250,7 +250,7 @@ module _ (arguments : List (List ℕ)) (answer : Ended) where
     reached = world f1 i1 o1 s1;
     ended = ended;
     name = name;
-    serves = subst (λ (o : Option InfoRequest). Serves o arguments (world f0 i0 o0 s0) (world f1 i1 o1 s1) ended name answer.line) (sym none)
+    serves = subst (λ (o : Option Notice). Serves o arguments (world f0 i0 o0 s0) (world f1 i1 o1 s1) ended name answer.line) (sym none)
         (inl (plan, is, named, subst (λ (n : ℕ). RunsPlan plan (world f0 i0 o0 s0) (world f1 i1 o1 s1) ended n) (sym same_line) (by runs)));
     finishes = finished ended name o1 o2 s1 s2 answer.exit_reason finishes;
     files = refl;
@@ -269,7 +269,7 @@ module _ (arguments : List (List ℕ)) (answer : Ended) where
     reached = world files input o0 s0;
     ended = ended;
     name = [];
-    serves = subst (λ (o : Option InfoRequest). Serves o arguments (world files input o0 s0) (world files input o0 s0) ended [] answer.line) (sym none) (inr (by is, refl, no_line));
+    serves = subst (λ (o : Option Notice). Serves o arguments (world files input o0 s0) (world files input o0 s0) ended [] answer.line) (sym none) (inr (by is, refl, no_line));
     finishes = finished ended [] o0 o1 s0 s1 answer.exit_reason finishes;
     files = refl;
     input = refl;

@@ -3,8 +3,8 @@ use Rattle.std.specs.Prelude.{MatchResult}
 use Rattle.std.proofs.Common.{◌≡◌, ◌⊎◌, ◌<◌, inl, inr, ℕ, Bool, true, false, true≢false, List, [], length, Option, None, Some, Result, Ok, Err, IfSome, sym, ap, ◌∙◌, subst, arith}
 use Rattle.iv_bytes.specs.Sinks.{SinkState, Takes, FailsIn}
 use Rattle.iv_session.specs.Streams.{Streams}
-use Rattle.iv_args.specs.InfoRequests.{notice_of}
-use Rattle.iv_args.specs.declared.info_request.InfoRequest.{InfoRequest}
+use Rattle.iv_args.specs.Notices.{notice_of}
+use Rattle.iv_args.specs.declared.notice.Notice.{Notice}
 use Rattle.iv_args.specs.Arguments.{RunPlan, IsPlan, file_of, is_session}
 use Rattle.iv_args.specs.declared.subcommand.Subcommand.{Subcommand}
 use Rattle.iv_args.specs.declared.subcommand.Subcommand.TheVariants as kind
@@ -149,7 +149,7 @@ pub prints-just : (arguments : List (List ℕ)) (before after : World) (plan : R
     → is_session plan.run ≡ false → Hold before.files plan texts → Runs arguments before after answer → IsSound after → (status_of answer.exit_reason ≡ 5 → ⊥)
     → PrintsJust plan (shown plan texts.sizes texts.first texts.other texts.bases plan.limit) before.streams after.streams (status_of answer.exit_reason)
 prints-just arguments before after plan texts answer none is view hold ran sound had_memory = by
-    (subst (λ (o : Option InfoRequest). Serves o arguments before ran.reached ran.ended ran.name answer.line) none ran.serves)
+    (subst (λ (o : Option Notice). Serves o arguments before ran.reached ran.ended ran.name answer.line) none ran.serves)
   where
     Goal : Type 0
     Goal = PrintsJust plan (shown plan texts.sizes texts.first texts.other texts.bases plan.limit) before.streams after.streams (status_of answer.exit_reason)

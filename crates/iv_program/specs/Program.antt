@@ -3,10 +3,10 @@ use Rattle.std.specs.Prelude.{◌≡◌, ℕ, ◌⊎◌, if◌then◌else◌, Li
 use Rattle.iv_bytes.specs.Sinks.{SinkState, Takes, FailsIn, waiting}
 use Rattle.iv_bytes.specs.Sources.{SourceState}
 use Rattle.iv_lines.specs.declared.fault.Fault.TheVariants as refused
-use Rattle.iv_args.specs.InfoRequests.{notice_of}
+use Rattle.iv_args.specs.Notices.{notice_of}
 use Rattle.iv_args.specs.Texts.{notice_text}
 use Rattle.iv_args.specs.Arguments.{RunPlan, IsPlan}
-use Rattle.iv_args.specs.declared.info_request.InfoRequest.{InfoRequest}
+use Rattle.iv_args.specs.declared.notice.Notice.{Notice}
 use Rattle.iv_cli.specs.ExitReasons.{is_through, line_of, name_meant}
 use Rattle.iv_cli.specs.declared.exit_reason.ExitReason.{ExitReason}
 use Rattle.iv_cli.specs.declared.exit_reason.ExitReason.TheVariants as exit_reason
@@ -21,10 +21,10 @@ world files input output messages = record { files = files; streams = record { i
 -- what arguments ask for was done, and ended so, at this line of its script if it ended early at one. If they ask for a notice, its text was
 -- put, or the output failed in it. Otherwise they are those of a plan, which was run, and the name is that of the file that the ending
 -- speaks of; or nothing was done, as they are those of no plan, or memory ran out
-abbrev pub Serves : Option InfoRequest → List (List ℕ) → World → World → ExitReason → List ℕ → ℕ → Type 0
-Serves (Some info_request) arguments before after ended name line =
-    (((ended ≡ exit_reason.Done) × Takes before.streams.output after.streams.output (notice_text info_request))
-    ⊎ ((ended ≡ exit_reason.Output) × FailsIn before.streams.output after.streams.output (notice_text info_request)))
+abbrev pub Serves : Option Notice → List (List ℕ) → World → World → ExitReason → List ℕ → ℕ → Type 0
+Serves (Some notice) arguments before after ended name line =
+    (((ended ≡ exit_reason.Done) × Takes before.streams.output after.streams.output (notice_text notice))
+    ⊎ ((ended ≡ exit_reason.Output) × FailsIn before.streams.output after.streams.output (notice_text notice)))
     × (after ≡ record before { streams = record before.streams { output = after.streams.output } }) × (line ≡ 0)
 Serves None arguments before after ended name line =
     ((plan : RunPlan) × IsPlan arguments plan × (name ≡ name_meant plan ended) × (HasRead plan before after ended line ⊎ HasNotRead plan before after ended line))

@@ -2,10 +2,10 @@
 ghost use Rattle.std.specs.Prelude.{◌≡◌, ◌≢◌, ◌⊎◌, ℕ, List, [], Some, None, IfOk, IfErr, IfSome, MatchResult, OnOk, OnErr, map, true, false};
 ghost use Rattle.iv_bytes.specs.Sinks.{FailsIn, Takes, waiting};
 ghost use Rattle.iv_locators.specs.Locators.{bare};
-ghost use Rattle.iv_args.specs.InfoRequests.{notice_of};
+ghost use Rattle.iv_args.specs.Notices.{notice_of};
 ghost use Rattle.iv_args.specs.Texts.{notice_text};
 ghost use Rattle.iv_args.specs.Arguments.{RunPlan, IsPlan, is_session};
-ghost use Rattle.iv_args.specs.declared.info_request.InfoRequest.{InfoRequest};
+ghost use Rattle.iv_args.specs.declared.notice.Notice.{Notice};
 ghost use Rattle.iv_run.specs.IntervalsViews.{AskForIntervals};
 ghost use Rattle.iv_run.specs.Inside.IntervalsViews.{AskForColumns};
 ghost use Rattle.iv_run.specs.Shots.{shown};
@@ -23,7 +23,7 @@ ghost use Rattle.iv_program.specs.declared.program.Ended.{Ended};
 
 use crate::files::{InputFiles, SlotFault, read_files};
 use crate::script_run::run_session;
-use iv_args::{InfoRequest, Plan};
+use iv_args::{Notice, Plan};
 use iv_bytes::{Flush, Sink, Source, put_all};
 use iv_cli::ExitReason;
 use iv_locators::Span;
@@ -58,11 +58,11 @@ impl Ended {
 }
 
 /// Prints a notice.
-fn print_notice<W: Sink>(info_request: InfoRequest, output: &mut W) -> ExitReason
-    ensures { ((result ≡ ExitReason.Done) × Takes (W.state output.old) (W.state output.new) (notice_text info_request))
-        ⊎ ((result ≡ ExitReason.Output) × FailsIn (W.state output.old) (W.state output.new) (notice_text info_request)) }
+fn print_notice<W: Sink>(notice: Notice, output: &mut W) -> ExitReason
+    ensures { ((result ≡ ExitReason.Done) × Takes (W.state output.old) (W.state output.new) (notice_text notice))
+        ⊎ ((result ≡ ExitReason.Output) × FailsIn (W.state output.old) (W.state output.new) (notice_text notice)) }
 {
-    match put_all(output, info_request.text()) {
+    match put_all(output, notice.text()) {
         Ok(()) => ExitReason::Done,
         Err(_) => ExitReason::Output,
     }
@@ -192,8 +192,8 @@ pub fn run_program<A: Allocator + Copy, F: InputFiles, R: Source, W: Flush, E: S
         (world (F.state files.old) (R.state input.old) (W.state output.old) (E.state messages.old))
         (world (F.state files.new) (R.state input.new) (W.state output.new) (E.state messages.new)) result }
 {
-    if let Some(info_request) = InfoRequest::of(arguments) {
-        let ended = Ended::at_no_line(print_notice(info_request, output));
+    if let Some(notice) = Notice::of(arguments) {
+        let ended = Ended::at_no_line(print_notice(notice, output));
         return finish(ended, b"", output, messages);
     }
     match Plan::read(alloc, arguments) {
@@ -211,7 +211,7 @@ pub fn run_program<A: Allocator + Copy, F: InputFiles, R: Source, W: Flush, E: S
 /// A run that gives the status 0 has done all that its arguments ask for: the output has taken the whole text of the notice or of the
 /// view for the files' bytes, or every line of the script was run and none refused. Nothing of it waits in the output.
 pub fn done_is_all()
-    ensures info_request { (arguments : List (List ℕ)) (before after : World) (info_request : InfoRequest) (ended : Ended) → notice_of arguments ≡ Some info_request → Runs arguments before after ended → status_of ended.exit_reason ≡ 0 → Takes before.streams.output after.streams.output (notice_text info_request) }
+    ensures notice { (arguments : List (List ℕ)) (before after : World) (notice : Notice) (ended : Ended) → notice_of arguments ≡ Some notice → Runs arguments before after ended → status_of ended.exit_reason ≡ 0 → Takes before.streams.output after.streams.output (notice_text notice) }
     ensures plan { (arguments : List (List ℕ)) (before after : World) (plan : RunPlan) (ended : Ended) → notice_of arguments ≡ None → IsPlan arguments plan → Runs arguments before after ended → status_of ended.exit_reason ≡ 0 → DoesAll plan before after }
     ensures flushed { (arguments : List (List ℕ)) (before after : World) (ended : Ended) → Runs arguments before after ended → status_of ended.exit_reason ≡ 0 → waiting after.streams.output ≡ [] }
 {}

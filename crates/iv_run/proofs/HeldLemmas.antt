@@ -3,7 +3,7 @@ use Rattle.std.proofs.Common.{◌≡◌, ◌∙◌, ◌⊎◌, inl, inr, ℕ, �
 use Rattle.std.specs.Prelude.{IsOkAnd}
 use Rattle.std.proofs.lemmas.List.{map-append}
 use Rattle.std.proofs.lemmas.List.Elements.{All-nil, All-cons, All-head, All-tail}
-use Rattle.iv_text.specs.BedFile.{Bed, Draft, after_record, bed_of, is_unread, is_width}
+use Rattle.iv_text.specs.BedFile.{Bed, Draft, after_record, bed_of, is_skipped_line, is_width}
 use Rattle.iv_text.specs.BedReading.{IsProjected, Reading, after_records, finished, known, projected_bed, projected_bed_of, projected_draft, projected_or_fault}
 use Rattle.iv_lines.specs.Fields.{columns}
 use Rattle.iv_lines.specs.Genome.{Sequences}
@@ -34,7 +34,7 @@ module _ (g : Sequences) (limit : ℕ) where
 
   row-next : (d e : Draft) (line : List ℕ) → after_record g limit d line ≡ Ok e → IsNext d line e
   unfolding after_record
-  row-next d e line is = by (is_unread line) (is_width w) (read g w line) refl is
+  row-next d e line is = by (is_skipped_line line) (is_width w) (read g w line) refl is
     where
       w : ℕ
       w = width_at d line
@@ -176,7 +176,7 @@ module _ (g : Sequences) (limit : ℕ) where
   answers-intervals width text (Err f) answer wide kept = tt
   answers-intervals width text (Ok file) answer wide kept =
       let three : file.width ≡ 3 = answer-three width text file answer wide in
-      (three, all-fit file.records (subst (λ (w : ℕ). All (IsProjected bare g w) file.records) three kept.kept_all))
+      (three, all-fit file.records (subst (λ (w : ℕ). All (IsProjected bare g w) file.records) three kept.held_all))
 
 -- the locators of records that fit have a base
 pub bases-fit : (g : Sequences) (ps : List Locator) → All (Fits g 3) (map (row_of 3 []) ps) → All HasBase ps

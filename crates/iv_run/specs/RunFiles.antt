@@ -65,7 +65,7 @@ AreOf is_of is_enough sizes first second fasta_text files =
 
 -- the records are projections of records of the file's width on the genome, and they are not more than the limit
 pub record AreProjected (projected : RecordValue → RecordValue) (g : Sequences) (limit : ℕ) (file : Bed) : Type 0 where
-  pub kept_all : All (IsProjected projected g file.width) file.records
+  pub held_all : All (IsProjected projected g file.width) file.records
   pub few : length file.records ≤ limit
 
 -- so are those of a file, unless it is damaged

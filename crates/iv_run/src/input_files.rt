@@ -175,7 +175,7 @@ pub type HeldRecords<K, A> = Result<ParsedFile<K, A>, LoadFault>;
 #[derive(Drop)]
 pub struct ParsedFile<K: FromRecord<A>, A: Allocator + Copy = Global> {
     width: u8,
-    kept: K::Kept,
+    held: K::Holder,
 }
 
 impl<K: FromRecord<A>, A: Allocator + Copy> Model for ParsedFile<K, A> {
@@ -185,7 +185,7 @@ impl<K: FromRecord<A>, A: Allocator + Copy> Model for ParsedFile<K, A> {
 
     ghost Value = { Bed };
 
-    ghost view = { λ f. record { width = f.width; records = map K.as_record (K.Kept.items f.kept) } };
+    ghost view = { λ f. record { width = f.width; records = map K.as_record (K.Holder.items f.held) } };
 
     ghost invariant = { λ f. IsWidth f.width };
 }
@@ -195,8 +195,8 @@ impl<A: Allocator + Copy> ParsedFile<Record<A>, A> {
     pub fn into_bed(self) -> BedBatches<A>
         ensures { result ≡ self }
     {
-        let ParsedFile { width, kept } = self;
-        BedBatches::of(width, kept)
+        let ParsedFile { width, held } = self;
+        BedBatches::of(width, held)
     }
 }
 
@@ -209,7 +209,7 @@ impl<A: Allocator + Copy> ParsedFile<Span, A> {
     pub(crate) fn into_spans(self) -> Result<Vec<Span, A>, AllocError>
         ensures { IfOk result (λ spans. span_records spans.items ≡ self.records) }
     {
-        self.kept.into_vec()
+        self.held.into_vec()
     }
 }
 
@@ -222,7 +222,7 @@ impl<A: Allocator + Copy> ParsedFile<Locator, A> {
     pub(crate) fn into_locators(self) -> Result<Vec<Locator, A>, AllocError>
         ensures { IfOk result (λ locators. map (row_of 3 []) locators.items ≡ self.records) }
     {
-        self.kept.into_vec()
+        self.held.into_vec()
     }
 }
 
@@ -255,8 +255,8 @@ pub(crate) fn finish<K: FromRecord<A>, A: Allocator + Copy>(
     ensures says { (text : List ℕ) → SaysSoFar K.projected genome.now limit text so_far → IsParsed K.projected genome.now empty_width limit text result }
     ensures is_on { IsOn K.projected genome.now limit result }
 {
-    let (width, kept) = so_far?.finish(genome, empty_width, limit)?;
-    Ok(ParsedFile { width, kept })
+    let (width, held) = so_far?.finish(genome, empty_width, limit)?;
+    Ok(ParsedFile { width, held })
 }
 
 /// A BED file on this genome, given all its bytes. It may have at most `limit` records.

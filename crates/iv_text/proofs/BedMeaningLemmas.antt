@@ -11,7 +11,7 @@ use Rattle.iv_lines.specs.Genome.{Sequences}
 use Rattle.iv_lines.specs.Read.{has_fault, faults, feature}
 use Rattle.iv_lines.specs.Chains.{unless_fault}
 use Rattle.iv_lines.specs.RecordValue.{RecordValue}
-use Rattle.iv_text.specs.BedFile.{is_unread, is_width, Bed, Draft, after_record, bed_of}
+use Rattle.iv_text.specs.BedFile.{is_skipped_line, is_width, Bed, Draft, after_record, bed_of}
 use Rattle.iv_text.specs.BedReading.{after_records, finished}
 use Rattle.iv_text.specs.Inside.BedFile.{width_at, with_row}
 use Rattle.iv_lines.specs.FileMeaning.{HaveNoCause, IsFirstFault}
@@ -46,12 +46,12 @@ draft-push g (l ∷ said) line =
     ap {B = Draft} (λ (records : List RecordValue). record { width = Some (length (columns l)); records = feature g (length (columns l)) (columns l) ∷ records })
     (map-append (λ (m : List ℕ). feature g (length (columns l)) (columns m)) said (line ∷ []))
 
-draft-unread : (g : Sequences) (before : List (List ℕ)) (line : List ℕ) → is_unread line ≡ true → draft g (before ++ line ∷ []) ≡ draft g before
-draft-unread g before line unread = ap (draft_of g) (kept-not (λ l. not (is_unread l)) before line (not_from_true (is_unread line) unread))
+draft-unread : (g : Sequences) (before : List (List ℕ)) (line : List ℕ) → is_skipped_line line ≡ true → draft g (before ++ line ∷ []) ≡ draft g before
+draft-unread g before line unread = ap (draft_of g) (kept-not (λ l. not (is_skipped_line l)) before line (not_from_true (is_skipped_line line) unread))
 
-draft-read : (g : Sequences) (before : List (List ℕ)) (line : List ℕ) → is_unread line ≡ false → draft g (before ++ line ∷ []) ≡ with_line g (draft g before) line
+draft-read : (g : Sequences) (before : List (List ℕ)) (line : List ℕ) → is_skipped_line line ≡ false → draft g (before ++ line ∷ []) ≡ with_line g (draft g before) line
 draft-read g before line read =
-    ap (draft_of g) (filter-pushed (λ l. not (is_unread l)) before line (not_from_false (is_unread line) read))
+    ap (draft_of g) (filter-pushed (λ l. not (is_skipped_line l)) before line (not_from_false (is_skipped_line line) read))
     ∙ draft-push g (record_lines before) line
 
 -- ---- the first cause of a line
@@ -69,13 +69,13 @@ find-map p (f ∷ fs) = by (p (cause.Record f)) (find-map p fs)
 abbrev cause_by : Bool → Option Fault → Bool → Option LoadCause
 cause_by fits f full = cond (not fits) (Some cause.Columns) (option_or (option_map cause.Record f) (cond full (Some cause.TooMany) None))
 
-cause-unread : (g : Sequences) (limit : ℕ) (before : List (List ℕ)) (line : List ℕ) → is_unread line ≡ true → record_cause g limit before line ≡ None
-cause-unread g limit before line unread = cond-true (is_unread line) None (find (has_row_cause g limit before line) row_causes) unread
+cause-unread : (g : Sequences) (limit : ℕ) (before : List (List ℕ)) (line : List ℕ) → is_skipped_line line ≡ true → record_cause g limit before line ≡ None
+cause-unread g limit before line unread = cond-true (is_skipped_line line) None (find (has_row_cause g limit before line) row_causes) unread
 
-cause-read : (g : Sequences) (limit : ℕ) (before : List (List ℕ)) (line : List ℕ) → is_unread line ≡ false
+cause-read : (g : Sequences) (limit : ℕ) (before : List (List ℕ)) (line : List ℕ) → is_skipped_line line ≡ false
     → record_cause g limit before line ≡ cause_by (is_width (width_after before line)) (find (has_fault g (width_after before line) (columns line)) faults) (nat_le limit (length (records_of g before)))
 cause-read g limit before line read =
-    cond-false (is_unread line) None (find (has_row_cause g limit before line) row_causes) read
+    cond-false (is_skipped_line line) None (find (has_row_cause g limit before line) row_causes) read
     ∙ ap (λ (o : Option LoadCause). cond (not (is_width (width_after before line))) (Some cause.Columns) o)
     (find-append (has_row_cause g limit before line) (map cause.Record faults) (cause.TooMany ∷ [])
     ∙ ap (λ (o : Option LoadCause). option_or o (cond (nat_le limit (length (records_of g before))) (Some cause.TooMany) None)) (find-map (has_row_cause g limit before line) faults))
@@ -96,7 +96,7 @@ row-by limit w records r true None = by (nat_le limit (length records))
     by true = refl
     by false = refl
 
-row-outcome : (g : Sequences) (limit : ℕ) (before : List (List ℕ)) (line : List ℕ) → is_unread line ≡ false
+row-outcome : (g : Sequences) (limit : ℕ) (before : List (List ℕ)) (line : List ℕ) → is_skipped_line line ≡ false
     → after_record g limit (draft g before) line ≡ outcome (with_line g (draft g before) line) (record_cause g limit before line)
 unfolding after_record
 row-outcome g limit before line read =
@@ -107,9 +107,9 @@ row-outcome g limit before line read =
 
 row-goes : (g : Sequences) (limit : ℕ) (before : List (List ℕ)) (line : List ℕ) → record_cause g limit before line ≡ None
     → after_record g limit (draft g before) line ≡ Ok (draft g (before ++ line ∷ []))
-row-goes g limit before line none = by (is_unread line) refl
+row-goes g limit before line none = by (is_skipped_line line) refl
   where
-    by : (t : Bool) → is_unread line ≡ t → after_record g limit (draft g before) line ≡ Ok (draft g (before ++ line ∷ []))
+    by : (t : Bool) → is_skipped_line line ≡ t → after_record g limit (draft g before) line ≡ Ok (draft g (before ++ line ∷ []))
     by true unread = row-unread g limit (draft g before) line unread ∙ ap Ok (sym (draft-unread g before line unread))
     by false read =
         row-outcome g limit before line read
@@ -118,9 +118,9 @@ row-goes g limit before line none = by (is_unread line) refl
 
 row-stops : (g : Sequences) (limit : ℕ) (before : List (List ℕ)) (line : List ℕ) (c : LoadCause) → record_cause g limit before line ≡ Some c
     → after_record g limit (draft g before) line ≡ Err c
-row-stops g limit before line c is = by (is_unread line) refl
+row-stops g limit before line c is = by (is_skipped_line line) refl
   where
-    by : (t : Bool) → is_unread line ≡ t → after_record g limit (draft g before) line ≡ Err c
+    by : (t : Bool) → is_skipped_line line ≡ t → after_record g limit (draft g before) line ≡ Err c
     by true unread = absurd (none-some c (sym (cause-unread g limit before line unread) ∙ is))
     by false read = row-outcome g limit before line read ∙ ap (outcome (with_line g (draft g before) line)) is
 

@@ -6,7 +6,7 @@ use Rattle.std.proofs.lemmas.Bool.Decides.{nat_tests}
 use Rattle.std.proofs.Math.Nat.{mod-add-mod, mod-eq_of_lt}
 use Rattle.std.proofs.lemmas.List.{length-map, map-append, drop-drop}
 use Rattle.std.proofs.lemmas.List.Elements.{All-nil, All-cons, All-append, All-head, All-tail}
-use Rattle.iv_text.specs.BedFile.{Bed, Draft, is_unread, is_width, after_record, bed_of}
+use Rattle.iv_text.specs.BedFile.{Bed, Draft, is_skipped_line, is_width, after_record, bed_of}
 use Rattle.iv_text.specs.Inside.BedFile.{width_at, with_row}
 use Rattle.iv_lines.specs.Fields.{columns}
 use Rattle.iv_lines.specs.Genome.{Sequences}
@@ -80,7 +80,7 @@ module _ (projected : RecordValue → RecordValue) (g : Sequences) (limit : ℕ)
   unfolding after_record
   alike-row w xs ys line same =
       let n : ℕ = unwrap_or w (length (columns line)) in
-      alike-cases w xs ys (is_unread line) (is_width n) (with_row limit n xs (read g n line)) (with_row limit n ys (read g n line)) same
+      alike-cases w xs ys (is_skipped_line line) (is_width n) (with_row limit n xs (read g n line)) (with_row limit n ys (read g n line)) same
       (alike-with_row n xs ys (read g n line) same)
 
   alike-turned : (n : ℕ) (ls : List (List ℕ))
@@ -117,20 +117,20 @@ module _ (projected : RecordValue → RecordValue) (g : Sequences) (limit : ℕ)
       ap (λ (ls : List (List ℕ)). projected_draft projected (after_records g limit n (known old) (ls ++ rest))) is
       ∙ ap (λ (r : Result Draft LoadCause). projected_draft projected (turned g limit n (left ++ rest) r)) says
 
-  pub unread-taken : (old : LinesRead) (all left : List (List ℕ)) (line : List ℕ) → all ≡ line ∷ left → is_unread line ≡ true → Takes projected g limit old old all left
+  pub unread-taken : (old : LinesRead) (all left : List (List ℕ)) (line : List ℕ) → all ≡ line ∷ left → is_skipped_line line ≡ true → Takes projected g limit old old all left
   unread-taken old all left line is unread = line-taken old old all left line (known old) is (row-unread g limit (known old) line unread) refl refl
 
-  pub columns-refused : (old : LinesRead) (all left : List (List ℕ)) (line : List ℕ) → all ≡ line ∷ left → is_unread line ≡ false
+  pub columns-refused : (old : LinesRead) (all left : List (List ℕ)) (line : List ℕ) → all ≡ line ∷ left → is_skipped_line line ≡ false
       → is_width (width_at (known old) line) ≡ false → Refuses projected g limit old all cause.Columns
   columns-refused old all left line is unread wrong = line-refused old all left line cause.Columns is (row-columns g limit (known old) line unread wrong)
 
-  pub record-refused : (old : LinesRead) (all left : List (List ℕ)) (line : List ℕ) (w : ℕ) (f : Fault) → all ≡ line ∷ left → is_unread line ≡ false
+  pub record-refused : (old : LinesRead) (all left : List (List ℕ)) (line : List ℕ) (w : ℕ) (f : Fault) → all ≡ line ∷ left → is_skipped_line line ≡ false
       → w ≡ unwrap_or old.width (length (columns line)) → 3 ≤ w → w ≤ 6 → read g w line ≡ Err f → Refuses projected g limit old all (cause.Record f)
   record-refused old all left line w f is unread wide low high says =
       line-refused old all left line (cause.Record f) is
       (row-taken g limit (known old) line w (Err (cause.Record f)) unread wide low high (ap (with_row limit w old.records) says))
 
-  pub full-refused : (old : LinesRead) (all left : List (List ℕ)) (line : List ℕ) (w : ℕ) (r : RecordValue) → all ≡ line ∷ left → is_unread line ≡ false
+  pub full-refused : (old : LinesRead) (all left : List (List ℕ)) (line : List ℕ) (w : ℕ) (r : RecordValue) → all ≡ line ∷ left → is_skipped_line line ≡ false
       → w ≡ unwrap_or old.width (length (columns line)) → 3 ≤ w → w ≤ 6 → read g w line ≡ Ok r → limit ≤ length old.records → Refuses projected g limit old all cause.TooMany
   full-refused old all left line w r is unread wide low high says full =
       line-refused old all left line cause.TooMany is
@@ -162,7 +162,7 @@ module _ (projected : RecordValue → RecordValue) (g : Sequences) (limit : ℕ)
 
   -- and its line is the first of those that were left
   pub record-taken : ((r : RecordValue) → projected (projected r) ≡ projected r) → (old new : LinesRead) (all left : List (List ℕ)) (line : List ℕ) (w : ℕ) (r k : RecordValue)
-      → all ≡ line ∷ left → is_unread line ≡ false → w ≡ unwrap_or old.width (length (columns line)) → 3 ≤ w → w ≤ 6
+      → all ≡ line ∷ left → is_skipped_line line ≡ false → w ≡ unwrap_or old.width (length (columns line)) → 3 ≤ w → w ≤ 6
       → read g w line ≡ Ok r → k ≡ projected r → length old.records < limit → new.records ≡ old.records ++ k ∷ [] → new.width ≡ Some w → Takes projected g limit old new all left
   record-taken again old new all left line w r k is unread wide low high says kept_is free grown width =
       let next : Draft = record { width = Some w; records = old.records ++ r ∷ [] } in
@@ -273,41 +273,41 @@ module _ {K : Type 0} (held_of : RecordValue → ℕ → K) (g : Sequences) (lim
   }
 
   -- a line without a record
-  pub held-unread : (h : Held K) (text line : List ℕ) (size : ℕ) → lines text ≡ line ∷ lines (drop size text) → is_unread line ≡ true → TakesLine held_of g limit h h text size
+  pub held-unread : (h : Held K) (text line : List ℕ) (size : ℕ) → lines text ≡ line ∷ lines (drop size text) → is_skipped_line line ≡ true → TakesLine held_of g limit h h text size
   held-unread h text line size are unread = λ projected row_of s.
       (λ sound. sound, unread-taken projected g limit (shown row_of h) (lines text) (lines (drop size text)) line are unread)
 
   -- a record was taken
   pub held-taken : (old new : Held K) (text line : List ℕ) (size w : ℕ) (r : RecordValue) (one : K)
-      → lines text ≡ line ∷ lines (drop size text) → is_unread line ≡ false → w ≡ unwrap_or old.width (length (columns line)) → 3 ≤ w → w ≤ 6
-      → read g w line ≡ Ok r → Fits g w r → one ≡ held_of r old.at → old.at < 2 ^ 32 → length old.kept < limit
-      → new ≡ record old { width = Some w; kept = old.kept ++ one ∷ [] } → TakesLine held_of g limit old new text size
+      → lines text ≡ line ∷ lines (drop size text) → is_skipped_line line ≡ false → w ≡ unwrap_or old.width (length (columns line)) → 3 ≤ w → w ≤ 6
+      → read g w line ≡ Ok r → Fits g w r → one ≡ held_of r old.at → old.at < 2 ^ 32 → length old.held < limit
+      → new ≡ record old { width = Some w; held = old.held ++ one ∷ [] } → TakesLine held_of g limit old new text size
   held-taken old new text line size w r one are unread wide low high says fits one_is small free new_is = λ projected row_of s.
       let left = lines (drop size text) in
       let is : row_of one ≡ projected r = ap row_of one_is ∙ ap (λ (n : ℕ). row_of (held_of r n)) (sym (byte-here old.at small)) ∙ s.shows 0 w line left r are says in
-      let records : map row_of new.kept ≡ map row_of old.kept ++ row_of one ∷ [] = ap (λ (h : Held K). map row_of h.kept) new_is ∙ map-append row_of old.kept (one ∷ []) in
+      let records : map row_of new.held ≡ map row_of old.held ++ row_of one ∷ [] = ap (λ (h : Held K). map row_of h.held) new_is ∙ map-append row_of old.held (one ∷ []) in
       let width : new.width ≡ Some w = ap (λ (h : Held K). h.width) new_is in
-      let few : length (map row_of old.kept) < limit = omega (arith, free, length-map old.kept row_of) in (
+      let few : length (map row_of old.held) < limit = omega (arith, free, length-map old.held row_of) in (
         λ sound. record-sound projected g limit (shown row_of old) (shown row_of new) line w r (row_of one) sound wide low high fits is few records width,
         record-taken projected g limit s.again (shown row_of old) (shown row_of new) (lines text) left line w r (row_of one) are unread wide low high says is few records width,
       )
 
   -- a record is one too many
-  pub held-full : (old : Held K) (text line : List ℕ) (size w : ℕ) (r : RecordValue) → lines text ≡ line ∷ lines (drop size text) → is_unread line ≡ false
-      → w ≡ unwrap_or old.width (length (columns line)) → 3 ≤ w → w ≤ 6 → read g w line ≡ Ok r → limit ≤ length old.kept → RefusesLine held_of g limit old text cause.TooMany
+  pub held-full : (old : Held K) (text line : List ℕ) (size w : ℕ) (r : RecordValue) → lines text ≡ line ∷ lines (drop size text) → is_skipped_line line ≡ false
+      → w ≡ unwrap_or old.width (length (columns line)) → 3 ≤ w → w ≤ 6 → read g w line ≡ Ok r → limit ≤ length old.held → RefusesLine held_of g limit old text cause.TooMany
   held-full old text line size w r are unread wide low high says full = λ projected row_of.
-      full-refused projected g limit (shown row_of old) (lines text) (lines (drop size text)) line w r are unread wide low high says (omega (arith, full, length-map old.kept row_of))
+      full-refused projected g limit (shown row_of old) (lines text) (lines (drop size text)) line w r are unread wide low high says (omega (arith, full, length-map old.held row_of))
 
   -- the record of a line that is read in one pass was taken, and the width is as it was
   pub short-taken : (old new : Held K) (w : ℕ) (text : List ℕ) (l : FastLine) (one : K) (short : IsFastLine g w text l) → (3 ≤ w) × (w ≤ 6) → old.width ≡ Some w
-      → one ≡ held_of short.feature old.at → old.at < 2 ^ 32 → length old.kept < limit → new ≡ record old { width = Some w; kept = old.kept ++ one ∷ [] }
+      → one ≡ held_of short.feature old.at → old.at < 2 ^ 32 → length old.held < limit → new ≡ record old { width = Some w; held = old.held ++ one ∷ [] }
       → TakesLine held_of g limit old new text l.size
   short-taken old new w text l one short wide is one_is small free new_is =
       held-taken old new text short.line l.size w short.feature one short.lines_are short.unread (known-at old.width w short.line is) wide.0 wide.1 short.reads short.fits one_is small free new_is
 
   -- the same, if all its columns were read
   pub first-taken : (old new : Held K) (w : ℕ) (text : List ℕ) (r : RecordValue) (size : ℕ) (one : K) → IsFirstLine g w text r size → (3 ≤ w) × (w ≤ 6) → old.width ≡ Some w
-      → one ≡ held_of r old.at → old.at < 2 ^ 32 → length old.kept < limit → new ≡ record old { width = Some w; kept = old.kept ++ one ∷ [] }
+      → one ≡ held_of r old.at → old.at < 2 ^ 32 → length old.held < limit → new ≡ record old { width = Some w; held = old.held ++ one ∷ [] }
       → (0 < size) × (size ≤ length text) × TakesLine held_of g limit old new text size
   first-taken old new w text r size one first wide is one_is small free new_is =
       let l = first.0 in
@@ -319,7 +319,7 @@ module _ {K : Type 0} (held_of : RecordValue → ℕ → K) (g : Sequences) (lim
       )
 
   -- it is one too many
-  pub short-full : (old : Held K) (w : ℕ) (text : List ℕ) (l : FastLine) → IsFastLine g w text l → (3 ≤ w) × (w ≤ 6) → old.width ≡ Some w → limit ≤ length old.kept
+  pub short-full : (old : Held K) (w : ℕ) (text : List ℕ) (l : FastLine) → IsFastLine g w text l → (3 ≤ w) × (w ≤ 6) → old.width ≡ Some w → limit ≤ length old.held
       → RefusesLine held_of g limit old text cause.TooMany
   short-full old w text l short wide is full =
       held-full old text short.line l.size w short.feature short.lines_are short.unread (known-at old.width w short.line is) wide.0 wide.1 short.reads full

@@ -16,7 +16,7 @@ use Rattle.iv_lines.proofs.LineLemmas.{strip-is, strip-more, lines-line}
 use Rattle.iv_lines.proofs.NumberLemmas.{number-digits}
 use Rattle.iv_lines.proofs.FieldLemmas.{column-last, column-more}
 use Rattle.iv_text.proofs.OnePassLemmas.{line-read, record_of, row-of}
-use Rattle.iv_text.specs.BedFile.{is_unread, is_headed}
+use Rattle.iv_text.specs.BedFile.{is_skipped_line, is_headed}
 use Rattle.iv_lines.specs.Inside.Fields.{HasNoTab, is_separator, ArePassed}
 use Rattle.iv_lines.specs.Genome.{Sequences, length_at}
 use Rattle.iv_lines.specs.Lines.{lines, HasNoFeed, begins_with}
@@ -100,7 +100,7 @@ no_tab-plain (b ∷ bs) h =
     All-cons (λ c. is_separator 9 c ≡ false) b bs (not-true (is_separator 9 b) both.0) (no_tab-plain bs both.1)
 
 -- a line that begins with a name that is no header, and a TAB, is none
-unread-after : (name rest : List ℕ) → is_unread name ≡ false → is_unread (name ++ 9 ∷ rest) ≡ false
+unread-after : (name rest : List ℕ) → is_skipped_line name ≡ false → is_skipped_line (name ++ 9 ∷ rest) ≡ false
 unfolding no_tab
 unread-after [] rest other = cc
 unread-after (b ∷ bs) rest other =

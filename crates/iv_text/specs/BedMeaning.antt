@@ -4,13 +4,13 @@ use Rattle.iv_lines.specs.Fields.{columns}
 use Rattle.iv_lines.specs.Genome.{Sequences}
 use Rattle.iv_lines.specs.RecordValue.{RecordValue}
 use Rattle.iv_lines.specs.Read.{has_fault, faults, feature}
-use Rattle.iv_text.specs.BedFile.{is_unread, is_width, Bed}
+use Rattle.iv_text.specs.BedFile.{is_skipped_line, is_width, Bed}
 use Rattle.iv_lines.specs.declared.fault.LoadCause.{LoadCause}
 use Rattle.iv_lines.specs.declared.fault.LoadCause.TheVariants as cause
 
 -- the lines that have a record
 abbrev pub record_lines : List (List ℕ) → List (List ℕ)
-record_lines lines = filter (λ line. not (is_unread line)) lines
+record_lines lines = filter (λ line. not (is_skipped_line line)) lines
 
 -- the width of lines: the number of columns of the first that has a record
 abbrev pub first_width : List (List ℕ) → Option ℕ
@@ -41,4 +41,4 @@ row_causes = cause.Columns ∷ (map cause.Record faults ++ cause.TooMany ∷ [])
 
 -- the first cause of a line after these lines, unless it has no record
 abbrev pub record_cause : Sequences → ℕ → List (List ℕ) → List ℕ → Option LoadCause
-record_cause g limit before line = cond (is_unread line) None (find (has_row_cause g limit before line) row_causes)
+record_cause g limit before line = cond (is_skipped_line line) None (find (has_row_cause g limit before line) row_causes)

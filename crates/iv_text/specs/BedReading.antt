@@ -83,15 +83,15 @@ pub record Held (K : Type 0) : Type 0 where
   pub number : ℕ
   pub at : ℕ
   pub width : Option ℕ
-  pub kept : List K
+  pub held : List K
 
 -- lines of which none was read
 abbrev pub none_held : {K : Type 0} → Held K
-none_held = record { number = 1; at = 0; width = None; kept = [] }
+none_held = record { number = 1; at = 0; width = None; held = [] }
 
 -- the same lines, if this is the record that each item represents
 abbrev pub shown : {K : Type 0} → (K → RecordValue) → Held K → LinesRead
-shown row_of h = record { number = h.number; width = h.width; records = map row_of h.kept }
+shown row_of h = record { number = h.number; width = h.width; records = map row_of h.held }
 
 module _ {K : Type 0} (held_of : RecordValue → ℕ → K) (g : Sequences) where
   -- a way to show items as records: the item of a record in this text, whose first line begins at this byte, shows as its projection

@@ -1,6 +1,6 @@
 -- A line of a record at the front of a text.
 use Rattle.std.specs.Prelude.{◌≡◌, ◌<◌, ◌≤◌, ℕ, false, List, ◌∷◌, Ok, drop, length}
-use Rattle.iv_text.specs.BedFile.{is_unread}
+use Rattle.iv_text.specs.BedFile.{is_skipped_line}
 use Rattle.iv_lines.specs.Genome.{Sequences}
 use Rattle.iv_lines.specs.Lines.{lines}
 use Rattle.iv_lines.specs.Read.{read, Fits}
@@ -14,7 +14,7 @@ pub record IsFastLine (g : Sequences) (width : ℕ) (text : List ℕ) (l : FastL
   pub lines_are : lines text ≡ line ∷ lines (drop l.size text)
   pub some : 0 < l.size
   pub within : l.size ≤ length text
-  pub unread : is_unread line ≡ false
+  pub unread : is_skipped_line line ≡ false
   pub reads : read g width line ≡ Ok feature
   pub seq_is : l.seq ≡ feature.seq
   pub start_is : l.start ≡ feature.start

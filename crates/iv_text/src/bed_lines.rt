@@ -5,10 +5,10 @@ ghost use Rattle.iv_text.specs.Inside.BedReading.{RefusesLine, TakesLine};
 ghost use Rattle.iv_lines.specs.RecordValue.{RecordValue};
 ghost use Rattle.iv_lines.specs.declared.fault.LoadCause.TheVariants as cause;
 
-use crate::bed_widths::{is_unread, width_for};
+use crate::bed_widths::{is_skipped_line, width_for};
 use crate::record_reader::{FastLine, RecordReader};
 use iv_lines::{
-    Genome, KeepsRecords, LoadCause, LoadFault, Record, RecordBatches, RecordRef, split_line,
+    Genome, HoldsRecords, LoadCause, LoadFault, Record, RecordBatches, RecordRef, split_line,
 };
 use std::alloc::{AllocError, Allocator};
 use std::marker::Model;
@@ -23,7 +23,7 @@ pub trait FromRecord<A: Allocator + Copy>: Sized + Drop {
     ghost held_of: { RecordValue → ℕ → Self };
 
     /// What holds them, in the order of the records.
-    type Kept: KeepsRecords<Self, A>;
+    type Holder: HoldsRecords<Self, A>;
 
     /// What is held of a record whose line begins at this byte of its file. Bytes are counted with 32 bits: again from 0 after
     /// 4 GiB.
@@ -48,7 +48,7 @@ pub trait FromRecord<A: Allocator + Copy>: Sized + Drop {
 }
 
 impl<A: Allocator + Copy> FromRecord<A> for Record<A> {
-    type Kept = RecordBatches<A>;
+    type Holder = RecordBatches<A>;
 
     ghost projected = { λ r. r };
 
@@ -90,7 +90,7 @@ pub struct BedLines<K: FromRecord<A>, A: Allocator + Copy> {
     // The byte at which the next line begins, with 32 bits.
     at: u32,
     width: Option<u8>,
-    kept: K::Kept,
+    held: K::Holder,
 }
 
 impl<K: FromRecord<A>, A: Allocator + Copy> Model for BedLines<K, A> {
@@ -98,7 +98,7 @@ impl<K: FromRecord<A>, A: Allocator + Copy> Model for BedLines<K, A> {
 
     ghost Value = { Held K };
 
-    ghost view = { λ l. record { number = l.number; at = l.at; width = l.width; kept = K.Kept.items l.kept } };
+    ghost view = { λ l. record { number = l.number; at = l.at; width = l.width; held = K.Holder.items l.held } };
 }
 
 /// What is held of a record whose line begins at this byte.
@@ -123,7 +123,7 @@ impl<K: FromRecord<A>, A: Allocator + Copy> BedLines<K, A> {
             number: 1,
             at: 0,
             width: None,
-            kept: K::Kept::empty(alloc),
+            held: K::Holder::empty(alloc),
         }
     }
 
@@ -154,15 +154,15 @@ impl<K: FromRecord<A>, A: Allocator + Copy> BedLines<K, A> {
     /// Takes what is held of one more record of this width, unless there are as many as the limit.
     #[inline(always)]
     fn take_one(&mut self, limit: u32, width: u8, one: K) -> Result<(), LoadCause>
-        ensures ok { OnOk result (self.new ≡ record self.old { width = Some width; kept = self.old.kept ++ one ∷ [] }) }
-        ensures free { OnOk result (length self.old.kept < limit) }
+        ensures ok { OnOk result (self.new ≡ record self.old { width = Some width; held = self.old.held ++ one ∷ [] }) }
+        ensures free { OnOk result (length self.old.held < limit) }
         ensures number { self.new.number ≡ self.old.number }
-        ensures err { IfErr result (λ c. (c ≡ cause.Memory) ⊎ ((c ≡ cause.TooMany) × (limit ≤ length self.old.kept))) }
+        ensures err { IfErr result (λ c. (c ≡ cause.Memory) ⊎ ((c ≡ cause.TooMany) × (limit ≤ length self.old.held))) }
     {
-        if !self.kept.has_room(limit as usize) {
+        if !self.held.has_room(limit as usize) {
             return Err(LoadCause::TooMany);
         }
-        self.kept.keep(K::most_in_batch(), one)?;
+        self.held.hold(K::most_in_batch(), one)?;
         self.width = Some(width);
         Ok(())
     }
@@ -246,7 +246,7 @@ impl<K: FromRecord<A>, A: Allocator + Copy> BedLines<K, A> {
             return Ok(size);
         }
         let (line, size) = split_line(text);
-        if is_unread(line) {
+        if is_skipped_line(line) {
             return Ok(size);
         }
         let Some(width) = width_for(self.width(), line) else {
@@ -297,10 +297,10 @@ impl<K: FromRecord<A>, A: Allocator + Copy> BedLines<K, A> {
     }
 
     /// How many columns the records have, if there is one, and what is held of each.
-    pub fn finish(self) -> (Option<u8>, K::Kept)
+    pub fn finish(self) -> (Option<u8>, K::Holder)
         ensures width { result.0 ≡ self.width }
-        ensures kept { K.Kept.items result.1 ≡ self.kept }
+        ensures held { K.Holder.items result.1 ≡ self.held }
     {
-        (self.width, self.kept)
+        (self.width, self.held)
     }
 }

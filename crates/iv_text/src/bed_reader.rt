@@ -153,14 +153,14 @@ impl<K: FromRecord<A>, A: Allocator + Copy> BedReader<K, A> {
         genome: &Genome<A>,
         empty_width: u8,
         limit: u32,
-    ) -> Result<(u8, K::Kept), LoadFault>
+    ) -> Result<(u8, K::Holder), LoadFault>
         requires width { IsWidth empty_width }
         requires sound { AreSoundLines K.projected genome.now limit self.read }
         requires few { size_of self < 2 ^ 64 }
-        ensures ok { IfOk result (λ file. finished empty_width (read_on K.projected genome.now limit self []) ≡ Ok (record { width = file.0; records = map K.as_record (K.Kept.items file.1) })) }
+        ensures ok { IfOk result (λ file. finished empty_width (read_on K.projected genome.now limit self []) ≡ Ok (record { width = file.0; records = map K.as_record (K.Holder.items file.1) })) }
         ensures width { IfOk result (λ file. IsWidth file.0) }
-        ensures kept { IfOk result (λ file. All (IsProjected K.projected genome.now file.0) (map K.as_record (K.Kept.items file.1))) }
-        ensures few { IfOk result (λ file. length (K.Kept.items file.1) ≤ limit) }
+        ensures held { IfOk result (λ file. All (IsProjected K.projected genome.now file.0) (map K.as_record (K.Holder.items file.1))) }
+        ensures few { IfOk result (λ file. length (K.Holder.items file.1) ≤ limit) }
         ensures err { IfErr result (λ f. (f ≡ record { line = 0; cause = cause.Memory }) ⊎ (read_on K.projected genome.now limit self [] ≡ Err f)) }
     {
         let BedReader {
@@ -169,7 +169,7 @@ impl<K: FromRecord<A>, A: Allocator + Copy> BedReader<K, A> {
             tail,
         } = self;
         read.take_lines(alloc, genome, limit, tail.as_slice())?;
-        let (width, kept) = read.finish();
-        Ok((width.unwrap_or(empty_width), kept))
+        let (width, held) = read.finish();
+        Ok((width.unwrap_or(empty_width), held))
     }
 }

@@ -1,7 +1,7 @@
 //! Lines of a BED file without a record, and how many columns the others have.
 ghost use Rattle.std.specs.Prelude.{◌≡◌, ◌<◌, ◌≤◌, [], false, MatchOption, length};
 ghost use Rattle.std.specs.Option.{unwrap_or};
-ghost use Rattle.iv_text.specs.BedFile.{is_unread as says_nothing, is_width};
+ghost use Rattle.iv_text.specs.BedFile.{is_skipped_line as says_nothing, is_width};
 ghost use Rattle.iv_lines.specs.Lines.{lines};
 ghost use Rattle.iv_lines.specs.Fields.{columns as columns_of};
 
@@ -9,7 +9,7 @@ use bstr::{ByteSlice, Lines};
 use iv_lines::columns;
 
 /// Whether a line of a BED file has no record: it is empty or a header (`#`, `track`, `browser`).
-pub fn is_unread(line: &[u8]) -> bool
+pub fn is_skipped_line(line: &[u8]) -> bool
     ensures { result ≡ says_nothing line.now }
 {
     match line {

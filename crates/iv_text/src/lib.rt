@@ -14,13 +14,13 @@ pub use bed_batches::BedBatches;
 pub use bed_file::BedFile;
 pub use bed_lines::{BedLines, FromRecord};
 pub use bed_reader::BedReader;
-pub use bed_widths::{is_unread, width_for};
+pub use bed_widths::{is_skipped_line, width_for};
 pub use iv_bytes::{
     Buffered, ByteQueue, MemSink, MemSource, ReadFault, Sink, Source, StdSink, StdSource,
     WriteFault, put_all, put_pieces,
 };
 pub use iv_lines::{
-    BatchItems, Batches, Bed3Record, BedRecord, ContentSeed, Fault, Fields, Genome, KeepsRecords,
+    BatchItems, Batches, Bed3Record, BedRecord, ContentSeed, Fault, Fields, Genome, HoldsRecords,
     LoadCause, LoadFault, MOST_LENGTH, NameHasher, NameMap, Record, RecordBatches, RecordFault,
     RecordRef, RowBuffer, Strand, columns, fault_text, first_line_ends_at_feed,
     genome_or_first_fault, is_bad_name, last_line_ends_at_end, lines_of, load_text,

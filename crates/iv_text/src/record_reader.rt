@@ -10,7 +10,7 @@ ghost use Rattle.iv_lines.specs.Named.{name_index};
 ghost use Rattle.iv_text.specs.FastLine.{IsFastLine};
 ghost use Rattle.iv_lines.specs.Widths.{IsWidth};
 
-use crate::bed_widths::is_unread;
+use crate::bed_widths::is_skipped_line;
 use crate::number_prefix::split_number;
 use bstr::ByteSlice;
 use iv_lines::{
@@ -277,7 +277,7 @@ fn named_by<'t, A: Allocator + Copy>(
     ensures { IfSome result (λ b. IsNamed genome.now b.name.now b.rank b.length) }
 {
     let (name, _) = cut_first_column(line);
-    if is_unread(name) || name.find_byte(b'\n').is_some() {
+    if is_skipped_line(name) || name.find_byte(b'\n').is_some() {
         return None;
     }
     let length = genome.length_u32(rank)?;

@@ -86,14 +86,14 @@ impl<A: Allocator + Copy> Track<A> {
         requires width { All (λ r. r.width ≡ width) records.items }
         ensures { IfOk result (λ t. t ≡ record { records = ordered records.items; width = width; limit = limit }) }
     {
-        Track::from_kept(alloc, width, limit, RecordBatches::of(Batches::of(records)))
+        Track::from_held(alloc, width, limit, RecordBatches::of(Batches::of(records)))
     }
 
     /// The track of these records, as [`Track::from_records`] makes it. If they are in order, each of their vectors is freed as
     /// soon as its records are in the map.
     ///
     /// The limit is at most 100,000,000 records. There are no more records than the limit, and each has the width.
-    pub fn from_kept(
+    pub fn from_held(
         alloc: A,
         width: u8,
         limit: u32,

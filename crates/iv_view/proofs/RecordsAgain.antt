@@ -14,7 +14,7 @@ use Rattle.std.proofs.lemmas.List.Quantifiers.{position-Some}
 use Rattle.std.proofs.lemmas.List.Splits.{join_with_byte-slice_split}
 use Rattle.std.proofs.lemmas.Option.{slice_get-map, slice_get-get_or}
 use Rattle.std.proofs.lemmas.Slice.Eq.{bytes_eq-Decides}
-use Rattle.iv_text.specs.BedFile.{is_unread, is_headed, is_width, Bed, Draft, after_record, bed_of}
+use Rattle.iv_text.specs.BedFile.{is_skipped_line, is_headed, is_width, Bed, Draft, after_record, bed_of}
 use Rattle.iv_text.specs.BedReading.{after_records, finished}
 use Rattle.iv_text.specs.Inside.BedFile.{width_at, with_row}
 use Rattle.iv_lines.specs.Fields.{columns, fields}
@@ -479,7 +479,7 @@ begun-same : (name xs ys : List ℕ) → begins_with 35 (name ++ 9 ∷ xs) ≡ b
 begun-same [] xs ys = refl
 begun-same (b ∷ bs) xs ys = refl
 
-unread-same : (name xs ys : List ℕ) → is_unread (name ++ 9 ∷ xs) ≡ is_unread (name ++ 9 ∷ ys)
+unread-same : (name xs ys : List ℕ) → is_skipped_line (name ++ 9 ∷ xs) ≡ is_skipped_line (name ++ 9 ∷ ys)
 unread-same name xs ys =
     let both = headed-same name xs ys in
     let sizes : (length (name ++ 9 ∷ xs) == 0) ≡ (length (name ++ 9 ∷ ys) == 0) = some xs ∙ sym (some ys) in
@@ -489,7 +489,7 @@ unread-same name xs ys =
     some zs = ne_eqb (length (name ++ 9 ∷ zs)) 0 (λ e. omega (arith, length-append name (9 ∷ zs)))
 
 -- the record of a line of a file
-line-row : (g : Sequences) (w : ℕ) (line : List ℕ) (r : RecordValue) → 3 ≤ w → HasNoFeed line → is_unread line ≡ false → read g w line ≡ Ok r → IsBedRow g w r
+line-row : (g : Sequences) (w : ℕ) (line : List ℕ) (r : RecordValue) → 3 ≤ w → HasNoFeed line → is_skipped_line line ≡ false → read g w line ≡ Ok r → IsBedRow g w r
 line-row g w line r low plain unread reads =
     let cs : List (List ℕ) = columns line in
     let parts = or_fault-parts (find (has_fault g w cs) faults) (feature g w cs) r reads in
@@ -502,7 +502,7 @@ line-row g w line r low plain unread reads =
     record {
       of_line = (line, reads);
       one_line = subst HasNoFeed (sym named) (fields-all 9 (λ b. b ≢ 10) line (All-weaker (λ b. b ≢ 10) (λ b. is_separator 9 b ≡ false → b ≢ 10) (λ b other _. other) line plain) 0);
-      unread = ap is_unread text.text_is ∙ unread-same (sequence_name g r.seq) text.rest whole.0 ∙ ap is_unread (sym line_is) ∙ unread;
+      unread = ap is_skipped_line text.text_is ∙ unread-same (sequence_name g r.seq) text.rest whole.0 ∙ ap is_skipped_line (sym line_is) ∙ unread;
     }
 
 -- what is known of a file: its records can be rows of a file of its width, and aren't more than the limit
@@ -523,7 +523,7 @@ module _ (g : Sequences) (limit : ℕ) where
       old (Some k) some same = subst (λ (n : ℕ). All (IsBedRow g n) d.records) (sym same) some.3
 
   known-line : (d e : Draft) (line : List ℕ) → HasNoFeed line → IsKnown g limit d → after_record g limit d line ≡ Ok e → IsKnown g limit e
-  known-line d e line plain known is = by (is_unread line) refl (is_width (width_at d line)) refl (read g (width_at d line) line) refl (nat_le limit (length d.records)) refl
+  known-line d e line plain known is = by (is_skipped_line line) refl (is_width (width_at d line)) refl (read g (width_at d line) line) refl (nat_le limit (length d.records)) refl
     where
       same : (x : Draft) → after_record g limit d line ≡ Ok x → x ≡ e
       same x was = same-ok x e (sym was ∙ is)
@@ -531,10 +531,10 @@ module _ (g : Sequences) (limit : ℕ) where
       wide : is_width (width_at d line) ≡ true → (3 ≤ width_at d line) × (width_at d line ≤ 6)
       wide fits = let both = and_parts (nat_le 3 (width_at d line)) (nat_le (width_at d line) 6) fits in (leb-true 3 (width_at d line) both.0, leb-true (width_at d line) 6 both.1)
 
-      taken : (x : Result Draft LoadCause) → is_unread line ≡ false → is_width (width_at d line) ≡ true → with_row limit (width_at d line) d.records (read g (width_at d line) line) ≡ x → after_record g limit d line ≡ x
+      taken : (x : Result Draft LoadCause) → is_skipped_line line ≡ false → is_width (width_at d line) ≡ true → with_row limit (width_at d line) d.records (read g (width_at d line) line) ≡ x → after_record g limit d line ≡ x
       taken x unread fits gives = row-taken g limit d line (width_at d line) x unread refl (wide fits).0 (wide fits).1 gives
 
-      by : (t : Bool) → is_unread line ≡ t → (u : Bool) → is_width (width_at d line) ≡ u → (x : Result RecordValue Fault) → read g (width_at d line) line ≡ x → (v : Bool) → nat_le limit (length d.records) ≡ v → IsKnown g limit e
+      by : (t : Bool) → is_skipped_line line ≡ t → (u : Bool) → is_width (width_at d line) ≡ u → (x : Result RecordValue Fault) → read g (width_at d line) line ≡ x → (v : Bool) → nat_le limit (length d.records) ≡ v → IsKnown g limit e
       by true unread u fits x reads v full = subst (IsKnown g limit) (same d (row-unread g limit d line unread)) known
       by false unread false fits x reads v full = absurd (ok-err e cause.Columns (sym is ∙ row-columns g limit d line unread fits))
       by false unread true fits (Err f) reads v full = absurd (ok-err e (cause.Record f) (sym is ∙ taken (Err (cause.Record f)) unread fits (ap (with_row limit (width_at d line) d.records) reads)))

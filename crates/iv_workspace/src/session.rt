@@ -118,7 +118,7 @@ impl<A: Allocator + Copy> Session<A> {
         ensures { IfOk result (λ s. s ≡ begun genome first second fasta limit) }
     {
         let width = first.width();
-        let track = Track::from_kept(alloc, width, limit, first.into_records())?;
+        let track = Track::from_held(alloc, width, limit, first.into_records())?;
         let second = second_of(alloc, second, limit)?;
         Ok(Session {
             alloc,

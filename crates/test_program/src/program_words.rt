@@ -55,8 +55,8 @@ fn prints(rt: &HostRuntime, words: &[u8], text: &[u8]) -> Result<bool, Fail> {
 
 #[test]
 fn words_that_ask_for_notices(rt: HostRuntime) -> Result<(), Fail> {
-    for (words, info_request) in &NOTICES {
-        assert!(rt; prints(&rt, words, info_request.text())?);
+    for (words, notice) in &NOTICES {
+        assert!(rt; prints(&rt, words, notice.text())?);
     }
     Ok(())
 }

@@ -1,6 +1,6 @@
 //! Records of several widths in batches.
 use crate::fixtures::{genome, holds};
-use iv_lines::{Genome, KeepsRecords, Record, RecordBatches, read_record};
+use iv_lines::{Genome, HoldsRecords, Record, RecordBatches, read_record};
 use std::test::Fail;
 
 /// How many records a vector has at most.
@@ -32,7 +32,7 @@ fn records_of(
 ) -> Result<RecordBatches, Fail> {
     let mut records = RecordBatches::empty(rt.alloc());
     for (width, line) in lines {
-        records.keep(MOST, record_of(rt, genome, *width, line)?)?;
+        records.hold(MOST, record_of(rt, genome, *width, line)?)?;
     }
     Ok(records)
 }

@@ -27,7 +27,7 @@ row_of width line p = record {
 
 -- the record of a locator into a text
 abbrev pub record_at : ℕ → List ℕ → Locator → RecordValue
-record_at width text p = row_of width (line_at text p.line) p
+record_at width text p = row_of width (line_at text p.line_start) p
 
 -- the records of locators into a text
 abbrev pub records_at : ℕ → List ℕ → List Locator → List RecordValue
@@ -39,7 +39,7 @@ span_of r = record { seq = r.seq; start = r.start; stop = r.stop }
 
 -- the locator of a record whose line begins at this byte of a text
 abbrev pub locator_at : RecordValue → ℕ → Locator
-locator_at r at = record { span = span_of r; line = at }
+locator_at r at = record { span = span_of r; line_start = at }
 
 -- the locator has a base
 abbrev pub HasBase : Locator → Type 0
@@ -51,4 +51,4 @@ span_in p = p.span
 
 -- beyond width 3 the columns of the record after the third are all that its line has
 pub record HasAllColumns (width : ℕ) (text : List ℕ) (p : Locator) : Type 0 where
-  pub all : 4 ≤ width → rest_text (record_at width text p) ≡ flat_map (λ column. codes "\t" ++ column) (drop 3 (columns (line_at text p.line)))
+  pub all : 4 ≤ width → rest_text (record_at width text p) ≡ flat_map (λ column. codes "\t" ++ column) (drop 3 (columns (line_at text p.line_start)))

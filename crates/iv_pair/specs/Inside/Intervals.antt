@@ -4,4 +4,4 @@ use Rattle.iv_locators.specs.declared.locator.Locator.{Locator}
 
 -- the interval of a record as a locator, whose line is never looked at
 abbrev pub locator_of : RecordValue → Locator
-locator_of r = record { span = record { seq = r.seq; start = r.start; stop = r.stop }; line = 0 }
+locator_of r = record { span = record { seq = r.seq; start = r.start; stop = r.stop }; line_start = 0 }

@@ -1,6 +1,6 @@
 -- The parts of a line, as they are read in one pass from its front.
 use Rattle.std.specs.Prelude.{◌≡◌, ◌<◌, ◌≤◌, All, ℕ, ◌+◌, ◌||◌, Bool, false, List, [], ◌∷◌, ◌++◌, Some, length}
-use Rattle.iv_text.specs.BedFile.{is_unread}
+use Rattle.iv_text.specs.BedFile.{is_skipped_line}
 use Rattle.iv_lines.specs.Bytes.{tab}
 use Rattle.iv_text.specs.FastLine.{IsFastLine}
 use Rattle.iv_lines.specs.Inside.Fields.{HasNoTab, is_separator}
@@ -17,7 +17,7 @@ use Rattle.iv_text.specs.declared.record_reader.FastLine.{FastLine}
 pub record IsNamed (g : Sequences) (name : List ℕ) (rank len : ℕ) : Type 0 where
   pub plain : HasNoTab name
   pub one_line : HasNoFeed name
-  pub unread : is_unread name ≡ false
+  pub unread : is_skipped_line name ≡ false
   pub rank_is : name_index g name ≡ Some rank
   pub length_is : length_at g rank ≡ Some len
 

@@ -1,6 +1,6 @@
 -- Rows of `records` that can be read again from a BED file.
 use Rattle.std.specs.Prelude.{◌≡◌, ℕ, false, List, Ok}
-use Rattle.iv_text.specs.BedFile.{is_unread}
+use Rattle.iv_text.specs.BedFile.{is_skipped_line}
 use Rattle.iv_lines.specs.Genome.{Sequences, sequence_name}
 use Rattle.iv_lines.specs.Lines.{HasNoFeed}
 use Rattle.iv_lines.specs.Read.{read}
@@ -15,4 +15,4 @@ IsOfLine g width r = (line : List ℕ) × (read g width line ≡ Ok r)
 pub record IsBedRow (g : Sequences) (width : ℕ) (r : RecordValue) : Type 0 where
   pub of_line : IsOfLine g width r
   pub one_line : HasNoFeed (sequence_name g r.seq)
-  pub unread : is_unread (record_text g r) ≡ false
+  pub unread : is_skipped_line (record_text g r) ≡ false

@@ -81,7 +81,7 @@ impl<A: Allocator + Copy> Session<A> {
     fn has_record_past(&self, seq: u32, length: u64) -> bool
         ensures { result ≡ has_record_past self.now seq length }
     {
-        let end = self.genome.length_of(seq);
+        let end = self.genome.length_or_zero(seq);
         if length >= end {
             return false;
         }

@@ -24,7 +24,7 @@ impl<A: Allocator + Copy> Session<A> {
             return Err(Fault::Order);
         }
         let seq = self.genome.rank(sequence).ok_or(Fault::UnknownSeq)?;
-        if stop > self.genome.length_of(seq) {
+        if stop > self.genome.length_or_zero(seq) {
             return Err(Fault::PastEnd);
         }
         Ok(Region { seq, start, stop })

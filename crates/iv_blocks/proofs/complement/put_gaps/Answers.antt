@@ -16,8 +16,8 @@ returns-in_err-put_sequence g c =
     let i = c.loop-rank.invariant in
     let rank = c.loop-rank.rank in
     let low : rank < seq_count c.args.genome.now = omega (arith, c.loop-rank-test.true, c.count-rank-end.ensures.value) in
-    let next = texts-next (not c.args.limited) c.args.genome.now rank c.length_of-length.result c.name_of-name.result.now (g.B.BlocksAhead.left c.loop-rank.blocks)
-    (drop_while (starts_until rank c.length_of-length.result) (g.B.BlocksAhead.left c.loop-rank.blocks)) low c.name_of-name.ensures c.length_of-length.ensures refl in
+    let next = texts-next (not c.args.limited) c.args.genome.now rank c.length_or_zero-length.result c.name_or_empty-name.result.now (g.B.BlocksAhead.left c.loop-rank.blocks)
+    (drop_while (starts_until rank c.length_or_zero-length.result) (g.B.BlocksAhead.left c.loop-rank.blocks)) low c.name_or_empty-name.ensures c.length_or_zero-length.ensures refl in
     record {
       text = Puts-err _ _ c.from_residual.result _ c.from_residual.ensures.0
           (Underway-fails _ _ _ _ _ _ (rw next at i.put) c.in_err-put_sequence.ensures.text);
@@ -29,7 +29,7 @@ loop-rank-preserved g c =
     let i = c.loop-rank.invariant in
     let rank = c.loop-rank.rank in
     let low : rank < seq_count c.args.genome.now = omega (arith, c.loop-rank-test.true, c.count-rank-end.ensures.value) in
-    let next = texts-next (not c.args.limited) c.args.genome.now rank c.length_of-length.result c.name_of-name.result.now (g.B.BlocksAhead.left c.loop-rank.blocks) (g.B.BlocksAhead.left c.put_sequence.new.blocks) low c.name_of-name.ensures c.length_of-length.ensures c.in_ok-put_sequence.ensures.past in
+    let next = texts-next (not c.args.limited) c.args.genome.now rank c.length_or_zero-length.result c.name_or_empty-name.result.now (g.B.BlocksAhead.left c.loop-rank.blocks) (g.B.BlocksAhead.left c.put_sequence.new.blocks) low c.name_or_empty-name.ensures c.length_or_zero-length.ensures c.in_ok-put_sequence.ensures.past in
     record {
       put = Underway-more _ _ _ _ _ _ (rw next at i.put) c.in_ok-put_sequence.ensures.text;
       steps = TakesForEach-next _ _ _ _ _ _ i.steps c.in_ok-put_sequence.ensures.steps;

@@ -9,7 +9,7 @@ use Rattle.iv_cli.proofs.begin.session_of.Goals as goal
 pub from_batches-requires-clause-fit : goal.from_batches-requires-clause-fit
 from_batches-requires-clause-fit g c =
     let inside = c.files.inside in
-    subst (λ (b : Bed). All (Fits inside.genome b.width) b.records) (sym c.into_bed-first.ensures) (fit-all inside.genome inside.first.width inside.first.records c.files.invariant.0.kept_all)
+    subst (λ (b : Bed). All (Fits inside.genome b.width) b.records) (sym c.into_bed-first.ensures) (fit-all inside.genome inside.first.width inside.first.records c.files.invariant.0.held_all)
 
 pub from_batches-requires-clause-second_fit : goal.from_batches-requires-clause-second_fit
 from_batches-requires-clause-second_fit g c =

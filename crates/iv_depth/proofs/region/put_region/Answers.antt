@@ -26,7 +26,7 @@ loop-from-init g c =
     let fits : SFits w64 c.args.at = search rules in
     let steps = takes_one_more _ _ _ _ c.run_start-from.ensures.step c.walk-left.ensures.step in
     record {
-      put = rw (rows-begin f c.length_of-length.result c.args.start c.args.stop c.args.output c.name_of-name.result.now c.run_start-from.result low begins) (Underway-begin _ _);
+      put = rw (rows-begin f c.length_of-length.result c.args.start c.args.stop c.args.output c.name_or_empty-name.result.now c.run_start-from.result low begins) (Underway-begin _ _);
       walk = IsWalking-begin f c.args.rank c.length_of-length.result c.args.start c.args.stop _ c.run_start-from.result (to_z w64 (of_z w64 c.args.at)) c.walk-left.result _ _ low begins
           (rw c.walk-left.ensures.entries (AreLeft-run f c.args.rank c.args.start c.length_of-length.result c.run_start-from.result c.args.changes.now right high begins))
           (to_z-of_z w64 c.args.at fits ∙ c.requires.at) steps.no_less steps.at_most refl;
@@ -36,7 +36,7 @@ pub returns-in_err-put_run_in-clause-text : goal.returns-in_err-put_run_in-claus
 returns-in_err-put_run_in-clause-text g c =
     let f = depth_by c.args.changes.now c.args.rank in
     let i = c.loop-from.invariant in
-    let name = c.name_of-name.result.now in
+    let name = c.name_or_empty-name.result.now in
     let long = c.length_of-length.ensures in
     let near = c.loop-from-test.true in
     let e = c.run_stop-to.ensures.stop f c.loop-from.from i.walk.value (i.walk.left near) (omega (arith, long, near, c.requires.within)) in
@@ -44,7 +44,7 @@ returns-in_err-put_run_in-clause-text g c =
     let split = rows-run f c.args.rank c.length_of-length.result c.args.start c.args.stop c.loop-from.from i.walk.value _ _ _
     c.requires.some (omega (arith, long, c.requires.within)) near i.walk.same e c.args.output name in
     let whole : rows_in c.args.output (sequence_name c.args.genome.now c.args.rank) f (sequence_length c.args.genome.now c.args.rank) c.args.start c.args.stop
-    ≡ rows_in c.args.output name f c.length_of-length.result c.args.start c.args.stop = rw (c.name_of-name.ensures, long) refl in
+    ≡ rows_in c.args.output name f c.length_of-length.result c.args.start c.args.stop = rw (c.name_or_empty-name.ensures, long) refl in
     rw whole (Puts-err _ _ c.from_residual.result _ c.from_residual.ensures.0
     (Underway-fails _ _ _ _ _ _ (rw split at i.put) (rw depth at c.in_err-put_run_in.ensures)))
 
@@ -83,7 +83,7 @@ pub loop-from-preserved : goal.loop-from-preserved
 loop-from-preserved g c =
     let f = depth_by c.args.changes.now c.args.rank in
     let i = c.loop-from.invariant in
-    let name = c.name_of-name.result.now in
+    let name = c.name_or_empty-name.result.now in
     let long = c.length_of-length.ensures in
     let near = c.loop-from-test.true in
     let e = c.run_stop-to.ensures.stop f c.loop-from.from i.walk.value (i.walk.left near) (omega (arith, long, near, c.requires.within)) in
@@ -111,11 +111,11 @@ pub returns-clause-text : goal.returns-clause-text
 returns-clause-text g c =
     let f = depth_by c.args.changes.now c.args.rank in
     let i = c.loop-from.invariant in
-    let name = c.name_of-name.result.now in
+    let name = c.name_or_empty-name.result.now in
     let long = c.length_of-length.ensures in
     let past = rows-past f c.length_of-length.result c.args.start c.args.stop c.args.output name c.loop-from.from c.loop-from-test.false in
     let whole : rows_in c.args.output (sequence_name c.args.genome.now c.args.rank) f (sequence_length c.args.genome.now c.args.rank) c.args.start c.args.stop
-    ≡ rows_in c.args.output name f c.length_of-length.result c.args.start c.args.stop = rw (c.name_of-name.ensures, long) refl in
+    ≡ rows_in c.args.output name f c.length_of-length.result c.args.start c.args.stop = rw (c.name_or_empty-name.ensures, long) refl in
     rw whole (Underway-ends _ _ _ (rw past at i.put))
 
 pub returns-clause-steps : goal.returns-clause-steps

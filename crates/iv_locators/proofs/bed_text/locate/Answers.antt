@@ -21,7 +21,7 @@ are_read g c =
     let text : List ℕ = c.args.text.now in
     let now = c.take_lines.new.self in
     let width : c.unwrap_or.result ≡ unwrap_or now.width empty = c.unwrap_or.ensures ∙ ap (λ o. unwrap_or o empty) c.finish-width.ensures.width in
-    let items : c.in_ok-locators.locators.items ≡ now.kept = c.in_ok-locators.ensures ∙ c.finish-width.ensures.kept in
+    let items : c.in_ok-locators.locators.items ≡ now.held = c.in_ok-locators.ensures ∙ c.finish-width.ensures.held in
     subst (λ (w : ℕ). AreRead genome limit empty text w c.in_ok-locators.locators.items) (sym width)
     (subst (λ (ps : List Locator). AreRead genome limit empty text (unwrap_or now.width empty) ps) (sym items)
     (text-read genome limit empty text c.requires.small c.new-lines.result now c.new-lines.ensures c.in_ok-take_lines.ensures.ok c.requires.width.0 c.requires.width.1))

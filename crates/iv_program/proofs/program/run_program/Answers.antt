@@ -1,12 +1,12 @@
 use Rattle.std.proofs.Common.{[], map, subst, sym, ◌∙◌}
 use Rattle.iv_cli.specs.declared.exit_reason.ExitReason.{ExitReason}
 use Rattle.iv_program.specs.Inside.Runs.{EndsRun}
-use Rattle.iv_program.proofs.RunLemmas.{gave-info_request, had-no-plan, ran-plan}
+use Rattle.iv_program.proofs.RunLemmas.{gave-notice, had-no-plan, ran-plan}
 use Rattle.iv_program.proofs.program.run_program.Goals as goal
 
 pub returns-in-Some : goal.returns-in-Some
 returns-in-Some g c =
-    gave-info_request (map (λ argument. argument.now) c.args.arguments.now) c.finish.result c.in-Some.info_request (g.F.InputFiles.state c.args.files.now) (g.R.Source.state c.args.input.now)
+    gave-notice (map (λ argument. argument.now) c.args.arguments.now) c.finish.result c.in-Some.notice (g.F.InputFiles.state c.args.files.now) (g.R.Source.state c.args.input.now)
     (g.W.Sink.state c.args.output.now) (g.W.Sink.state c.print_notice.new.output) (g.W.Sink.state c.finish.new.output)
     (g.E.Sink.state c.args.messages.now) (g.E.Sink.state c.finish.new.messages) c.print_notice.result (sym c.in-Some.ensures) c.print_notice.ensures
     (subst (λ (e : ExitReason). EndsRun e [] (g.W.Sink.state c.print_notice.new.output) (g.W.Sink.state c.finish.new.output) (g.E.Sink.state c.args.messages.now) (g.E.Sink.state c.finish.new.messages) c.finish.result.exit_reason)

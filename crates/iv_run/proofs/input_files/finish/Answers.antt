@@ -20,6 +20,6 @@ returns-clause-says g c = λ text says.
 
 pub returns-clause-is_on : goal.returns-clause-is_on
 returns-clause-is_on g c = record {
-  kept_all = c.in_ok-width.ensures.kept;
+  held_all = c.in_ok-width.ensures.held;
   few = subst (λ (n : ℕ). n ≤ c.args.limit) (sym (length-map _ g.K.FromRecord.as_record)) c.in_ok-width.ensures.few;
 }

@@ -22,7 +22,7 @@ print-requires-clause-on_genome g c =
     let records = ap span_records c.as_slice.ensures.value ∙ c.sort_spans.ensures ∙ ap ordered c.in_ok-spans.ensures in
     let inside = c.files.inside in
     subst (All (IsOnGenome inside.genome)) (sym records)
-    (ordered-all (IsOnGenome inside.genome) inside.first.records (kept-on_genome inside.genome inside.first.width inside.first.records c.files.invariant.0.kept_all))
+    (ordered-all (IsOnGenome inside.genome) inside.first.records (kept-on_genome inside.genome inside.first.width inside.first.records c.files.invariant.0.held_all))
 
 pub returns : goal.returns
 returns g c = λ asked is.

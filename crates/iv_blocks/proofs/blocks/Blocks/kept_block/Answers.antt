@@ -12,4 +12,4 @@ returns-clause-value g c =
     let records : c.of-members.result.members ≡ members_between c.args.group c.args.start c.args.stop c.args.track.now.records = ap (λ (m : MembersLeft). m.members) c.of-members.ensures.members in
     c.in_ok-copy_of.ensures
     ∙ ap (λ (t : List ℕ). record { stop = c.args.stop; results = t })
-    (c.as_slice-2.ensures.value ∙ (rw (c.name_of-name.ensures, summaries, c.as_slice.ensures.value, c.in_ok-records.ensures.records, records) at c.in_ok-results.ensures))
+    (c.as_slice-2.ensures.value ∙ (rw (c.name_or_empty-name.ensures, summaries, c.as_slice.ensures.value, c.in_ok-records.ensures.records, records) at c.in_ok-results.ensures))

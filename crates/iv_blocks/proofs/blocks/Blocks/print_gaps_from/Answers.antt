@@ -37,7 +37,7 @@ gaps-preserved g c =
     let long = stops-past a.genome.now a.track.now.width a.track.now.records a.self.now.entries right c.requires.fit a.seq a.limited a.start a.stop c.gaps.low (c.in-Some.next, c.in-Some.high) found in
     let steps = c.in-Some.ensures.steps in
     record {
-      put = Underway-more _ _ _ _ _ _ (rw next at i.put) (rw c.name_of-name.ensures at c.in_ok-put_gap.ensures);
+      put = Underway-more _ _ _ _ _ _ (rw next at i.put) (rw c.name_or_empty-name.ensures at c.in_ok-put_gap.ensures);
       begins = begins-next a.genome.now a.track.now.width a.track.now.records a.self.now.entries right c.requires.fit a.seq a.limited a.start a.stop c.gaps.low (c.in-Some.next, c.in-Some.high) found;
       past = λ x b above e. i.past x b (omega (arith, above, long, found.within)) e;
       no_less = omega (arith, i.no_less, steps);
@@ -56,7 +56,7 @@ returns-in_err-put_gap g c =
     let steps = c.in-Some.ensures.steps in
     record {
       text = Puts-err _ _ c.from_residual.result _ c.from_residual.ensures.0
-          (Underway-fails _ _ _ _ _ _ (rw next at i.put) (rw c.name_of-name.ensures at c.in_err-put_gap.ensures));
+          (Underway-fails _ _ _ _ _ _ (rw next at i.put) (rw c.name_or_empty-name.ensures at c.in_err-put_gap.ensures));
       steps = record { no_less = omega (arith, i.no_less, steps); at_most = omega (arith, i.at_most, steps) };
     }
 
@@ -69,7 +69,7 @@ returns-in_default g c =
     let last = left-last a.genome.now a.track.now.width a.track.now.records a.self.now.entries right c.requires.fit a.seq a.limited a.start a.stop c.gaps.low i.begins c.in_default.ensures.found near in
     let steps = c.in_default.ensures.steps in
     record {
-      text = Underway-last _ _ _ _ c.put_last_gap.result _ (rw last at i.put) (rw (c.name_of-name.ensures, c.length_of-end.ensures) at c.put_last_gap.ensures);
+      text = Underway-last _ _ _ _ c.put_last_gap.result _ (rw last at i.put) (rw (c.name_or_empty-name.ensures, c.length_or_zero-end.ensures) at c.put_last_gap.ensures);
       steps = record { no_less = omega (arith, i.no_less, steps); at_most = omega (arith, i.at_most, steps) };
     }
 

@@ -23,7 +23,7 @@ pub loop-block-preserved : goal.loop-block-preserved
 loop-block-preserved g c =
     let i = c.loop-block.invariant in
     let first : c.loop-block.walk ≡ entry_shown c.in-Some.block ∷ c.next.new.self = c.in-Some.ensures.next in
-    let next = rows-next c.args.genome.now c.name_of-name.result.now c.in-Some.block.key (entry_shown c.in-Some.block).1 c.loop-block.walk c.next.new.self c.name_of-name.ensures first in
+    let next = rows-next c.args.genome.now c.name_or_empty-name.result.now c.in-Some.block.key (entry_shown c.in-Some.block).1 c.loop-block.walk c.next.new.self c.name_or_empty-name.ensures first in
     let one = takes_one_more _ _ _ 0 (takes_none c.loop-block.meter) c.in-Some.ensures.step in
     record {
       put = Underway-more _ _ _ _ _ _ (rw next at i.put) c.in_ok-put_block.ensures;
@@ -34,7 +34,7 @@ loop-block-preserved g c =
 pub returns-in_err-put_block-clause-text : goal.returns-in_err-put_block-clause-text
 returns-in_err-put_block-clause-text g c =
     let first : c.loop-block.walk ≡ entry_shown c.in-Some.block ∷ c.next.new.self = c.in-Some.ensures.next in
-    let next = rows-next c.args.genome.now c.name_of-name.result.now c.in-Some.block.key (entry_shown c.in-Some.block).1 c.loop-block.walk c.next.new.self c.name_of-name.ensures first in
+    let next = rows-next c.args.genome.now c.name_or_empty-name.result.now c.in-Some.block.key (entry_shown c.in-Some.block).1 c.loop-block.walk c.next.new.self c.name_or_empty-name.ensures first in
     rw (← rows-are _ _ c.args.track.now.width c.args.track.now.records _ c.requires.right c.requires.fit)
     (Puts-err _ _ c.from_residual.result _ c.from_residual.ensures.0
     (Underway-fails _ _ _ _ _ _ (rw next at c.loop-block.invariant.put) c.in_err-put_block.ensures))

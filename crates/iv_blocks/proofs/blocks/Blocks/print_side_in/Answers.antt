@@ -42,8 +42,8 @@ loop-block-preserved g c =
     let e : Key × Kept = entry_shown c.in-Some.block in
     let first : c.loop-block.walk ≡ e ∷ c.next.new.self = c.in-Some.ensures.next in
     let is = c.in-Some-of_group.ensures.0 in
-    let next = rows-next a.group.rank t a.stop a.genome.now c.name_of-name.result.now c.loop-block.walk c.next.new.self e first e.0.2 (at_start a.group e c.in-Some-of_group.from is)
-    (omega (arith, c.if-from-stop.false, c.from.ensures, ap (λ (k : Key). k.2) is)) c.name_of-name.ensures in
+    let next = rows-next a.group.rank t a.stop a.genome.now c.name_or_empty-name.result.now c.loop-block.walk c.next.new.self e first e.0.2 (at_start a.group e c.in-Some-of_group.from is)
+    (omega (arith, c.if-from-stop.false, c.from.ensures, ap (λ (k : Key). k.2) is)) c.name_or_empty-name.ensures in
     let count = count-next a.group.rank t a.stop c.loop-block.walk c.next.new.self e first e.0.2 (at_start a.group e c.in-Some-of_group.from is) (omega (arith, c.if-from-stop.false, c.from.ensures, ap (λ (k : Key). k.2) is)) in
     let one = takes_one_more _ _ _ 0 (takes_none c.loop-block.meter) c.in-Some.ensures.step in
     record {
@@ -60,8 +60,8 @@ returns-in_err-put_block g c =
     let i = c.loop-block.invariant in
     let e : Key × Kept = entry_shown c.in-Some.block in
     let first : c.loop-block.walk ≡ e ∷ c.next.new.self = c.in-Some.ensures.next in
-    let next = rows-next a.group.rank (is_minus a.group.side) a.stop a.genome.now c.name_of-name.result.now c.loop-block.walk c.next.new.self e first e.0.2 (at_start a.group e c.in-Some-of_group.from c.in-Some-of_group.ensures.0)
-    (omega (arith, c.if-from-stop.false, c.from.ensures, ap (λ (k : Key). k.2) c.in-Some-of_group.ensures.0)) c.name_of-name.ensures in
+    let next = rows-next a.group.rank (is_minus a.group.side) a.stop a.genome.now c.name_or_empty-name.result.now c.loop-block.walk c.next.new.self e first e.0.2 (at_start a.group e c.in-Some-of_group.from c.in-Some-of_group.ensures.0)
+    (omega (arith, c.if-from-stop.false, c.from.ensures, ap (λ (k : Key). k.2) c.in-Some-of_group.ensures.0)) c.name_or_empty-name.ensures in
     let one = takes_one_more _ _ _ 0 (takes_none c.loop-block.meter) c.in-Some.ensures.step in
     record {
       text = Puts-err _ _ c.from_residual.result _ c.from_residual.ensures.0

@@ -55,7 +55,7 @@ returns-in_err-put_sequence-clause-text g c =
     let genome = c.args.genome.now in
     let low : rank < seq_count genome = omega (arith, c.loop-rank-test.true, c.count-rank-end.ensures.value) in
     let here : c.split_sequence-here.result.0 ≡ on rank records = c.split_sequence-here.ensures.here ∙ ap (on rank) i.left_is ∙ from-here rank records in
-    let next = rows-next c.args.self.now.0 genome records c.requires.order c.requires.on_genome c.loop-rank.self-inside.options c.name_of-name.result.now c.split_sequence-here.result.0 rank low i.options_are c.name_of-name.ensures here in
+    let next = rows-next c.args.self.now.0 genome records c.requires.order c.requires.on_genome c.loop-rank.self-inside.options c.name_or_empty-name.result.now c.split_sequence-here.result.0 rank low i.options_are c.name_or_empty-name.ensures here in
     Puts-err _ _ c.from_residual.result _ c.from_residual.ensures.0
     (Underway-failed _ _ _ _ _ _ _ next i.put c.in_err-put_sequence.ensures.text)
 
@@ -67,7 +67,7 @@ loop-rank-preserved g c =
     let genome = c.args.genome.now in
     let low : rank < seq_count genome = omega (arith, c.loop-rank-test.true, c.count-rank-end.ensures.value) in
     let here : c.split_sequence-here.result.0 ≡ on rank records = c.split_sequence-here.ensures.here ∙ ap (on rank) i.left_is ∙ from-here rank records in
-    let next = rows-next c.args.self.now.0 genome records c.requires.order c.requires.on_genome c.loop-rank.self-inside.options c.name_of-name.result.now c.split_sequence-here.result.0 rank low i.options_are c.name_of-name.ensures here in
+    let next = rows-next c.args.self.now.0 genome records c.requires.order c.requires.on_genome c.loop-rank.self-inside.options c.name_or_empty-name.result.now c.split_sequence-here.result.0 rank low i.options_are c.name_or_empty-name.ensures here in
     record {
       put = Underway-step _ _ _ _ _ _ _ next i.put c.in_ok-put_sequence.ensures.text;
       left_is = c.split_sequence-here.ensures.later ∙ ap (λ (l : List RecordValue). filter (λ r. nat_lt rank r.seq) l) i.left_is ∙ from-later rank records;

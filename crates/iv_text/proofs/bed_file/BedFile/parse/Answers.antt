@@ -32,5 +32,5 @@ returns-clause-ok g c =
 
 pub returns-clause-fit : goal.returns-clause-fit
 returns-clause-fit g c =
-    let kept = c.in_ok-width.ensures.kept in
+    let kept = c.in_ok-width.ensures.held in
     rw (c.in_ok-records.ensures, c.in_ok-into_records.ensures) (fit-all c.args.genome.now c.in_ok-width.width c.in_ok-width.records (rw (rows-all c.in_ok-width.records) at kept))

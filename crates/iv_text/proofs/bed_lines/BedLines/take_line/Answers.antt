@@ -8,8 +8,8 @@ use Rattle.iv_lines.proofs.PieceLemmas.{handed-on}
 use Rattle.iv_text.proofs.BedReadingLemmas.{columns-refused, record-refused, held-unread, held-taken, held-full}
 use Rattle.iv_text.proofs.bed_lines.BedLines.take_line.Goals as goal
 
-pub returns-then-is_unread-clause-ok : goal.returns-then-is_unread-clause-ok
-returns-then-is_unread-clause-ok g c =
+pub returns-then-is_skipped_line-clause-ok : goal.returns-then-is_skipped_line-clause-ok
+returns-then-is_skipped_line-clause-ok g c =
     let k = g.K.FromRecord in
     let text = c.args.text.now in
     let size = c.split_line-size.result.1 in
@@ -17,7 +17,7 @@ returns-then-is_unread-clause-ok g c =
       c.split_line-size.ensures.some,
       c.split_line-size.ensures.within.1,
       subst (λ h. TakesLine k.held_of c.args.reader.now c.args.limit c.args.self.now h text size) (sym same)
-          (held-unread k.held_of c.args.reader.now c.args.limit c.args.self.now text c.split_line-size.result.0.now size c.split_line-size.ensures.lines (sym c.is_unread.ensures ∙ c.if-is_unread.true)),
+          (held-unread k.held_of c.args.reader.now c.args.limit c.args.self.now text c.split_line-size.result.0.now size c.split_line-size.ensures.lines (sym c.is_skipped_line.ensures ∙ c.if-is_skipped_line.true)),
     )
 
 pub returns-in_default-width_for-clause-err : goal.returns-in_default-width_for-clause-err
@@ -29,7 +29,7 @@ returns-in_default-width_for-clause-err g c =
     let same : old ≡ c.args.self.now = rw c.in_default.is at c.in_ok-size.ensures.ok in
     inr (subst (λ h. RefusesLine k.held_of genome c.args.limit h text cause.Columns) same
     (λ kept row_of. columns-refused kept genome c.args.limit (shown row_of old) (lines text) (lines (drop c.split_line-size.result.1 text)) c.split_line-size.result.0.now
-    c.split_line-size.ensures.lines (sym c.is_unread.ensures ∙ c.if-is_unread.false) (rw c.width.ensures at c.in_default-width_for.ensures)))
+    c.split_line-size.ensures.lines (sym c.is_skipped_line.ensures ∙ c.if-is_skipped_line.false) (rw c.width.ensures at c.in_default-width_for.ensures)))
 
 pub returns-in-Err-clause-err : goal.returns-in-Err-clause-err
 returns-in-Err-clause-err g c =
@@ -41,7 +41,7 @@ returns-in-Err-clause-err g c =
     let wide = rw c.width.ensures at c.in-Some-width_for.ensures in
     inr (subst (λ h. RefusesLine k.held_of genome c.args.limit h text (cause.Record c.in-Err.fault)) same
     (λ kept row_of. record-refused kept genome c.args.limit (shown row_of old) (lines text) (lines (drop c.split_line-size.result.1 text)) c.split_line-size.result.0.now
-    c.in-Some-width_for.width c.in-Err.fault c.split_line-size.ensures.lines (sym c.is_unread.ensures ∙ c.if-is_unread.false) wide.0 wide.1 wide.2 (sym c.in-Err.ensures.value)))
+    c.in-Some-width_for.width c.in-Err.fault c.split_line-size.ensures.lines (sym c.is_skipped_line.ensures ∙ c.if-is_skipped_line.false) wide.0 wide.1 wide.2 (sym c.in-Err.ensures.value)))
 
 pub returns-in_err-take_one-clause-err : goal.returns-in_err-take_one-clause-err
 returns-in_err-take_one-clause-err g c =
@@ -57,7 +57,7 @@ returns-in_err-take_one-clause-err g c =
       | inr full ↦ inr (subst (λ (f : LoadCause). RefusesLine k.held_of genome c.args.limit c.args.self.now text f) (sym full.0)
           (subst (λ h. RefusesLine k.held_of genome c.args.limit h text cause.TooMany) same
           (held-full k.held_of genome c.args.limit old text c.split_line-size.result.0.now c.split_line-size.result.1 c.in-Some-width_for.width c.in-Ok.record c.split_line-size.ensures.lines
-          (sym c.is_unread.ensures ∙ c.if-is_unread.false) wide.0 wide.1 wide.2 (sym c.in-Ok.ensures.value) full.1)))
+          (sym c.is_skipped_line.ensures ∙ c.if-is_skipped_line.false) wide.0 wide.1 wide.2 (sym c.in-Ok.ensures.value) full.1)))
     ])
 
 pub returns-clause-ok : goal.returns-clause-ok
@@ -74,6 +74,6 @@ returns-clause-ok g c =
       c.split_line-size.ensures.within.1,
       subst (λ h. TakesLine k.held_of genome c.args.limit h c.take_one.new.self text size) same
           (held-taken k.held_of genome c.args.limit old c.take_one.new.self text c.split_line-size.result.0.now size c.in-Some-width_for.width c.in-Ok.record c.in_ok-one.one
-          c.split_line-size.ensures.lines (sym c.is_unread.ensures ∙ c.if-is_unread.false) wide.0 wide.1 wide.2 (sym c.in-Ok.ensures.value) c.in-Ok.ensures.fits
+          c.split_line-size.ensures.lines (sym c.is_skipped_line.ensures ∙ c.if-is_skipped_line.false) wide.0 wide.1 wide.2 (sym c.in-Ok.ensures.value) c.in-Ok.ensures.fits
           (c.in_ok-one.ensures.ok ∙ ap (k.held_of c.in-Ok.record) c.at-at.ensures.value) (subst (λ (n : ℕ). n < 2 ^ 32) c.at-at.ensures.value c.at-at.ensures.small) taken.free taken.ok),
     )

@@ -37,7 +37,7 @@ returns-clause-ok g c =
     let new = c.take_lines.new.self in
     let line : List ℕ = c.as_slice.result.now in
     let done : ℕ → List RecordValue → Result Bed LoadFault = λ w records. Ok (record { width = w; records = records }) in
-    let records : List RecordValue = map k.as_record new.kept in
+    let records : List RecordValue = map k.as_record new.held in
     let wide = sound-kept k.projected genome limit (shown k.as_record new) empty c.in_ok-take_lines.ensures.sound c.requires.width.0 c.requires.width.1 in
     ap (finished empty)
     (ap (λ (r : Reading). read_on k.projected genome limit r []) (sym c.self.view_is)
@@ -46,14 +46,14 @@ returns-clause-ok g c =
     ∙ taken-so k.held_of genome limit k.projected k.as_record law.again law.stands read new line c.in_ok-take_lines.ensures.ok [])
     ∙ ap (done (unwrap_or new.width empty)) (projected-again k.projected genome limit law.again _ records wide.2)
     ∙ ap (λ w. done w records) (ap (λ o. unwrap_or o empty) (sym c.finish-width.ensures.width) ∙ sym c.unwrap_or.ensures)
-    ∙ ap (λ items. done c.unwrap_or.result (map k.as_record items)) (sym c.finish-width.ensures.kept)
+    ∙ ap (λ items. done c.unwrap_or.result (map k.as_record items)) (sym c.finish-width.ensures.held)
 
-pub returns-clause-kept : goal.returns-clause-kept
-returns-clause-kept g c =
+pub returns-clause-held : goal.returns-clause-held
+returns-clause-held g c =
     let k = g.K.FromRecord in
     let genome = c.args.genome.now in
     let empty = c.args.empty_width in
     let new = c.take_lines.new.self in
     let wide = sound-kept k.projected genome c.args.limit (shown k.as_record new) empty c.in_ok-take_lines.ensures.sound c.requires.width.0 c.requires.width.1 in
-    subst (λ items. All (IsProjected k.projected genome c.unwrap_or.result) (map k.as_record items)) (sym c.finish-width.ensures.kept)
-    (subst (λ w. All (IsProjected k.projected genome w) (map k.as_record new.kept)) (ap (λ o. unwrap_or o empty) (sym c.finish-width.ensures.width) ∙ sym c.unwrap_or.ensures) wide.2)
+    subst (λ items. All (IsProjected k.projected genome c.unwrap_or.result) (map k.as_record items)) (sym c.finish-width.ensures.held)
+    (subst (λ w. All (IsProjected k.projected genome w) (map k.as_record new.held)) (ap (λ o. unwrap_or o empty) (sym c.finish-width.ensures.width) ∙ sym c.unwrap_or.ensures) wide.2)

@@ -8,8 +8,8 @@ use Rattle.iv_workspace.specs.Inside.States.{IsTrackOn}
 use Rattle.iv_workspace.proofs.SessionLemmas.{track-of_file, second-of_file, widths-of_file}
 use Rattle.iv_workspace.proofs.session.Session.from_batches.Goals as goal
 
-pub from_kept-requires-clause-width : goal.from_kept-requires-clause-width
-from_kept-requires-clause-width g c =
+pub from_held-requires-clause-width : goal.from_held-requires-clause-width
+from_held-requires-clause-width g c =
     let first = c.args.first in
     subst (λ (records : List RecordValue). All (λ (r : RecordValue). r.width ≡ c.width-width.result) records) (sym c.into_records.ensures)
     (subst (λ (w : ℕ). All (λ (r : RecordValue). r.width ≡ w) first.records) (sym c.width-width.ensures.value) (λ i r within. (c.requires.fit i r within).width_is))

@@ -4,8 +4,8 @@ use Rattle.iv_workspace.proofs.session.Session.has_record_past.Goals as goal
 
 pub returns-then-length-end : goal.returns-then-length-end
 returns-then-length-end g c =
-    no_record-past _ c.args.self.now _ c.args.seq c.args.length c.length_of-end.result c.self.view_is c.self.invariant.0
-    c.length_of-end.ensures c.if-length-end.true
+    no_record-past _ c.args.self.now _ c.args.seq c.args.length c.length_or_zero-end.result c.self.view_is c.self.invariant.0
+    c.length_or_zero-end.ensures c.if-length-end.true
 
 pub returns-then-track_reaches_past : goal.returns-then-track_reaches_past
 returns-then-track_reaches_past g c =
@@ -16,7 +16,7 @@ track_reaches_past-requires-clause-some g c = rows-some c.self.inside.genome c.s
 
 pub track_reaches_past-requires-clause-within : goal.track_reaches_past-requires-clause-within
 track_reaches_past-requires-clause-within g c =
-    rows-within c.self.inside.genome c.self.inside.track c.self.invariant.0.track_is c.args.seq c.length_of-end.result c.length_of-end.ensures
+    rows-within c.self.inside.genome c.self.inside.track c.self.invariant.0.track_is c.args.seq c.length_or_zero-end.result c.length_or_zero-end.ensures
 
 pub second_reaches_past-requires-clause-some : goal.second_reaches_past-requires-clause-some
 second_reaches_past-requires-clause-some g c =
@@ -26,8 +26,8 @@ second_reaches_past-requires-clause-some g c =
 pub second_reaches_past-requires-clause-within : goal.second_reaches_past-requires-clause-within
 second_reaches_past-requires-clause-within g c =
     let i = c.self.inside in
-    rows-within i.genome c.in-Some.second (second-there i.genome i.second c.in-Some.second c.self.invariant.0.second_is c.in-Some.is) c.args.seq c.length_of-end.result
-    c.length_of-end.ensures
+    rows-within i.genome c.in-Some.second (second-there i.genome i.second c.in-Some.second c.self.invariant.0.second_is c.in-Some.is) c.args.seq c.length_or_zero-end.result
+    c.length_or_zero-end.ensures
 
 pub returns-in-Some : goal.returns-in-Some
 returns-in-Some g c =

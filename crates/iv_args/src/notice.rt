@@ -1,7 +1,7 @@
 //! What the program says about itself.
 ghost use Rattle.std.specs.Prelude.{◌≡◌, ◌||◌, codes, map};
 ghost use Rattle.std.specs.Str.{bytes_eq};
-ghost use Rattle.iv_args.specs.InfoRequests.{notice_of};
+ghost use Rattle.iv_args.specs.Notices.{notice_of};
 ghost use Rattle.iv_args.specs.Texts.{notice_text};
 
 use crate::help::{HELP, help_of};
@@ -9,7 +9,7 @@ use crate::subcommand::Subcommand;
 
 /// What the program can say about itself.
 #[derive(Clone, Copy, Debug, PartialEq, Eq)]
-pub enum InfoRequest {
+pub enum Notice {
     /// How it is used.
     Help,
     /// How one kind of run is used.
@@ -37,24 +37,24 @@ fn is_help_option(argument: &[u8]) -> bool
     argument == b"--help".as_slice() || argument == b"-h".as_slice()
 }
 
-impl InfoRequest {
+impl Notice {
     /// The notice that the arguments after the program's name ask for.
     ///
     /// Help: `--help`, `-h` or `help` alone. Help on a subcommand or on `session`: its argument after `--help` or `help`, or
     /// before `--help` or `-h`. The version: `--version` alone.
-    pub fn of(arguments: &[&[u8]]) -> Option<InfoRequest>
+    pub fn of(arguments: &[&[u8]]) -> Option<Notice>
         ensures { result ≡ notice_of (map (λ argument. argument.now) arguments.now) }
     {
         match arguments {
             [argument] if is_help_command(argument) || is_help_option(argument) => Some(
-                InfoRequest::Help,
+                Notice::Help,
             ),
-            [argument] if *argument == b"--version".as_slice() => Some(InfoRequest::Version),
+            [argument] if *argument == b"--version".as_slice() => Some(Notice::Version),
             [argument, subject] if is_help_command(argument) => Subcommand::of(subject).map(
-                InfoRequest::HelpOf,
+                Notice::HelpOf,
             ),
             [subject, argument] if is_help_option(argument) => Subcommand::of(subject).map(
-                InfoRequest::HelpOf,
+                Notice::HelpOf,
             ),
             _ => None,
         }
@@ -65,9 +65,9 @@ impl InfoRequest {
         ensures { result.now ≡ notice_text self }
     {
         match self {
-            InfoRequest::Help => HELP,
-            InfoRequest::HelpOf(run) => help_of(run),
-            InfoRequest::Version => VERSION,
+            Notice::Help => HELP,
+            Notice::HelpOf(run) => help_of(run),
+            Notice::Version => VERSION,
         }
     }
 }

@@ -3,12 +3,12 @@ use Rattle.std.specs.Prelude.{ℕ, ◌||◌, if◌then◌else◌, List, [], ◌�
 use Rattle.std.specs.Option.{option_map}
 use Rattle.std.specs.Str.{bytes_eq}
 use Rattle.iv_args.specs.Arguments.{run_of}
-use Rattle.iv_args.specs.declared.info_request.InfoRequest.{InfoRequest}
-use Rattle.iv_args.specs.declared.info_request.InfoRequest.TheVariants.{Help, HelpOf, Version}
+use Rattle.iv_args.specs.declared.notice.Notice.{Notice}
+use Rattle.iv_args.specs.declared.notice.Notice.TheVariants.{Help, HelpOf, Version}
 
 -- the notice that arguments ask for: help if `--help`, `help` or `-h` is alone; help on one kind of run if its argument comes after `--help` or
 -- `help`, or before `--help` or `-h`; and the version if `--version` is alone
-abbrev pub notice_of : List (List ℕ) → Option InfoRequest
+abbrev pub notice_of : List (List ℕ) → Option Notice
 notice_of (argument ∷ []) =
     if bytes_eq argument (codes "--help") || bytes_eq argument (codes "help") || bytes_eq argument (codes "-h") then Some Help
     else if bytes_eq argument (codes "--version") then Some Version

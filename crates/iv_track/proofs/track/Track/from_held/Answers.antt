@@ -5,7 +5,7 @@ use Rattle.iv_lines.specs.RecordValue.{RecordValue, IsPlaced}
 use Rattle.iv_track.specs.Copies.{expanded}
 use Rattle.iv_track.specs.Inside.LengthClasses.{AreClasses}
 use Rattle.iv_track.proofs.BuiltLemmas.{counted-ordered, counted-length, counted_track}
-use Rattle.iv_track.proofs.track.Track.from_kept.Goals as goal
+use Rattle.iv_track.proofs.track.Track.from_held.Goals as goal
 
 pub of-requires-clause-few : goal.of-requires-clause-few
 of-requires-clause-few g c = omega (arith, c.requires.few, c.requires.limit)
