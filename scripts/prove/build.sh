@@ -3,8 +3,9 @@
 #
 # If the program was proved here before, by `rt run` or `rt check` in crates/bedkeep, only what changed since then is
 # proved again, one crate after another. Else `rt ci` proves a copy of its crates, side by side, without the tests and the
-# mutants. Some releases of the toolchain take what an earlier `rt ci` on this machine proved, and then leave the program
-# without its object file. With --object that is made too, from which a release is linked: if it is missing, all is proved again.
+# mutants, over what large_first.sh proved. Some releases of the toolchain take what an earlier `rt ci` on this machine proved,
+# and then leave the program without its object file. With --object that is made too, from which a release is linked: if it is
+# missing, all is proved again.
 #
 #   scripts/prove/build.sh [--object]
 set -eu
@@ -21,6 +22,7 @@ if [ -d crates/bedkeep/out/incremental ]; then
     exit
 fi
 
+scripts/prove/large_first.sh
 copy=$(mktemp -d)
 trap 'rm -rf "$copy"' EXIT
 scripts/prove/copy_crates.sh "$copy" bedkeep
