@@ -72,7 +72,7 @@ at-most-one arguments plan is option.Width = width-once (values_of option.Width 
 at-most-one arguments plan is option.Limit = limit-once (values_of option.Limit is.parts.settings) plan.limit is.limit
 
 -- two values that may be left out are the same if their lists are
-said-same : (o p : Option (List ℕ)) → option_to_list o ≡ option_to_list p → o ≡ p
+pub said-same : (o p : Option (List ℕ)) → option_to_list o ≡ option_to_list p → o ≡ p
 said-same None None e = refl
 said-same (Some x) (Some y) e = cc e
 said-same o p e = absurd (cc e)

@@ -1,10 +1,9 @@
 -- The arguments of a run, taken from the front.
-use Rattle.std.proofs.Common.{◌≡◌, ℕ, ◌+◌, ◌-◌, ◌≤◌, Bool, true, false, List, [], ◌∷◌, ◌++◌, Option, Some, None, Bor, length, map, take, drop, refl, sym, ap, ◌∙◌, subst, arith, append-nil, append_assoc, length-append, length-drop}
-use lib.ListN.{get_or}
+use Rattle.std.proofs.Common.{◌≡◌, ℕ, ◌+◌, ◌-◌, ◌≤◌, Bool, true, false, List, [], ◌∷◌, ◌++◌, Option, Some, None, Bor, length, map, drop, refl, sym, ap, ◌∙◌, subst, arith, append-nil, append_assoc, length-append}
 use Rattle.std.specs.Prelude.{filter, if◌then◌else◌}
 use Rattle.std.specs.List.{slice_get}
 use Rattle.std.specs.Option.{is_some, option_map, option_and_then, option_to_list}
-use Rattle.std.proofs.lemmas.List.{take_all, map-append}
+use Rattle.std.proofs.lemmas.List.{map-append}
 use Rattle.std.proofs.lemmas.List.Elements.{filter-append}
 use Rattle.std.proofs.lemmas.Option.{none-some, same_Some}
 use Rattle.iv_args.specs.declared.subcommand.Subcommand.{Subcommand}
@@ -34,19 +33,6 @@ split_last asked argument = if is_some asked then None else Some (record { setti
 -- the texts of references
 abbrev texts : List (Bor (List ℕ)) → List (List ℕ)
 texts arguments = map (λ argument. argument.now) arguments
-
--- a list with an item begins with it
-pub one-up : {A : Type 0} (f : A → List ℕ) (xs : List A) (d : A) → 1 ≤ length xs → map f xs ≡ f (get_or xs 0 d) ∷ map f (take (length xs - 1) (drop 1 xs))
-one-up f [] d h = absurd (omega (arith, h))
-one-up f (x ∷ xs) d h =
-    let n : length (x ∷ xs) - 1 ≡ length xs = omega arith in
-    rw n (ap (λ l. f x ∷ map f l) (sym (take_all (length xs) xs (omega arith))))
-
--- what is left of a list after some items
-pub left-later : {A : Type 0} (f : A → List ℕ) (xs : List A) (n : ℕ) → map f (drop n xs) ≡ map f (take (length xs - n) (drop n xs))
-left-later f xs n =
-    let short : length (drop n xs) ≤ length xs - n = omega (arith, length-drop n xs) in
-    ap (λ l. map f l) (sym (take_all (length xs - n) (drop n xs) short))
 
 module _ (run : Subcommand) (argument : List ℕ) (old : PartialPlan) where
   -- given what the argument is

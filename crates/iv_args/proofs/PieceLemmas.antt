@@ -6,6 +6,7 @@ use Rattle.std.specs.Option.{option_map, option_to_list, is_some}
 use Rattle.std.proofs.lemmas.Bool.{false≢true}
 use Rattle.std.proofs.lemmas.List.Elements.{recursion_from_All}
 use Rattle.std.proofs.lemmas.Option.{none-some, same_Some}
+use Rattle.iv_lines.proofs.ListLemmas.{option_map-map}
 use Rattle.iv_args.specs.declared.subcommand.Subcommand.{Subcommand}
 use Rattle.iv_args.specs.declared.subcommand.RunOption.{RunOption}
 use Rattle.iv_args.specs.declared.subcommand.RunOption.TheVariants as option
@@ -51,10 +52,6 @@ map-none : (o : Option SplitArguments) → o ≡ option_map (λ p. p) o
 map-none None = refl
 map-none (Some p) = refl
 
-map-both : (f g : SplitArguments → SplitArguments) (o : Option SplitArguments) → option_map f (option_map g o) ≡ option_map (λ p. f (g p)) o
-map-both f g None = refl
-map-both f g (Some p) = refl
-
 -- whole pieces are read one after another
 split_arguments-pieces : (run : Subcommand) (pieces : List Piece) (arguments : List (List ℕ)) → AllByRecursion (IsPiece run) pieces
     → split_arguments run (piece_arguments pieces ++ arguments) ≡ option_map (put_all run pieces) (split_arguments run arguments)
@@ -63,7 +60,7 @@ split_arguments-pieces run (piece ∷ pieces) arguments whole =
     ap (split_arguments run) (append_assoc (words_of piece) (piece_arguments pieces) arguments)
     ∙ split_arguments-by run piece.argument piece.value (option_of run piece.argument) (takes_value run piece.argument) refl refl whole.0 (piece_arguments pieces ++ arguments)
     ∙ ap (option_map (put (option_of run piece.argument) piece)) (split_arguments-pieces run pieces arguments whole.1)
-    ∙ map-both (put (option_of run piece.argument) piece) (put_all run pieces) (split_arguments run arguments)
+    ∙ option_map-map (put (option_of run piece.argument) piece) (put_all run pieces) (split_arguments run arguments)
 
 -- ---- pieces that are exchanged
 

@@ -35,10 +35,6 @@ use Rattle.iv_blocks.proofs.EntryLemmas.{from, entry-found, side_entries, rank_e
 use Rattle.iv_blocks.proofs.KeptLemmas.{none-past, side-is, side-other, entry_of, group-other}
 use Rattle.iv_blocks.proofs.ComplementLemmas.{mem-values}
 
-pub row-parts : (text : List ℕ) (number : ℕ) → text ++ codes "\t" ++ decimal number ++ codes "\n" ≡ text ++ (codes "\t" ++ decimal number ++ codes "\n")
-row-parts text number = append_assoc (text ++ codes "\t") (decimal number) (codes "\n") ∙ append_assoc text (codes "\t") (decimal number ++ codes "\n")
-    ∙ ap (λ (l : List ℕ). text ++ l) (sym (append_assoc (codes "\t") (decimal number) (codes "\n")))
-
 -- ---- blocks up to a record
 
 -- a later record has all blocks before it that an earlier one has
@@ -52,11 +48,11 @@ until-later q r b precedes passes = elim (or_cases (nat_lt b.sequence q.seq) ((b
       ]
   | inr here ↦
       let both = and_parts (b.sequence == q.seq) (nat_le b.start q.start) here in
-      let rank : b.sequence ≡ q.seq = eqb-true _ _ both.0 in
+      let seq : b.sequence ≡ q.seq = eqb-true _ _ both.0 in
       let start : b.start ≤ q.start = leb-true _ _ both.1 in
       elim precedes [
-        | inl less ↦ or_left (nat_lt b.sequence r.seq) _ (lt-ltb b.sequence r.seq (omega (arith, rank, less)))
-        | inr same ↦ or_right (nat_lt b.sequence r.seq) _ (and_from _ _ (eq-eqb b.sequence r.seq (omega (arith, rank, same.0))) (le-leb b.start r.start (omega (arith, start, same.1))))
+        | inl less ↦ or_left (nat_lt b.sequence r.seq) _ (lt-ltb b.sequence r.seq (omega (arith, seq, less)))
+        | inr same ↦ or_right (nat_lt b.sequence r.seq) _ (and_from _ _ (eq-eqb b.sequence r.seq (omega (arith, seq, same.0))) (le-leb b.start r.start (omega (arith, start, same.1))))
       ]
 ]
 
@@ -164,11 +160,11 @@ IsPassed-few number more all left records r h counted =
 -- ---- the number by the definition
 
 -- what a sequence's own list has
-mem-ranks : {X : Type 0} (own : ℕ → List X) (n rank : ℕ) (x : X) → Mem x (flat_map own (range_with_len rank n)) → (s : ℕ) × (s < rank + n) × Mem x (own s)
-mem-ranks own zero rank x m = absurd m
-mem-ranks own (suc n) rank x m = elim (mem-append (own rank) (flat_map own (range_with_len (rank + 1) n)) x m) [
-  | inl here ↦ (rank, omega arith, here)
-  | inr later ↦ let found = mem-ranks own n (rank + 1) x later in (found.0, omega (arith, found.1), found.2)
+mem-ranks : {X : Type 0} (own : ℕ → List X) (n seq : ℕ) (x : X) → Mem x (flat_map own (range_with_len seq n)) → (s : ℕ) × (s < seq + n) × Mem x (own s)
+mem-ranks own zero seq x m = absurd m
+mem-ranks own (suc n) seq x m = elim (mem-append (own seq) (flat_map own (range_with_len (seq + 1) n)) x m) [
+  | inl here ↦ (seq, omega arith, here)
+  | inr later ↦ let found = mem-ranks own n (seq + 1) x later in (found.0, omega (arith, found.1), found.2)
 ]
 
 mem-side : (look : Key → Option Kept) (s : ℕ) (t : Bool) (n : ℕ) (e : Key × Kept) → Mem e (side_entries look s t n) → (e.0.0 ≡ s) × (e.0.2 < n)
@@ -194,14 +190,14 @@ past-key : (s p : ℕ) (x : Key) (v : Kept) → is_le (key_cmp (s, false, p + 1)
 past-key s p x v after side = false_from_ne_true _ (λ e. elim (or_cases (nat_lt x.0 s) ((x.0 == s) && nat_le x.2 p) e) [
   | inl lower ↦
       let low : x.0 < s = ltb-true _ _ lower in
-      let rank : Greater ≡ nat_cmp s x.0 = nat_cmp_is s x.0 Greater low in
-      let never : false ≡ true = ap (λ o. is_le (ordering_then (ordering_then o (bool_cmp false x.1)) (nat_cmp (p + 1) x.2))) rank ∙ after in
+      let seq : Greater ≡ nat_cmp s x.0 = nat_cmp_is s x.0 Greater low in
+      let never : false ≡ true = ap (λ o. is_le (ordering_then (ordering_then o (bool_cmp false x.1)) (nat_cmp (p + 1) x.2))) seq ∙ after in
       cc
   | inr here ↦
       let both = and_parts (x.0 == s) (nat_le x.2 p) here in
-      let rank : s ≡ x.0 = sym (eqb-true _ _ both.0) in
+      let seq : s ≡ x.0 = sym (eqb-true _ _ both.0) in
       let start : x.2 ≤ p = leb-true _ _ both.1 in
-      let same : nat_cmp s x.0 ≡ Equal = ap (nat_cmp s) (sym rank) ∙ tied_itself nat_cmp_total s in
+      let same : nat_cmp s x.0 ≡ Equal = ap (nat_cmp s) (sym seq) ∙ tied_itself nat_cmp_total s in
       let past : Greater ≡ nat_cmp (p + 1) x.2 = nat_cmp_is (p + 1) x.2 Greater (omega (arith, start)) in
       let never : false ≡ true = rw (same, side, ← past) at after in
       cc
@@ -229,8 +225,8 @@ module _ (o : BlockOptions) (g : Sequences) (width : ℕ) (records : List Record
       ∙ ap (λ (b : Bool). length (blocks_below start_of stop_of o.distance (group b s false records) n)) together
       ∙ ap (λ (l : List RecordValue). length (blocks_below start_of stop_of o.distance l n)) (on-is s records)
 
-  rank-count : (s : ℕ) → length (rank_entries look (sequence_length g) s) ≡ blocks_before o.distance records s (sequence_length g s)
-  rank-count s =
+  seq-count : (s : ℕ) → length (rank_entries look (sequence_length g) s) ≡ blocks_before o.distance records s (sequence_length g s)
+  seq-count s =
       ap (λ (l : Entries). length (side_entries look s false (sequence_length g s) ++ l)) (side-other o g records s (sequence_length g s) together)
       ∙ ap (λ (l : Entries). length l) (append-nil (side_entries look s false (sequence_length g s)))
       ∙ side-count s (sequence_length g s)
@@ -238,7 +234,7 @@ module _ (o : BlockOptions) (g : Sequences) (width : ℕ) (records : List Record
   ranks-count : (n : ℕ) → length (all_entries look (sequence_length g) n) ≡ sum (map (λ s. blocks_before o.distance records s (sequence_length g s)) (range_with_len 0 n))
   ranks-count n =
       length-flat_map (rank_entries look (sequence_length g)) (range_with_len 0 n)
-      ∙ ap (λ (f : ℕ → ℕ). sum_by f (range_with_len 0 n)) (λ i s. rank-count s i)
+      ∙ ap (λ (f : ℕ → ℕ). sum_by f (range_with_len 0 n)) (λ i s. seq-count s i)
       ∙ sym (sum-map (λ s. blocks_before o.distance records s (sequence_length g s)) (range_with_len 0 n))
 
   -- the blocks up to a position of a sequence
@@ -265,11 +261,11 @@ module _ (o : BlockOptions) (g : Sequences) (width : ℕ) (records : List Record
           rw (← found.2) (elim (mem-append (all_entries look (sequence_length g) s) (side_entries look s false (p + 1)) found.0 found.1) [
             | inl lower ↦
                 let at = mem-ranks (rank_entries look (sequence_length g)) s 0 found.0 lower in
-                let rank : found.0.0.0 ≡ at.0 = elim (mem-append (side_entries look at.0 false (sequence_length g at.0)) (side_entries look at.0 true (sequence_length g at.0)) found.0 at.2) [
+                let seq : found.0.0.0 ≡ at.0 = elim (mem-append (side_entries look at.0 false (sequence_length g at.0)) (side_entries look at.0 true (sequence_length g at.0)) found.0 at.2) [
                   | inl first ↦ (mem-side look at.0 false (sequence_length g at.0) found.0 first).0
                   | inr other ↦ (mem-side look at.0 true (sequence_length g at.0) found.0 other).0
                 ] in
-                or_left (nat_lt found.0.0.0 s) _ (lt-ltb found.0.0.0 s (omega (arith, rank, at.1)))
+                or_left (nat_lt found.0.0.0 s) _ (lt-ltb found.0.0.0 s (omega (arith, seq, at.1)))
             | inr here ↦
                 let at = mem-side look s false (p + 1) found.0 here in
                 or_right (nat_lt found.0.0.0 s) _ (and_from _ _ (eq-eqb found.0.0.0 s at.0) (le-leb found.0.0.2 p (omega (arith, at.1))))

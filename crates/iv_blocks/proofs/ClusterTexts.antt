@@ -78,11 +78,11 @@ module _ (d : ℕ) (g : Sequences) (records : List RecordValue) (lie : All (IsOn
   abbrev total : ℕ → ℕ
   total s = length (gathered (blocks_on d g records) s)
 
-  total-is : (s : ℕ) → total s ≡ sum (map (λ rank. blocks_before d records rank (sequence_length g rank)) (range_with_len 0 s))
+  total-is : (s : ℕ) → total s ≡ sum (map (λ seq. blocks_before d records seq (sequence_length g seq)) (range_with_len 0 s))
   total-is s =
       length-flat_map (blocks_on d g records) (range_with_len 0 s)
-      ∙ ap (λ (f : ℕ → ℕ). sum_by f (range_with_len 0 s)) (λ i rank. length-map (blocks_below start_of stop_of d (on rank records) (sequence_length g rank)) (block_on rank) i)
-      ∙ sym (sum-map (λ rank. blocks_before d records rank (sequence_length g rank)) (range_with_len 0 s))
+      ∙ ap (λ (f : ℕ → ℕ). sum_by f (range_with_len 0 s)) (λ i seq. length-map (blocks_below start_of stop_of d (on seq records) (sequence_length g seq)) (block_on seq) i)
+      ∙ sym (sum-map (λ seq. blocks_before d records seq (sequence_length g seq)) (range_with_len 0 s))
 
   -- the rows of the members of a block
   abbrev block_rows : BlockWithMembers → List ℕ
@@ -97,8 +97,8 @@ module _ (d : ℕ) (g : Sequences) (records : List RecordValue) (lie : All (IsOn
       = ap (λ k. home start_of stop_of d (on k records) r) is_placed.1 ∙ same-home d g records lie s x r (mem-contains _ r m) in
       let count : blocks_before d records r.seq (r.start + 1) ≡ length (values (at d g records lie s) (suc x))
       = own-number d g records lie r ∙ ap₂ (λ (k z : ℕ). length (values (at d g records lie k) (suc z))) is_placed.1 start in
-      let lower : sum (map (λ rank. blocks_before d records rank (sequence_length g rank)) (range_with_len 0 r.seq)) ≡ total s
-      = ap (λ (k : ℕ). sum (map (λ rank. blocks_before d records rank (sequence_length g rank)) (range_with_len 0 k))) is_placed.1 ∙ sym (total-is s) in
+      let lower : sum (map (λ seq. blocks_before d records seq (sequence_length g seq)) (range_with_len 0 r.seq)) ≡ total s
+      = ap (λ (k : ℕ). sum (map (λ seq. blocks_before d records seq (sequence_length g seq)) (range_with_len 0 k))) is_placed.1 ∙ sym (total-is s) in
       let more : length (values (at d g records lie s) (suc x)) ≡ length (values (at d g records lie s) x) + 1
       = ap (λ (l : List (ℕ × (ℕ × List RecordValue))). length l) (values-some (at d g records lie s) x y there) ∙ length-append (values (at d g records lie s) x) (y ∷ []) in
       omega (arith, lower, count, more)

@@ -51,44 +51,44 @@ gaps-last name shown start length blocks is none = rw (is, none) refl
 abbrev AreOwn : Sequences → (ℕ → List Block) → Type 0
 AreOwn g own = (s : ℕ) (b : Block) → Mem b (own s) → (b.sequence ≡ s) × (b.start ≤ sequence_length g s)
 
-later : (g : Sequences) (own : ℕ → List Block) → AreOwn g own → (rank n low : ℕ) → low < rank → (b : Block) → Mem b (flat_map own (range_with_len rank n)) → starts_until low (sequence_length g low) b ≡ false
-later g own are rank zero low high b m = absurd m
-later g own are rank (suc n) low high b m = elim (mem-append (own rank) (flat_map own (range_with_len (rank + 1) n)) b m) [
+later : (g : Sequences) (own : ℕ → List Block) → AreOwn g own → (seq n low : ℕ) → low < seq → (b : Block) → Mem b (flat_map own (range_with_len seq n)) → starts_until low (sequence_length g low) b ≡ false
+later g own are seq zero low high b m = absurd m
+later g own are seq (suc n) low high b m = elim (mem-append (own seq) (flat_map own (range_with_len (seq + 1) n)) b m) [
   | inl here ↦
-      let at = (are rank b here).0 in
+      let at = (are seq b here).0 in
       rw (le-ltb b.sequence low (omega (arith, at)), ne_eqb b.sequence low (λ is. absurd (omega (arith, is, at)))) refl
-  | inr rest ↦ later g own are (rank + 1) n low (omega arith) b rest
+  | inr rest ↦ later g own are (seq + 1) n low (omega arith) b rest
 ]
 
 -- the sequences' own blocks give their rows
-pub texts-are : (wanted : Bool) (g : Sequences) (own : ℕ → List Block) → AreOwn g own → (n rank : ℕ)
-    → texts wanted g rank n (flat_map own (range_with_len rank n)) ≡ flat_map (λ s. sequence_text wanted g s (own s)) (range_with_len rank n)
+pub texts-are : (wanted : Bool) (g : Sequences) (own : ℕ → List Block) → AreOwn g own → (n seq : ℕ)
+    → texts wanted g seq n (flat_map own (range_with_len seq n)) ≡ flat_map (λ s. sequence_text wanted g s (own s)) (range_with_len seq n)
 unfolding texts
-texts-are wanted g own are zero rank = refl
-texts-are wanted g own are (suc n) rank =
-    let test : Block → Bool = starts_until rank (sequence_length g rank) in
-    let rest : List Block = flat_map own (range_with_len (rank + 1) n) in
-    let all : (b : Block) → Mem b (own rank) → test b ≡ true = λ b m.
-    let at = are rank b m in
-    let same : (b.sequence == rank) ≡ true = eq-eqb b.sequence rank at.0 in
-    or_right _ _ (and_from _ _ same (le-leb b.start (sequence_length g rank) at.1)) in
-    let else : BeginsElse test rest = begins-else test rest (later g own are (rank + 1) n rank (omega arith)) in
-    ap₂ (λ (l m : List Block). sequence_text wanted g rank l ++ texts wanted g (rank + 1) n m) (take-all test (own rank) rest all else) (drop-all test (own rank) rest all else)
-    ∙ ap (λ (l : List ℕ). sequence_text wanted g rank (own rank) ++ l) (texts-are wanted g own are n (rank + 1))
+texts-are wanted g own are zero seq = refl
+texts-are wanted g own are (suc n) seq =
+    let test : Block → Bool = starts_until seq (sequence_length g seq) in
+    let rest : List Block = flat_map own (range_with_len (seq + 1) n) in
+    let all : (b : Block) → Mem b (own seq) → test b ≡ true = λ b m.
+    let at = are seq b m in
+    let same : (b.sequence == seq) ≡ true = eq-eqb b.sequence seq at.0 in
+    or_right _ _ (and_from _ _ same (le-leb b.start (sequence_length g seq) at.1)) in
+    let else : BeginsElse test rest = begins-else test rest (later g own are (seq + 1) n seq (omega arith)) in
+    ap₂ (λ (l m : List Block). sequence_text wanted g seq l ++ texts wanted g (seq + 1) n m) (take-all test (own seq) rest all else) (drop-all test (own seq) rest all else)
+    ∙ ap (λ (l : List ℕ). sequence_text wanted g seq (own seq) ++ l) (texts-are wanted g own are n (seq + 1))
 
 -- the rows of the next sequence, and those of the others
-pub texts-next : (wanted : Bool) (g : Sequences) (rank length : ℕ) (name : List ℕ) (blocks after : List Block) → rank < seq_count g
-    → name ≡ sequence_name g rank → length ≡ sequence_length g rank → after ≡ drop_while (starts_until rank length) blocks
-    → texts wanted g rank (seq_count g - rank) blocks
-    ≡ flat_map (gap_row name) (gaps_between wanted 0 length (take_while (starts_until rank length) blocks)) ++ texts wanted g (rank + 1) (seq_count g - (rank + 1)) after
+pub texts-next : (wanted : Bool) (g : Sequences) (seq length : ℕ) (name : List ℕ) (blocks after : List Block) → seq < seq_count g
+    → name ≡ sequence_name g seq → length ≡ sequence_length g seq → after ≡ drop_while (starts_until seq length) blocks
+    → texts wanted g seq (seq_count g - seq) blocks
+    ≡ flat_map (gap_row name) (gaps_between wanted 0 length (take_while (starts_until seq length) blocks)) ++ texts wanted g (seq + 1) (seq_count g - (seq + 1)) after
 unfolding texts
-texts-next wanted g rank length name blocks after low named long past =
-    let e : seq_count g - rank ≡ suc (seq_count g - (rank + 1)) = omega arith in
+texts-next wanted g seq length name blocks after low named long past =
+    let e : seq_count g - seq ≡ suc (seq_count g - (seq + 1)) = omega arith in
     rw (past, named, long, e) refl
 
-pub texts-none : (wanted : Bool) (g : Sequences) (rank : ℕ) (blocks : List Block) → seq_count g ≤ rank → texts wanted g rank (seq_count g - rank) blocks ≡ []
+pub texts-none : (wanted : Bool) (g : Sequences) (seq : ℕ) (blocks : List Block) → seq_count g ≤ seq → texts wanted g seq (seq_count g - seq) blocks ≡ []
 unfolding texts
-texts-none wanted g rank blocks high = let e : seq_count g - rank ≡ zero = omega arith in rw e refl
+texts-none wanted g seq blocks high = let e : seq_count g - seq ≡ zero = omega arith in rw e refl
 
 -- ---- values at positions
 
@@ -123,7 +123,7 @@ depth-counts : (records : List RecordValue) (s p : ℕ) → depth records s p �
 depth-counts records s p = sym (length-filter (covers s p) records)
 
 pub in-group : (s : ℕ) (records : List RecordValue) (q : RecordValue) → Mem q records → q.seq ≡ s → Mem q (group false s false records)
-in-group s records q m rank = mem-filter_from (is_in_group false s false) records q m (and_from _ _ (eq-eqb q.seq s rank) refl)
+in-group s records q m seq = mem-filter_from (is_in_group false s false) records q m (and_from _ _ (eq-eqb q.seq s seq) refl)
 
 -- a covered position has a depth
 pub depth-some : (records : List RecordValue) (s p : ℕ) → Covered start_of stop_of 0 (group false s false records) (suc p) → depth records s p ≢ 0

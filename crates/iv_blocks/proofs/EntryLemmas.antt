@@ -16,6 +16,7 @@ use Rattle.std.proofs.lemmas.Map.Entries.{none_below_head}
 use Rattle.std.proofs.lemmas.Map.Keys.{le_from_is_le}
 use Rattle.iv_cover.proofs.Positions.{range-more, values, values-none, values-some}
 use Rattle.iv_lines.proofs.ListLemmas.{Mem, filter-agree, filter-none, filter-all}
+use Rattle.iv_lines.proofs.PrecedesLemmas.{then-is_le}
 use Rattle.iv_track.proofs.EntryIndexLemmas.{le_then, zero_le}
 use Rattle.iv_track.specs.Entries.{IsLedger, value_at}
 use Rattle.iv_track.proofs.NumberOrder.{le-cmp}
@@ -37,11 +38,8 @@ next-cmp p q = go (nat_cmp p q) refl
     go Greater is = let r : q < p = ranked p q Greater is in sym (lt-cmp (p + 1) q (omega arith))
 
 then-tests : (a b c d : Ordering) → is_lt c ≡ is_le d → is_lt (ordering_then (ordering_then a b) c) ≡ is_le (ordering_then (ordering_then a b) d)
-then-tests Less b c d same = refl
-then-tests Equal Less c d same = refl
 then-tests Equal Equal c d same = same
-then-tests Equal Greater c d same = refl
-then-tests Greater b c d same = refl
+then-tests a b c d same = refl
 
 next-key : (s : ℕ) (t : Bool) (p : ℕ) (x : Key) → is_lt (key_cmp (s, t, p) x) ≡ is_le (key_cmp (s, t, p + 1) x)
 next-key s t p x = then-tests (nat_cmp s x.0) (bool_cmp t x.1) (nat_cmp p x.2) (nat_cmp (p + 1) x.2) (next-cmp p x.2)
@@ -59,14 +57,14 @@ next-side s p x none = go (nat_cmp s x.0) refl x.1 refl
         let same : s ≡ x.0 = ranked s x.0 Equal is in
         false_from_ne_true _ (λ e. none (sym same) side (le_from_is_le p x.2 e))
 
--- and if none is on the other side, it is on the next sequence
-next-rank : (s p : ℕ) (x : Key) → (x.0 ≡ s → x.1 ≡ true → p ≤ x.2 → ⊥) → is_le (key_cmp (s, true, p) x) ≡ is_le (key_cmp (s + 1, false, 0) x)
-next-rank s p x none = go (nat_cmp s x.0) refl x.1 refl
-  where
-    first_le : (t : Bool) → is_le (bool_cmp false t) ≡ true
-    first_le true = refl
-    first_le false = refl
+first_le : (t : Bool) → is_le (bool_cmp false t) ≡ true
+first_le true = refl
+first_le false = refl
 
+-- and if none is on the other side, it is on the next sequence
+next-seq : (s p : ℕ) (x : Key) → (x.0 ≡ s → x.1 ≡ true → p ≤ x.2 → ⊥) → is_le (key_cmp (s, true, p) x) ≡ is_le (key_cmp (s + 1, false, 0) x)
+next-seq s p x none = go (nat_cmp s x.0) refl x.1 refl
+  where
     below : x.0 < s + 1 → is_le (key_cmp (s + 1, false, 0) x) ≡ false
     below low = let after : Greater ≡ nat_cmp (s + 1) x.0 = nat_cmp_is (s + 1) x.0 Greater low in rw (← after) refl
 
@@ -87,13 +85,9 @@ next-rank s p x none = go (nat_cmp s x.0) refl x.1 refl
 abbrev pub from : Key → Entries → Entries
 from k entries = filter (λ e. is_le (key_cmp k e.0)) entries
 
-pub from-first : (entries : Entries) → from (0, false, 0) entries ≡ entries
+from-first : (entries : Entries) → from (0, false, 0) entries ≡ entries
 from-first entries = filter-all (λ e. is_le (key_cmp (0, false, 0) e.0)) entries (λ e m.
     le_then _ (nat_cmp 0 e.0.2) (le_then (nat_cmp 0 e.0.0) (bool_cmp false e.0.1) (zero_le e.0.0) (first_le e.0.1)) (zero_le e.0.2))
-  where
-    first_le : (t : Bool) → is_le (bool_cmp false t) ≡ true
-    first_le true = refl
-    first_le false = refl
 
 -- an entry is found
 pub entry-found : (entries : Entries) (e : Key × Kept) → Mem e entries → value_at key_cmp entries e.0 ≡ None → ⊥
@@ -187,19 +181,19 @@ module _ (look : Key → Option Kept) (long : ℕ → ℕ) (entries : Entries) (
 
   -- no entry is past the end of a side
   pub none-past : (s : ℕ) (t : Bool) (e : Key × Kept) → Mem e entries → e.0.0 ≡ s → e.0.1 ≡ t → long s ≤ e.0.2 → ⊥
-  none-past s t e m rank side high =
-      let key : e.0 ≡ (s, t, e.0.2) = rw (rank, side) refl in
+  none-past s t e m seq side high =
+      let key : e.0 ≡ (s, t, e.0.2) = rw (seq, side) refl in
       entry-found entries e m (found e.0 ∙ ap look key ∙ past s t e.0.2 high)
 
   -- one sequence after another
-  pub rank-all : (s : ℕ) → from (s, false, 0) entries ≡ rank_entries look long s ++ from (s + 1, false, 0) entries
-  rank-all s =
+  pub seq-all : (s : ℕ) → from (s, false, 0) entries ≡ rank_entries look long s ++ from (s + 1, false, 0) entries
+  seq-all s =
       let other : from (s, false, long s) entries ≡ from (s, true, 0) entries
       = filter-agree (λ (e : Key × Kept). is_le (key_cmp (s, false, long s) e.0)) (λ e. is_le (key_cmp (s, true, 0) e.0)) entries
-      (λ e m. next-side s (long s) e.0 (λ rank side high. none-past s false e m rank side high)) in
+      (λ e m. next-side s (long s) e.0 (λ seq side high. none-past s false e m seq side high)) in
       let next : from (s, true, long s) entries ≡ from (s + 1, false, 0) entries
       = filter-agree (λ (e : Key × Kept). is_le (key_cmp (s, true, long s) e.0)) (λ e. is_le (key_cmp (s + 1, false, 0) e.0)) entries
-      (λ e m. next-rank s (long s) e.0 (λ rank side high. none-past s true e m rank side high)) in
+      (λ e m. next-seq s (long s) e.0 (λ seq side high. none-past s true e m seq side high)) in
       walked-on s false (long s)
       ∙ ap (λ (l : Entries). side_entries look s false (long s) ++ l)
       (other ∙ walked-on s true (long s) ∙ ap (λ (l : Entries). side_entries look s true (long s) ++ l) next)
@@ -212,7 +206,7 @@ module _ (look : Key → Option Kept) (long : ℕ → ℕ) (entries : Entries) (
       = ap (flat_map (rank_entries look long)) (range-more n) ∙ flat_map-append (rank_entries look long) (range_with_len 0 n) (n ∷ [])
       ∙ ap (λ (l : Entries). all_entries look long n ++ l) (append-nil (rank_entries look long n)) in
       ranks-all n
-      ∙ ap (λ (l : Entries). all_entries look long n ++ l) (rank-all n)
+      ∙ ap (λ (l : Entries). all_entries look long n ++ l) (seq-all n)
       ∙ sym (append_assoc (all_entries look long n) (rank_entries look long n) (from (n + 1, false, 0) entries))
       ∙ ap (λ (l : Entries). l ++ from (n + 1, false, 0) entries) (sym more)
       ∙ ap (λ m. all_entries look long (suc n) ++ from (m, false, 0) entries) (add-one n)
@@ -221,13 +215,8 @@ module _ (look : Key → Option Kept) (long : ℕ → ℕ) (entries : Entries) (
   pub entries-all : (n : ℕ) → ((s : ℕ) (t : Bool) (p : ℕ) → n ≤ s → look (s, t, p) ≡ None) → entries ≡ all_entries look long n
   entries-all n none =
       let empty : from (n, false, 0) entries ≡ [] = filter-none (λ e. is_le (key_cmp (n, false, 0) e.0)) entries
-      (λ e m. false_from_ne_true _ (λ at. entry-found entries e m (found e.0 ∙ none e.0.0 e.0.1 e.0.2 (rank-from n e.0 at)))) in
+      (λ e m. false_from_ne_true _ (λ at. entry-found entries e m (found e.0 ∙ none e.0.0 e.0.1 e.0.2 (seq-from n e.0 at)))) in
       ranks-all n ∙ ap (λ (l : Entries). all_entries look long n ++ l) empty ∙ append-nil (all_entries look long n)
     where
-      then-first : (a b : Ordering) → is_le (ordering_then a b) ≡ true → is_le a ≡ true
-      then-first Less b e = refl
-      then-first Equal b e = refl
-      then-first Greater b e = e
-
-      rank-from : (n : ℕ) (x : Key) → is_le (key_cmp (n, false, 0) x) ≡ true → n ≤ x.0
-      rank-from n x e = le_from_is_le n x.0 (then-first (nat_cmp n x.0) _ (then-first _ (nat_cmp 0 x.2) e))
+      seq-from : (n : ℕ) (x : Key) → is_le (key_cmp (n, false, 0) x) ≡ true → n ≤ x.0
+      seq-from n x e = le_from_is_le n x.0 (then-is_le (nat_cmp n x.0) _ (then-is_le _ (nat_cmp 0 x.2) e))

@@ -4,6 +4,7 @@ use Rattle.std.specs.List.{flat_map}
 use Rattle.std.proofs.lemmas.Bool.{and_from, and_left, and_right, cases_Bool, cases_lt, cases_eq, cond-true, cond-false, false_from_ne_true, both_ways, ne_eqb}
 use Rattle.std.proofs.lemmas.List.Concat.{flat_map-append}
 use Rattle.std.proofs.lemmas.List.Elements.{filter-append}
+use Rattle.std.proofs.lemmas.Option.{none-some}
 use Rattle.iv_lines.specs.Genome.{Sequences, sequence_length}
 use Rattle.iv_lines.specs.Named.{names_of}
 use Rattle.iv_lines.specs.Read.{Fits}
@@ -26,7 +27,6 @@ use Rattle.iv_blocks.specs.KeptBlocks.{Kept, Entries, AreBlocksOf, name_of}
 use Rattle.iv_blocks.specs.RegionRows.{shares, gaps_in}
 use Rattle.iv_blocks.proofs.ComplementLemmas.{depth-some, depth-none, in-group, within}
 use Rattle.iv_blocks.proofs.GapLemmas.{runs-gap}
-use Rattle.iv_blocks.proofs.JoinLemmas.{none-some}
 use Rattle.iv_blocks.proofs.KeptLemmas.{group-in}
 use Rattle.iv_blocks.proofs.RegionLemmas.{lasting, block-is, starts-low}
 use Rattle.iv_blocks.proofs.RepairLemmas.{none-shown_is}

@@ -1,5 +1,5 @@
 -- The blocks of all groups after a repair of one.
-use Rattle.std.proofs.Common.{◌≡◌, ◌⊎◌, inl, inr, ℕ, ◌+◌, ◌-◌, ◌*◌, ◌<◌, ◌≤◌, Bool, true, false, if◌then◌else◌, ◌==◌, ◌&&◌, List, [], ◌∷◌, ◌++◌, length, filter, All, Option, Some, None, Result, Ok, Err, OnOk, refl, sym, ap, subst, ◌∙◌, arith, eq-eqb, eqb-true, le-leb, lt-ltb}
+use Rattle.std.proofs.Common.{◌≡◌, ◌⊎◌, inl, inr, ℕ, ◌+◌, ◌-◌, ◌*◌, ◌<◌, ◌≤◌, Bool, true, false, if◌then◌else◌, ◌==◌, ◌&&◌, List, [], ◌∷◌, ◌++◌, length, filter, All, Option, Some, None, refl, sym, ap, subst, ◌∙◌, arith, eq-eqb, eqb-true, le-leb, lt-ltb}
 use Rattle.std.specs.Option.{option_map, option_or}
 use Rattle.std.specs.Ordering.{is_le}
 use Rattle.std.proofs.lemmas.Bool.{cond-true, cond-false, cases_Bool, cases_lt, and_parts, and_from, both_ways, false_from_ne_true, false≢true}
@@ -108,36 +108,31 @@ right-beside : (o : BlockOptions) (names : List (List ℕ)) (less records : List
 right-beside o names less records r more beside k =
     kept-beside o names less records r k more (false_from_ne_true _ (λ e. both_ways _ (beside k.1) (and_parts (r.seq == k.0) (is_on_side o.stranded k.1 r) e).1))
 
--- what follows from two clauses about a success
-pub on-both : {T E : Type 0} (result : Result T E) (P Q R : Type 0) → (P → Q → R) → OnOk result P → OnOk result Q → OnOk result R
-on-both (Ok x) P Q R f p q = f p q
-on-both (Err e) P Q R f p q = p
-
 -- r is of the group g, rows have it, and less are the others
 pub record IsEdit (o : BlockOptions) (g : Group) (r : RecordValue) (less records : List RecordValue) : Type 0 where
   pub more : HasOneMore less r records
   pub apart : is_apart g.side ≡ o.stranded
-  pub in_group : is_in_group o.stranded g.rank (is_minus g.side) r ≡ true
+  pub in_group : is_in_group o.stranded g.seq (is_minus g.side) r ≡ true
   pub lasts : (q : RecordValue) → Mem q records → q.start < q.stop
 
 -- what an edit knows of the record's group, which was found by the options p
-edit-of : (o p : BlockOptions) (g : Group) (r : RecordValue) (less records : List RecordValue) → p ≡ o → (is_apart g.side ≡ p.stranded) × (is_in_group p.stranded g.rank (is_minus g.side) r ≡ true)
+edit-of : (o p : BlockOptions) (g : Group) (r : RecordValue) (less records : List RecordValue) → p ≡ o → (is_apart g.side ≡ p.stranded) × (is_in_group p.stranded g.seq (is_minus g.side) r ≡ true)
     → HasOneMore less r records → ((q : RecordValue) → Mem q records → q.start < q.stop) → IsEdit o g r less records
 edit-of o p g r less records same known more lasts =
     let stranded : p.stranded ≡ o.stranded = ap (λ (x : BlockOptions). x.stranded) same in
     record {
       more = more;
       apart = known.0 ∙ stranded;
-      in_group = ap (λ (s : Bool). is_in_group s g.rank (is_minus g.side) r) (sym stranded) ∙ known.1;
+      in_group = ap (λ (s : Bool). is_in_group s g.seq (is_minus g.side) r) (sym stranded) ∙ known.1;
       lasts = lasts;
     }
 
-pub edit-added : (o p : BlockOptions) (g : Group) (r : RecordValue) (less records : List RecordValue) (genome : Sequences) (width : ℕ) → p ≡ o → (is_apart g.side ≡ p.stranded) × (is_in_group p.stranded g.rank (is_minus g.side) r ≡ true)
+pub edit-added : (o p : BlockOptions) (g : Group) (r : RecordValue) (less records : List RecordValue) (genome : Sequences) (width : ℕ) → p ≡ o → (is_apart g.side ≡ p.stranded) × (is_in_group p.stranded g.seq (is_minus g.side) r ≡ true)
     → records ≡ added less r → All (Fits genome width) records → IsEdit o g r less records
 edit-added o p g r less records genome width same known rows_are fit =
     edit-of o p g r less records same known (subst (λ (l : List RecordValue). HasOneMore less r l) (sym rows_are) (added-more less r)) (fits-last genome width records fit)
 
-pub edit-removed : (o p : BlockOptions) (g : Group) (r : RecordValue) (records : List RecordValue) (genome : Sequences) (width : ℕ) → p ≡ o → (is_apart g.side ≡ p.stranded) × (is_in_group p.stranded g.rank (is_minus g.side) r ≡ true)
+pub edit-removed : (o p : BlockOptions) (g : Group) (r : RecordValue) (records : List RecordValue) (genome : Sequences) (width : ℕ) → p ≡ o → (is_apart g.side ≡ p.stranded) × (is_in_group p.stranded g.seq (is_minus g.side) r ≡ true)
     → All (Fits genome width) records → Fits genome width r → IsEdit o g r records (added records r)
 edit-removed o p g r records genome width same known fit fits =
     let more = added-more records r in
@@ -161,40 +156,40 @@ beside-removed o p names records r entries same beside right = record {
 }
 
 module _ (o : BlockOptions) (names : List (List ℕ)) (g : Group) (r : RecordValue) (less records : List RecordValue) (edit : IsEdit o g r less records) where
-  parts : (r.seq == g.rank ≡ true) × (is_on_side o.stranded (is_minus g.side) r ≡ true)
-  parts = and_parts (r.seq == g.rank) (is_on_side o.stranded (is_minus g.side) r) edit.in_group
+  parts : (r.seq == g.seq ≡ true) × (is_on_side o.stranded (is_minus g.side) r ≡ true)
+  parts = and_parts (r.seq == g.seq) (is_on_side o.stranded (is_minus g.side) r) edit.in_group
 
-  rank-is : r.seq ≡ g.rank
-  rank-is = eqb-true r.seq g.rank parts.0
+  seq-is : r.seq ≡ g.seq
+  seq-is = eqb-true r.seq g.seq parts.0
 
   abbrev G : List RecordValue
-  G = group o.stranded g.rank (is_minus g.side) less
+  G = group o.stranded g.seq (is_minus g.side) less
 
   abbrev H : List RecordValue
-  H = group o.stranded g.rank (is_minus g.side) records
+  H = group o.stranded g.seq (is_minus g.side) records
 
   more_g : HasOneMore G r H
-  more_g = one_more-filter (is_in_group o.stranded g.rank (is_minus g.side)) less records r edit.more edit.in_group
+  more_g = one_more-filter (is_in_group o.stranded g.seq (is_minus g.side)) less records r edit.more edit.in_group
 
   lasting : Lasting start_of stop_of o.distance H
-  lasting q m = edit.lasts q (mem-filter (is_in_group o.stranded g.rank (is_minus g.side)) records q m).0
+  lasting q m = edit.lasts q (mem-filter (is_in_group o.stranded g.seq (is_minus g.side)) records q m).0
 
   -- other groups stay as they are
   kept-other : (k : Key) → IsOfOther g k → kept_at o names records k ≡ kept_at o names less k
   kept-other k other = kept-beside o names less records r k edit.more (false_from_ne_true _ (λ e.
       let both = and_parts (r.seq == k.0) (is_on_side o.stranded k.1 r) e in
       elim other [
-        | inl ne ↦ ne (sym (eqb-true r.seq k.0 both.0) ∙ rank-is)
+        | inl ne ↦ ne (sym (eqb-true r.seq k.0 both.0) ∙ seq-is)
         | inr ne ↦ ne (one_side o.stranded r k.1 (is_minus g.side) both.1 parts.1)
       ]))
 
   -- how many records there are around r
-  around-is : (low to : ℕ) → IsBlock start_of stop_of o.distance H low to → low ≤ r.start → r.start < to → around o records r ≡ length (between_on g.rank low to records)
+  around-is : (low to : ℕ) → IsBlock start_of stop_of o.distance H low to → low ≤ r.start → r.start < to → around o records r ≡ length (between_on g.seq low to records)
   around-is low to block above below =
       pick (is_minus g.side) refl
-      ∙ ap (λ (n : ℕ). within_block o.distance (group o.stranded n (is_minus g.side) records) records r) rank-is
-      ∙ home-count o.distance (name_of names g.rank) (listed o.summaries) G H r more_g lasting low to records block above below
-      ∙ ap (λ (n : ℕ). length (between_on n low to records)) rank-is
+      ∙ ap (λ (n : ℕ). within_block o.distance (group o.stranded n (is_minus g.side) records) records r) seq-is
+      ∙ home-count o.distance (name_of names g.seq) (listed o.summaries) G H r more_g lasting low to records block above below
+      ∙ ap (λ (n : ℕ). length (between_on n low to records)) seq-is
     where
       W : Bool → ℕ
       W minus = within_block o.distance (group o.stranded r.seq minus records) records r
@@ -208,38 +203,38 @@ module _ (o : BlockOptions) (names : List (List ℕ)) (g : Group) (r : RecordVal
           let off : is_on_side o.stranded false r ≡ false = false_from_ne_true _ (λ t. false≢true (one_side o.stranded r false true t on)) in
           cond-false _ _ _ off ∙ cond-true _ _ _ on ∙ ap W (sym e)
 
-  own-fewer : (low to : ℕ) → length (filter (starts_in start_of stop_of o.distance low to) H) ≤ length (between_on g.rank low to records)
+  own-fewer : (low to : ℕ) → length (filter (starts_in start_of stop_of o.distance low to) H) ≤ length (between_on g.seq low to records)
   own-fewer low to =
-      let fewer = filter-weaker (λ q. is_in_group o.stranded g.rank (is_minus g.side) q && starts_between low to q) (λ q. (q.seq == g.rank) && starts_between low to q) records (λ q m e.
-      let both = and_parts (is_in_group o.stranded g.rank (is_minus g.side) q) (starts_between low to q) e in
-      and_from _ _ (and_parts (q.seq == g.rank) (is_on_side o.stranded (is_minus g.side) q) both.0).0 both.1) in
-      omega (arith, fewer, ap length (filter-filter (starts_in start_of stop_of o.distance low to) (is_in_group o.stranded g.rank (is_minus g.side)) records))
+      let fewer = filter-weaker (λ q. is_in_group o.stranded g.seq (is_minus g.side) q && starts_between low to q) (λ q. (q.seq == g.seq) && starts_between low to q) records (λ q m e.
+      let both = and_parts (is_in_group o.stranded g.seq (is_minus g.side) q) (starts_between low to q) e in
+      and_from _ _ (and_parts (q.seq == g.seq) (is_on_side o.stranded (is_minus g.side) q) both.0).0 both.1) in
+      omega (arith, fewer, ap length (filter-filter (starts_in start_of stop_of o.distance low to) (is_in_group o.stranded g.seq (is_minus g.side)) records))
 
   -- ---- r is added
   module _ (old mid next : KeptBlocks) (joined : ℕ × ℕ) (to : ℕ) (right : AreBlocksOf o names less old.entries)
       (before : JoinsBefore o.distance (kept_in old.entries g) (kept_in mid.entries g) r.start r.stop joined)
       (after : JoinsAfter o.distance (kept_in mid.entries g) (kept_in next.entries g) r.start joined.1 to) where
-    state : IsBegun o.distance (name_of names g.rank) (listed o.summaries) G H r more_g lasting joined.0 joined.1 (kept_in mid.entries g)
-    state = begun o.distance (name_of names g.rank) (listed o.summaries) G H r more_g lasting (kept_in old.entries g) (λ x. right.blocks (key_of g x)) (kept_in mid.entries g) joined before
+    state : IsBegun o.distance (name_of names g.seq) (listed o.summaries) G H r more_g lasting joined.0 joined.1 (kept_in mid.entries g)
+    state = begun o.distance (name_of names g.seq) (listed o.summaries) G H r more_g lasting (kept_in old.entries g) (λ x. right.blocks (key_of g x)) (kept_in mid.entries g) joined before
 
     block : IsBlock start_of stop_of o.distance H joined.0 to
-    block = added-block o.distance (name_of names g.rank) (listed o.summaries) G H r more_g lasting joined.0 joined.1 to (kept_in mid.entries g) (kept_in next.entries g) state after
+    block = added-block o.distance (name_of names g.seq) (listed o.summaries) G H r more_g lasting joined.0 joined.1 to (kept_in mid.entries g) (kept_in next.entries g) state after
 
     above : joined.0 ≤ r.start
-    above = added-above o.distance (name_of names g.rank) (listed o.summaries) G H r more_g lasting joined.0 joined.1 to (kept_in mid.entries g) (kept_in next.entries g) state after
+    above = added-above o.distance (name_of names g.seq) (listed o.summaries) G H r more_g lasting joined.0 joined.1 to (kept_in mid.entries g) (kept_in next.entries g) state after
 
     below : r.start < to
-    below = added-below o.distance (name_of names g.rank) (listed o.summaries) G H r more_g lasting joined.0 joined.1 to (kept_in mid.entries g) (kept_in next.entries g) state after
+    below = added-below o.distance (name_of names g.seq) (listed o.summaries) G H r more_g lasting joined.0 joined.1 to (kept_in mid.entries g) (kept_in next.entries g) state after
 
-    added-steps : (count_from (kept_in mid.entries g) r.start (to + o.distance + 1 - r.start) ≤ around o records r) × (length (between_on g.rank joined.0 to records) ≤ around o records r)
+    added-steps : (count_from (kept_in mid.entries g) r.start (to + o.distance + 1 - r.start) ≤ around o records r) × (length (between_on g.seq joined.0 to records) ≤ around o records r)
     added-steps =
         let all = around-is joined.0 to block above below in
-        let few = added-count o.distance (name_of names g.rank) (listed o.summaries) G H r more_g lasting joined.0 joined.1 to (kept_in mid.entries g) (kept_in next.entries g) state after in
+        let few = added-count o.distance (name_of names g.seq) (listed o.summaries) G H r more_g lasting joined.0 joined.1 to (kept_in mid.entries g) (kept_in next.entries g) state after in
         (omega (arith, all, few, own-fewer joined.0 to), omega (arith, all))
 
     pub added-takes : (start d m0 m1 m2 m3 : ℕ) → start ≡ r.start → d ≡ o.distance → TakesUpTo m0 m1 2
         → TakesUpTo m1 m2 (1 + 2 * count_from (kept_in mid.entries g) start (to + d + 1 - start))
-        → TakesUpTo m2 m3 (3 + length (between_on g.rank joined.0 to records)) → TakesUpTo m0 m3 (block_steps o records r)
+        → TakesUpTo m2 m3 (3 + length (between_on g.seq joined.0 to records)) → TakesUpTo m0 m3 (block_steps o records r)
     added-takes start d m0 m1 m2 m3 at distance first second third =
         let few = added-steps in
         let same : count_from (kept_in mid.entries g) start (to + d + 1 - start) ≡ count_from (kept_in mid.entries g) r.start (to + o.distance + 1 - r.start) =
@@ -260,24 +255,24 @@ module _ (o : BlockOptions) (names : List (List ℕ)) (g : Group) (r : RecordVal
     }
       where
         value : Kept
-        value = kept_block (sequence_name genome g.rank) (listed next.options.summaries) (to, members_between g joined.0 to records)
+        value = kept_block (sequence_name genome g.seq) (listed next.options.summaries) (to, members_between g joined.0 to records)
 
-        value-is : value ≡ kept_block (name_of names g.rank) (listed o.summaries) (to, filter (starts_in start_of stop_of o.distance joined.0 to) H)
+        value-is : value ≡ kept_block (name_of names g.seq) (listed o.summaries) (to, filter (starts_in start_of stop_of o.distance joined.0 to) H)
         value-is =
-            ap (λ (n : List ℕ). kept_block n (listed next.options.summaries) (to, members_between g joined.0 to records)) (sym (name-same genome g.rank) ∙ ap (λ (l : List (List ℕ)). name_of l g.rank) (sym of_genome))
-            ∙ ap (λ (p : BlockOptions). kept_block (name_of names g.rank) (listed p.summaries) (to, members_between g joined.0 to records)) (second.options ∙ options)
-            ∙ ap (λ (s : Bool). kept_block (name_of names g.rank) (listed o.summaries) (to, filter (λ q. is_in_group s g.rank (is_minus g.side) q && starts_between joined.0 to q) records)) edit.apart
-            ∙ ap (λ (l : List RecordValue). kept_block (name_of names g.rank) (listed o.summaries) (to, l)) (sym (filter-filter (starts_between joined.0 to) (is_in_group o.stranded g.rank (is_minus g.side)) records))
+            ap (λ (n : List ℕ). kept_block n (listed next.options.summaries) (to, members_between g joined.0 to records)) (sym (name-same genome g.seq) ∙ ap (λ (l : List (List ℕ)). name_of l g.seq) (sym of_genome))
+            ∙ ap (λ (p : BlockOptions). kept_block (name_of names g.seq) (listed p.summaries) (to, members_between g joined.0 to records)) (second.options ∙ options)
+            ∙ ap (λ (s : Bool). kept_block (name_of names g.seq) (listed o.summaries) (to, filter (λ q. is_in_group s g.seq (is_minus g.side) q && starts_between joined.0 to q) records)) edit.apart
+            ∙ ap (λ (l : List RecordValue). kept_block (name_of names g.seq) (listed o.summaries) (to, l)) (sym (filter-filter (starts_between joined.0 to) (is_in_group o.stranded g.seq (is_minus g.side)) records))
 
         here : (x : ℕ) → kept_in new.entries g x ≡ kept_at o names records (key_of g x)
-        here x = added-right o.distance (name_of names g.rank) (listed o.summaries) G H r more_g lasting joined.0 joined.1 to (kept_in mid.entries g) (kept_in next.entries g) state after (kept_in new.entries g)
+        here x = added-right o.distance (name_of names g.seq) (listed o.summaries) G H r more_g lasting joined.0 joined.1 to (kept_in mid.entries g) (kept_in next.entries g) state after (kept_in new.entries g)
             (λ y. ap (λ (b : KeptBlocks). kept_in b.entries g y) put ∙ look-put next.entries g joined.0 value y
             ∙ ap (λ (v : Kept). if y == joined.0 then Some v else kept_in next.entries g y) value-is) x
 
   -- ---- r is taken away
   module _ (old : KeptBlocks) (right : AreBlocksOf o names records old.entries) where
     pub removed-found : ((x : ℕ) → x ≤ r.start → kept_in old.entries g x ≡ None) → ⊥
-    removed-found none = found-some o.distance (name_of names g.rank) (listed o.summaries) G H r more_g lasting (kept_in old.entries g) (λ x. right.blocks (key_of g x)) none
+    removed-found none = found-some o.distance (name_of names g.seq) (listed o.summaries) G H r more_g lasting (kept_in old.entries g) (λ x. right.blocks (key_of g x)) none
 
     -- nothing is changed if another record from its start on reaches as far, and nothing is kept of a block's records
     pub removed-covered : (start stop : ℕ) → start ≡ r.start → stop ≡ r.stop → StaysCovered o g less start stop → AreBlocksOf o names less old.entries
@@ -295,35 +290,35 @@ module _ (o : BlockOptions) (names : List (List ℕ)) (g : Group) (r : RecordVal
         here : Mem q G
         here =
             let m : Mem q (members_between g start stop less) = subst (λ (l : List RecordValue). Mem q l) (sym stays.members) (inl refl) in
-            let is = mem-filter (λ p. is_in_group (is_apart g.side) g.rank (is_minus g.side) p && starts_between start stop p) less q m in
-            let both = and_parts (is_in_group (is_apart g.side) g.rank (is_minus g.side) q) (starts_between start stop q) is.1 in
-            mem-filter_from (is_in_group o.stranded g.rank (is_minus g.side)) less q is.0 (ap (λ (s : Bool). is_in_group s g.rank (is_minus g.side) q) (sym edit.apart) ∙ both.0)
+            let is = mem-filter (λ p. is_in_group (is_apart g.side) g.seq (is_minus g.side) p && starts_between start stop p) less q m in
+            let both = and_parts (is_in_group (is_apart g.side) g.seq (is_minus g.side) q) (starts_between start stop q) is.1 in
+            mem-filter_from (is_in_group o.stranded g.seq (is_minus g.side)) less q is.0 (ap (λ (s : Bool). is_in_group s g.seq (is_minus g.side) q) (sym edit.apart) ∙ both.0)
 
         same : (x : ℕ) → kept_at o names records (key_of g x) ≡ kept_at o names less (key_of g x)
-        same x = shown-less o.distance (name_of names g.rank) (listed o.summaries) G H r more_g lasting q here (stays.starts ∙ at_start) (omega (arith, stays.reaches, at_stop))
-            (λ s a b. subst (λ (l : List ColumnSummary). kept_block (name_of names g.rank) l (s, a) ≡ kept_block (name_of names g.rank) l (s, b)) (sym stays.plain) refl) x
+        same x = shown-less o.distance (name_of names g.seq) (listed o.summaries) G H r more_g lasting q here (stays.starts ∙ at_start) (omega (arith, stays.reaches, at_stop))
+            (λ s a b. subst (λ (l : List ColumnSummary). kept_block (name_of names g.seq) l (s, a) ≡ kept_block (name_of names g.seq) l (s, b)) (sym stays.plain) refl) x
 
     module _ (b : ℕ × ℕ) (last : IsLastBlock (kept_in old.entries g) r.start b) where
       block_is : IsBlock start_of stop_of o.distance H b.0 b.1
-      block_is = found-block o.distance (name_of names g.rank) (listed o.summaries) G H r more_g lasting (kept_in old.entries g) (λ x. right.blocks (key_of g x)) b last
+      block_is = found-block o.distance (name_of names g.seq) (listed o.summaries) G H r more_g lasting (kept_in old.entries g) (λ x. right.blocks (key_of g x)) b last
 
       ends : r.stop ≤ b.1
-      ends = found-ends o.distance (name_of names g.rank) (listed o.summaries) G H r more_g lasting (kept_in old.entries g) (λ x. right.blocks (key_of g x)) b last
+      ends = found-ends o.distance (name_of names g.seq) (listed o.summaries) G H r more_g lasting (kept_in old.entries g) (λ x. right.blocks (key_of g x)) b last
 
       -- the other records of the block stop in it
       pub removed-stops : All (λ q. q.stop ≤ b.1) (members_between g b.0 b.1 less)
       removed-stops = mem-all (λ q. q.stop ≤ b.1) _ (λ q m.
-          let is = mem-filter (λ q. is_in_group (is_apart g.side) g.rank (is_minus g.side) q && starts_between b.0 b.1 q) less q m in
-          let both = and_parts (is_in_group (is_apart g.side) g.rank (is_minus g.side) q) (starts_between b.0 b.1 q) is.1 in
-          let here = mem-filter_from (is_in_group o.stranded g.rank (is_minus g.side)) records q (edit.more.old q is.0) (ap (λ (s : Bool). is_in_group s g.rank (is_minus g.side) q) (sym edit.apart) ∙ both.0) in
+          let is = mem-filter (λ q. is_in_group (is_apart g.side) g.seq (is_minus g.side) q && starts_between b.0 b.1 q) less q m in
+          let both = and_parts (is_in_group (is_apart g.side) g.seq (is_minus g.side) q) (starts_between b.0 b.1 q) is.1 in
+          let here = mem-filter_from (is_in_group o.stranded g.seq (is_minus g.side)) records q (edit.more.old q is.0) (ap (λ (s : Bool). is_in_group s g.seq (is_minus g.side) q) (sym edit.apart) ∙ both.0) in
           let range = starts_in-true start_of stop_of o.distance b.0 b.1 q both.1 in
           stops_within start_of stop_of o.distance H b.0 b.1 block_is q here (omega (arith, range.1)))
 
       member-of : (q : RecordValue) → Mem q G → b.0 ≤ q.start → q.start < b.1 → Mem q (members_between g b.0 b.1 less)
       member-of q m above below =
-          let both = mem-filter (is_in_group o.stranded g.rank (is_minus g.side)) less q m in
-          mem-filter_from (λ p. is_in_group (is_apart g.side) g.rank (is_minus g.side) p && starts_between b.0 b.1 p) less q both.0
-          (and_from _ _ (ap (λ (s : Bool). is_in_group s g.rank (is_minus g.side) q) edit.apart ∙ both.1) (between-from b.0 b.1 q above below))
+          let both = mem-filter (is_in_group o.stranded g.seq (is_minus g.side)) less q m in
+          mem-filter_from (λ p. is_in_group (is_apart g.side) g.seq (is_minus g.side) p && starts_between b.0 b.1 p) less q both.0
+          (and_from _ _ (ap (λ (s : Bool). is_in_group s g.seq (is_minus g.side) q) edit.apart ∙ both.1) (between-from b.0 b.1 q above below))
 
       -- one of them starts where the block does, unless r does, and they reach each position of it, unless r does
       pub removed-others : (start stop : ℕ) → start ≡ r.start → stop ≡ r.stop → AreOthers o.distance b (start, stop) (members_between g b.0 b.1 less)
@@ -364,34 +359,34 @@ module _ (o : BlockOptions) (names : List (List ℕ)) (g : Group) (r : RecordVal
               omega (arith, long, stops)
 
       -- those that start within r are some of those that start within its block
-      own-within : length (between_on g.rank r.start r.stop less) ≤ length (between_on g.rank b.0 b.1 less)
+      own-within : length (between_on g.seq r.start r.stop less) ≤ length (between_on g.seq b.0 b.1 less)
       own-within =
           let long = lasting r more_g.added in
           omega (
             arith,
-            count-within g.rank r.start r.stop b.1 less (omega (arith, long)) ends,
-            count-parts g.rank b.0 r.start b.1 less last.within (omega (arith, long, ends)),
+            count-within g.seq r.start r.stop b.1 less (omega (arith, long)) ends,
+            count-parts g.seq b.0 r.start b.1 less last.within (omega (arith, long, ends)),
           )
 
       pub covered-takes : (start stop m0 m1 m2 : ℕ) → start ≡ r.start → stop ≡ r.stop → records ≡ added less r → TakesUpTo m0 m1 1
-          → TakesUpTo m1 m2 (2 + length (between_on g.rank start stop less)) → TakesUpTo m0 m2 (block_steps o records r)
+          → TakesUpTo m1 m2 (2 + length (between_on g.seq start stop less)) → TakesUpTo m0 m2 (block_steps o records r)
       covered-takes start stop m0 m1 m2 at_start at_stop rows_are first second =
           let all = around-is b.0 b.1 block_is last.within (omega (arith, ends, lasting r more_g.added)) in
-          let fewer = added-fewer (λ q. (q.seq == g.rank) && starts_between b.0 b.1 q) less r in
-          let same = ap (λ (l : List RecordValue). length (between_on g.rank b.0 b.1 l)) rows_are in
-          let here : length (between_on g.rank start stop less) ≡ length (between_on g.rank r.start r.stop less) =
-          ap (λ (n : ℕ). length (between_on g.rank n stop less)) at_start ∙ ap (λ (n : ℕ). length (between_on g.rank r.start n less)) at_stop in
+          let fewer = added-fewer (λ q. (q.seq == g.seq) && starts_between b.0 b.1 q) less r in
+          let same = ap (λ (l : List RecordValue). length (between_on g.seq b.0 b.1 l)) rows_are in
+          let here : length (between_on g.seq start stop less) ≡ length (between_on g.seq r.start r.stop less) =
+          ap (λ (n : ℕ). length (between_on g.seq n stop less)) at_start ∙ ap (λ (n : ℕ). length (between_on g.seq r.start n less)) at_stop in
           record { no_less = omega (arith, first, second); at_most = omega (arith, first, second, all, fewer, same, here, own-within) }
 
       pub removed-takes : (start stop m0 m1 m2 m3 m4 : ℕ) → start ≡ r.start → stop ≡ r.stop → records ≡ added less r → TakesUpTo m0 m1 1
-          → TakesUpTo m1 m2 (2 + length (between_on g.rank start stop less)) → TakesUpTo m2 m3 1
-          → TakesUpTo m3 m4 (2 + 5 * length (between_on g.rank b.0 b.1 less)) → TakesUpTo m0 m4 (block_steps o records r)
+          → TakesUpTo m1 m2 (2 + length (between_on g.seq start stop less)) → TakesUpTo m2 m3 1
+          → TakesUpTo m3 m4 (2 + 5 * length (between_on g.seq b.0 b.1 less)) → TakesUpTo m0 m4 (block_steps o records r)
       removed-takes start stop m0 m1 m2 m3 m4 at_start at_stop rows_are zeroth look second third =
           let all = around-is b.0 b.1 block_is last.within (omega (arith, ends, lasting r more_g.added)) in
-          let fewer = added-fewer (λ q. (q.seq == g.rank) && starts_between b.0 b.1 q) less r in
-          let same = ap (λ (l : List RecordValue). length (between_on g.rank b.0 b.1 l)) rows_are in
-          let here : length (between_on g.rank start stop less) ≡ length (between_on g.rank r.start r.stop less) =
-          ap (λ (n : ℕ). length (between_on g.rank n stop less)) at_start ∙ ap (λ (n : ℕ). length (between_on g.rank r.start n less)) at_stop in
+          let fewer = added-fewer (λ q. (q.seq == g.seq) && starts_between b.0 b.1 q) less r in
+          let same = ap (λ (l : List RecordValue). length (between_on g.seq b.0 b.1 l)) rows_are in
+          let here : length (between_on g.seq start stop less) ≡ length (between_on g.seq r.start r.stop less) =
+          ap (λ (n : ℕ). length (between_on g.seq n stop less)) at_start ∙ ap (λ (n : ℕ). length (between_on g.seq r.start n less)) at_stop in
           record { no_less = omega (arith, zeroth, look, second, third); at_most = omega (arith, zeroth, look, second, third, all, fewer, same, here, own-within) }
 
       pub removed-all : (new : KeptBlocks) → old.options ≡ o → AreInserted g names (between b.0 b.1 less) (without_block old g b.0) new → AreBlocksOf o names less new.entries
@@ -404,10 +399,10 @@ module _ (o : BlockOptions) (names : List (List ℕ)) (g : Group) (r : RecordVal
       }
         where
           here : (x : ℕ) → kept_in new.entries g x ≡ kept_at o names less (key_of g x)
-          here x = removed-right o.distance (name_of names g.rank) (listed o.summaries) G H r more_g lasting (kept_in old.entries g) (λ x. right.blocks (key_of g x)) b
+          here x = removed-right o.distance (name_of names g.seq) (listed o.summaries) G H r more_g lasting (kept_in old.entries g) (λ x. right.blocks (key_of g x)) b
               (kept_in (without_block old g b.0).entries g) (kept_in new.entries g) last
               (λ y. without-here old.entries g b.0 right.ordered y)
               (λ y. put.here y
               ∙ ap (λ (p : BlockOptions). option_or (kept_at p names (between b.0 b.1 less) (key_of g y)) (kept_in (without_block old g b.0).entries g y)) options
-              ∙ ap (λ (l : List RecordValue). option_or (shown o.distance (name_of names g.rank) (listed o.summaries) l y) (kept_in (without_block old g b.0).entries g y))
-              (filter-swap (is_in_group o.stranded g.rank (is_minus g.side)) (starts_between b.0 b.1) less)) x
+              ∙ ap (λ (l : List RecordValue). option_or (shown o.distance (name_of names g.seq) (listed o.summaries) l y) (kept_in (without_block old g b.0).entries g y))
+              (filter-swap (is_in_group o.stranded g.seq (is_minus g.side)) (starts_between b.0 b.1) less)) x

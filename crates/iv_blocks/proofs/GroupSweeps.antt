@@ -30,83 +30,83 @@ use Rattle.iv_blocks.proofs.MembersLemmas.{between-true, between-from, in_group-
 
 -- a member of a range is a record of the track, in the group and in the range
 pub member-in : (g : Group) (from to : ℕ) (records : List RecordValue) (q : RecordValue) → Mem q (members_between g from to records)
-    → Mem q records × (q.seq ≡ g.rank) × (from ≤ q.start) × (q.start < to)
+    → Mem q records × (q.seq ≡ g.seq) × (from ≤ q.start) × (q.start < to)
 member-in g from to records q m =
-    let both = mem-filter (λ r. is_in_group (is_apart g.side) g.rank (is_minus g.side) r && starts_between from to r) records q m in
-    let tests = and_parts (is_in_group (is_apart g.side) g.rank (is_minus g.side) q) (starts_between from to q) both.1 in
+    let both = mem-filter (λ r. is_in_group (is_apart g.side) g.seq (is_minus g.side) r && starts_between from to r) records q m in
+    let tests = and_parts (is_in_group (is_apart g.side) g.seq (is_minus g.side) q) (starts_between from to q) both.1 in
     let range = between-true from to q tests.1 in
     (both.0, in_group-on g q tests.0, range.0, range.1)
 
 -- the members of a range within another
 pub members-narrow : (g : Group) (from to x s : ℕ) (records : List RecordValue) → from ≤ x → s ≤ to → filter (starts_between x s) (members_between g from to records) ≡ members_between g x s records
 members-narrow g from to x s records above within =
-    filter-filter (starts_between x s) (λ r. is_in_group (is_apart g.side) g.rank (is_minus g.side) r && starts_between from to r) records
+    filter-filter (starts_between x s) (λ r. is_in_group (is_apart g.side) g.seq (is_minus g.side) r && starts_between from to r) records
     ∙ filter-agree _ _ records (λ q m. same_tests _ _
     (λ e.
-    let both = and_parts (is_in_group (is_apart g.side) g.rank (is_minus g.side) q && starts_between from to q) (starts_between x s q) e in
-    and_from _ _ (and_parts (is_in_group (is_apart g.side) g.rank (is_minus g.side) q) (starts_between from to q) both.0).0 both.1)
+    let both = and_parts (is_in_group (is_apart g.side) g.seq (is_minus g.side) q && starts_between from to q) (starts_between x s q) e in
+    and_from _ _ (and_parts (is_in_group (is_apart g.side) g.seq (is_minus g.side) q) (starts_between from to q) both.0).0 both.1)
     (λ e.
-    let both = and_parts (is_in_group (is_apart g.side) g.rank (is_minus g.side) q) (starts_between x s q) e in
+    let both = and_parts (is_in_group (is_apart g.side) g.seq (is_minus g.side) q) (starts_between x s q) e in
     let range = between-true x s q both.1 in
     and_from _ _ (and_from _ _ both.0 (between-from from to q (omega (arith, range.0)) (omega (arith, range.1)))) both.1))
 
 -- the group's records of a range
-pub members-group : (g : Group) (from to : ℕ) (records : List RecordValue) → group (is_apart g.side) g.rank (is_minus g.side) (between from to records) ≡ members_between g from to records
+pub members-group : (g : Group) (from to : ℕ) (records : List RecordValue) → group (is_apart g.side) g.seq (is_minus g.side) (between from to records) ≡ members_between g from to records
 members-group g from to records =
-    filter-filter (is_in_group (is_apart g.side) g.rank (is_minus g.side)) (starts_between from to) records
+    filter-filter (is_in_group (is_apart g.side) g.seq (is_minus g.side)) (starts_between from to) records
     ∙ filter-agree _ _ records (λ q m. same_tests _ _
-    (λ e. let both = and_parts (starts_between from to q) (is_in_group (is_apart g.side) g.rank (is_minus g.side) q) e in and_from _ _ both.1 both.0)
-    (λ e. let both = and_parts (is_in_group (is_apart g.side) g.rank (is_minus g.side) q) (starts_between from to q) e in and_from _ _ both.1 both.0))
+    (λ e. let both = and_parts (starts_between from to q) (is_in_group (is_apart g.side) g.seq (is_minus g.side) q) e in and_from _ _ both.1 both.0)
+    (λ e. let both = and_parts (is_in_group (is_apart g.side) g.seq (is_minus g.side) q) (starts_between from to q) e in and_from _ _ both.1 both.0))
 
 -- ---- how many there are
 
 -- those of a range are those of its two parts
-pub count-parts : (rank from mid to : ℕ) (records : List RecordValue) → from ≤ mid → mid ≤ to
-    → length (between_on rank from to records) ≡ length (between_on rank from mid records) + length (between_on rank mid to records)
-count-parts rank from mid to [] low high = refl
-count-parts rank from mid to (r ∷ records) low high =
-    let rest = count-parts rank from mid to records low high in
-    let whole : Bool = (r.seq == rank) && starts_between from to r in
-    let first : Bool = (r.seq == rank) && starts_between from mid r in
-    let second : Bool = (r.seq == rank) && starts_between mid to r in
-    elim (cases_Bool (r.seq == rank)) [
+pub count-parts : (seq from mid to : ℕ) (records : List RecordValue) → from ≤ mid → mid ≤ to
+    → length (between_on seq from to records) ≡ length (between_on seq from mid records) + length (between_on seq mid to records)
+count-parts seq from mid to [] low high = refl
+count-parts seq from mid to (r ∷ records) low high =
+    let rest = count-parts seq from mid to records low high in
+    let whole : Bool = (r.seq == seq) && starts_between from to r in
+    let first : Bool = (r.seq == seq) && starts_between from mid r in
+    let second : Bool = (r.seq == seq) && starts_between mid to r in
+    elim (cases_Bool (r.seq == seq)) [
       | inr off ↦ omega (
         arith,
         rest,
-        ap length (cond-false ((r.seq == rank) && starts_between from to r) (r ∷ between_on rank from to records) (between_on rank from to records) (and_left _ _ off)),
-        ap length (cond-false ((r.seq == rank) && starts_between from mid r) (r ∷ between_on rank from mid records) (between_on rank from mid records) (and_left _ _ off)),
-        ap length (cond-false ((r.seq == rank) && starts_between mid to r) (r ∷ between_on rank mid to records) (between_on rank mid to records) (and_left _ _ off)),
+        ap length (cond-false ((r.seq == seq) && starts_between from to r) (r ∷ between_on seq from to records) (between_on seq from to records) (and_left _ _ off)),
+        ap length (cond-false ((r.seq == seq) && starts_between from mid r) (r ∷ between_on seq from mid records) (between_on seq from mid records) (and_left _ _ off)),
+        ap length (cond-false ((r.seq == seq) && starts_between mid to r) (r ∷ between_on seq mid to records) (between_on seq mid to records) (and_left _ _ off)),
       )
       | inl on ↦ elim (cases_lt r.start from) [
         | inl before ↦ omega (
           arith,
           rest,
-          ap length (cond-false ((r.seq == rank) && starts_between from to r) (r ∷ between_on rank from to records) (between_on rank from to records) (and_right _ _ (out from to r (inl before)))),
-          ap length (cond-false ((r.seq == rank) && starts_between from mid r) (r ∷ between_on rank from mid records) (between_on rank from mid records) (and_right _ _ (out from mid r (inl before)))),
-          ap length (cond-false ((r.seq == rank) && starts_between mid to r) (r ∷ between_on rank mid to records) (between_on rank mid to records) (and_right _ _ (out mid to r (inl (omega arith))))),
+          ap length (cond-false ((r.seq == seq) && starts_between from to r) (r ∷ between_on seq from to records) (between_on seq from to records) (and_right _ _ (out from to r (inl before)))),
+          ap length (cond-false ((r.seq == seq) && starts_between from mid r) (r ∷ between_on seq from mid records) (between_on seq from mid records) (and_right _ _ (out from mid r (inl before)))),
+          ap length (cond-false ((r.seq == seq) && starts_between mid to r) (r ∷ between_on seq mid to records) (between_on seq mid to records) (and_right _ _ (out mid to r (inl (omega arith))))),
         )
         | inr after ↦ elim (cases_lt r.start mid) [
           | inl below ↦ omega (
             arith,
             rest,
-            ap length (cond-true ((r.seq == rank) && starts_between from to r) (r ∷ between_on rank from to records) (between_on rank from to records) (and_from _ _ on (between-from from to r after (omega arith)))),
-            ap length (cond-true ((r.seq == rank) && starts_between from mid r) (r ∷ between_on rank from mid records) (between_on rank from mid records) (and_from _ _ on (between-from from mid r after below))),
-            ap length (cond-false ((r.seq == rank) && starts_between mid to r) (r ∷ between_on rank mid to records) (between_on rank mid to records) (and_right _ _ (out mid to r (inl below)))),
+            ap length (cond-true ((r.seq == seq) && starts_between from to r) (r ∷ between_on seq from to records) (between_on seq from to records) (and_from _ _ on (between-from from to r after (omega arith)))),
+            ap length (cond-true ((r.seq == seq) && starts_between from mid r) (r ∷ between_on seq from mid records) (between_on seq from mid records) (and_from _ _ on (between-from from mid r after below))),
+            ap length (cond-false ((r.seq == seq) && starts_between mid to r) (r ∷ between_on seq mid to records) (between_on seq mid to records) (and_right _ _ (out mid to r (inl below)))),
           )
           | inr above ↦ elim (cases_lt r.start to) [
             | inl within ↦ omega (
               arith,
               rest,
-              ap length (cond-true ((r.seq == rank) && starts_between from to r) (r ∷ between_on rank from to records) (between_on rank from to records) (and_from _ _ on (between-from from to r after within))),
-              ap length (cond-false ((r.seq == rank) && starts_between from mid r) (r ∷ between_on rank from mid records) (between_on rank from mid records) (and_right _ _ (out from mid r (inr above)))),
-              ap length (cond-true ((r.seq == rank) && starts_between mid to r) (r ∷ between_on rank mid to records) (between_on rank mid to records) (and_from _ _ on (between-from mid to r above within))),
+              ap length (cond-true ((r.seq == seq) && starts_between from to r) (r ∷ between_on seq from to records) (between_on seq from to records) (and_from _ _ on (between-from from to r after within))),
+              ap length (cond-false ((r.seq == seq) && starts_between from mid r) (r ∷ between_on seq from mid records) (between_on seq from mid records) (and_right _ _ (out from mid r (inr above)))),
+              ap length (cond-true ((r.seq == seq) && starts_between mid to r) (r ∷ between_on seq mid to records) (between_on seq mid to records) (and_from _ _ on (between-from mid to r above within))),
             )
             | inr past ↦ omega (
               arith,
               rest,
-              ap length (cond-false ((r.seq == rank) && starts_between from to r) (r ∷ between_on rank from to records) (between_on rank from to records) (and_right _ _ (out from to r (inr past)))),
-              ap length (cond-false ((r.seq == rank) && starts_between from mid r) (r ∷ between_on rank from mid records) (between_on rank from mid records) (and_right _ _ (out from mid r (inr above)))),
-              ap length (cond-false ((r.seq == rank) && starts_between mid to r) (r ∷ between_on rank mid to records) (between_on rank mid to records) (and_right _ _ (out mid to r (inr past)))),
+              ap length (cond-false ((r.seq == seq) && starts_between from to r) (r ∷ between_on seq from to records) (between_on seq from to records) (and_right _ _ (out from to r (inr past)))),
+              ap length (cond-false ((r.seq == seq) && starts_between from mid r) (r ∷ between_on seq from mid records) (between_on seq from mid records) (and_right _ _ (out from mid r (inr above)))),
+              ap length (cond-false ((r.seq == seq) && starts_between mid to r) (r ∷ between_on seq mid to records) (between_on seq mid to records) (and_right _ _ (out mid to r (inr past)))),
             )
           ]
         ]
@@ -117,13 +117,13 @@ count-parts rank from mid to (r ∷ records) low high =
     out from to q (inl before) = false_from_ne_true _ (λ e. let range = between-true from to q e in omega arith)
     out from to q (inr past) = false_from_ne_true _ (λ e. let range = between-true from to q e in omega arith)
 
-pub count-within : (rank from to end : ℕ) (records : List RecordValue) → from ≤ to → to ≤ end → length (between_on rank from to records) ≤ length (between_on rank from end records)
-count-within rank from to end records low high = omega (arith, count-parts rank from to end records low high)
+pub count-within : (seq from to end : ℕ) (records : List RecordValue) → from ≤ to → to ≤ end → length (between_on seq from to records) ≤ length (between_on seq from end records)
+count-within seq from to end records low high = omega (arith, count-parts seq from to end records low high)
 
 -- a range that some record opens has one at least
-pub count-some : (rank from to : ℕ) (records : List RecordValue) (q : RecordValue) → Mem q records → q.seq ≡ rank → from ≤ q.start → q.start < to → 1 ≤ length (between_on rank from to records)
-count-some rank from to records q m at above below =
-    some (between_on rank from to records) (mem-filter_from (λ r. (r.seq == rank) && starts_between from to r) records q m (and_from _ _ (eq-eqb _ _ at) (between-from from to q above below)))
+pub count-some : (seq from to : ℕ) (records : List RecordValue) (q : RecordValue) → Mem q records → q.seq ≡ seq → from ≤ q.start → q.start < to → 1 ≤ length (between_on seq from to records)
+count-some seq from to records q m at above below =
+    some (between_on seq from to records) (mem-filter_from (λ r. (r.seq == seq) && starts_between from to r) records q m (and_from _ _ (eq-eqb _ _ at) (between-from from to q above below)))
   where
     some : (xs : List RecordValue) → Mem q xs → 1 ≤ length xs
     some [] m = absurd m
@@ -143,7 +143,7 @@ look g entries x = value_at key_cmp entries (key_of g x)
 module _ (o : KeptBlocks) (genome : Sequences) (records : List RecordValue) (g : Group) (from to : ℕ) where
   -- a block of the group, as it is kept
   abbrev pub kept : ℕ × List RecordValue → Kept
-  kept = kept_block (sequence_name genome g.rank) (listed o.options.summaries)
+  kept = kept_block (sequence_name genome g.seq) (listed o.options.summaries)
 
   -- the open block starts and stops here: those before it are inserted, and these members are left
   pub record IsSweeping (now : KeptBlocks) (start stop : ℕ) (left : List RecordValue) : Type 0 where
@@ -238,7 +238,7 @@ module _ (o : KeptBlocks) (genome : Sequences) (records : List RecordValue) (g :
     step now next start stop left s past is x =
         ap (λ (b : KeptBlocks). look g b.entries x) is
         ∙ look-put now.entries g start _ x
-        ∙ ap₂ (λ (options : BlockOptions) (l : List RecordValue). if x == start then Some (kept_block (sequence_name genome g.rank) (listed options.summaries) (stop, l)) else look g now.entries x)
+        ∙ ap₂ (λ (options : BlockOptions) (l : List RecordValue). if x == start then Some (kept_block (sequence_name genome g.seq) (listed options.summaries) (stop, l)) else look g now.entries x)
         s.options (sym (own now start stop left s past))
 
     step_others : (now next : KeptBlocks) (start stop : ℕ) (left : List RecordValue) → IsSweeping now start stop left → next ≡ with_block now genome records g start stop
@@ -272,8 +272,8 @@ module _ (o : KeptBlocks) (genome : Sequences) (records : List RecordValue) (g :
         → shown start_of stop_of o.options.distance kept (members_between g from to records) x ≡ kept_at o.options (names_of genome) (between from to records) (key_of g x)
     shown-kept apart x =
         ap₂ (λ (name : List ℕ) (l : List RecordValue). option_map (kept_block name (listed o.options.summaries)) (block_at start_of stop_of o.options.distance l x))
-        (sym (name-same genome g.rank))
-        (sym (members-group g from to records) ∙ ap (λ (b : Bool). group b g.rank (is_minus g.side) (between from to records)) apart)
+        (sym (name-same genome g.seq))
+        (sym (members-group g from to records) ∙ ap (λ (b : Bool). group b g.seq (is_minus g.side) (between from to records)) apart)
 
     -- after the last member the open block is inserted, and all are
     pub sweep-all : (now next : KeptBlocks) (start stop : ℕ) → IsSweeping now start stop [] → is_apart g.side ≡ o.options.stranded → next ≡ with_block now genome records g start stop
@@ -305,15 +305,15 @@ module _ (o : KeptBlocks) (genome : Sequences) (records : List RecordValue) (g :
 
     -- a block is inserted in so many steps, which its records pay for
     pub sweep-pays : (now : KeptBlocks) (start stop : ℕ) (left : List RecordValue) → IsSweeping now start stop left
-        → 4 * length (between_on g.rank from start records) + (3 + length (between_on g.rank start stop records)) ≤ 4 * length (between_on g.rank from stop records)
+        → 4 * length (between_on g.seq from start records) + (3 + length (between_on g.seq start stop records)) ≤ 4 * length (between_on g.seq from stop records)
     sweep-pays now start stop left s =
         let first = s.put.last.block.starts in
         let is = member-in g from to records first.0 (subst (λ (l : List RecordValue). Mem first.0 l) (sym s.all) (mem-left s.passed left first.0 first.1)) in
         let long : start < stop = s.put.last.block.long in
         omega (
           arith,
-          count-parts g.rank from start stop records s.above (omega arith),
-          count-some g.rank start stop records first.0 is.0 is.1 (omega (arith, first.2)) (omega (arith, first.2)),
+          count-parts g.seq from start stop records s.above (omega arith),
+          count-some g.seq start stop records first.0 is.0 is.1 (omega (arith, first.2)) (omega (arith, first.2)),
         )
 
 -- what a sweep knows of a track's records

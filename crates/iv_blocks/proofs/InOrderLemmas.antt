@@ -16,6 +16,7 @@ use Rattle.iv_track.specs.Entries.{IsLedger, value_at}
 use Rattle.iv_blocks.specs.KeptBlocks.{Key, Kept, Entries, key_cmp}
 use Rattle.iv_blocks.proofs.EntryLemmas.{side_entries, rank_entries, all_entries}
 use Rattle.iv_blocks.proofs.Keys.{keys_total, keys_exact}
+use Rattle.iv_blocks.proofs.JoinLemmas.{or-none}
 
 -- each key passes
 abbrev pub AllKeys : (Key → Type 0) → Entries → Type 0
@@ -47,10 +48,6 @@ ordered-append (e ∷ a) b first second apart = (
   ordered-append a b first.1 second apart.1,
 )
 
-one-ordered : (e : Key × Kept) → IsLedger key_cmp (e ∷ [])
-unfolding IsStrictlySortedBy
-one-ordered e = (tt, tt)
-
 found-append : (test : Key → Bool) (a b : Entries) → lookup test (a ++ b) ≡ option_or (lookup test a) (lookup test b)
 found-append test [] b = refl
 found-append test (e ∷ a) b = go (found-append test a b) (test e.0) refl
@@ -63,10 +60,6 @@ found-append test (e ∷ a) b = go (found-append test a b) (test e.0) refl
 found-none : (test : Key → Bool) (a : Entries) → AllKeys (λ k. test k ≡ false) a → lookup test a ≡ None
 found-none test [] all = refl
 found-none test (e ∷ a) all = rw all.0 (found-none test a all.1)
-
-or-none : (o : Option Kept) → option_or o None ≡ o
-or-none None = refl
-or-none (Some v) = refl
 
 at-same : (k l : Key) → is_at (key_cmp k) l ≡ true → k ≡ l
 at-same k l at = go (key_cmp k l) refl at
@@ -82,8 +75,8 @@ absent P a k all not = found-none (is_at (key_cmp k)) a
     (all-weaker P (λ l. is_at (key_cmp k) l ≡ false) a (λ l p. false_from_ne_true _ (λ at. not (subst P (sym (at-same k l at)) p))) all)
 
 here-less : (k l : Key) → k.0 ≡ l.0 → k.1 ≡ l.1 → k.2 < l.2 → key_cmp k l ≡ Less
-here-less k l rank side less =
-    let a : Equal ≡ nat_cmp k.0 l.0 = nat_cmp_is k.0 l.0 Equal rank in
+here-less k l seq side less =
+    let a : Equal ≡ nat_cmp k.0 l.0 = nat_cmp_is k.0 l.0 Equal seq in
     let c : Less ≡ nat_cmp k.2 l.2 = nat_cmp_is k.2 l.2 Less less in
     rw (← a, ← c) (go k.1 l.1 side)
   where
@@ -94,12 +87,12 @@ here-less k l rank side less =
     go false true e = cc
 
 side-less : (k l : Key) → k.0 ≡ l.0 → k.1 ≡ false → l.1 ≡ true → key_cmp k l ≡ Less
-side-less k l rank first other =
-    let a : Equal ≡ nat_cmp k.0 l.0 = nat_cmp_is k.0 l.0 Equal rank in
+side-less k l seq first other =
+    let a : Equal ≡ nat_cmp k.0 l.0 = nat_cmp_is k.0 l.0 Equal seq in
     rw (← a, first, other) refl
 
-rank-less : (k l : Key) → k.0 < l.0 → key_cmp k l ≡ Less
-rank-less k l less = let a : Less ≡ nat_cmp k.0 l.0 = nat_cmp_is k.0 l.0 Less less in rw (← a) refl
+seq-less : (k l : Key) → k.0 < l.0 → key_cmp k l ≡ Less
+seq-less k l less = let a : Less ≡ nat_cmp k.0 l.0 = nat_cmp_is k.0 l.0 Less less in rw (← a) refl
 
 -- on one side of a sequence, below a position
 abbrev pub IsOn : ℕ → Bool → ℕ → Key → Type 0
@@ -171,24 +164,24 @@ module _ (look : Key → Option Kept) (long : ℕ → ℕ) where
             ∙ ap (λ (m : ℕ). value_at key_cmp (last s t n) (s, t, m)) same ∙ last-found s t n ∙ ap (λ (m : ℕ). look (s, t, m)) (sym same)
       ]
 
-  rank-keys : (s : ℕ) → AllKeys (IsOf s) (rank_entries look long s)
-  rank-keys s = all-append (IsOf s) (side_entries look s false (long s)) (side_entries look s true (long s))
+  seq-keys : (s : ℕ) → AllKeys (IsOf s) (rank_entries look long s)
+  seq-keys s = all-append (IsOf s) (side_entries look s false (long s)) (side_entries look s true (long s))
       (all-weaker (IsOn s false (long s)) (IsOf s) (side_entries look s false (long s)) (λ k on. (on.0, omega (arith, on.2, ap long on.0))) (side-keys s false (long s)))
       (all-weaker (IsOn s true (long s)) (IsOf s) (side_entries look s true (long s)) (λ k on. (on.0, omega (arith, on.2, ap long on.0))) (side-keys s true (long s)))
 
-  rank-ordered : (s : ℕ) → IsLedger key_cmp (rank_entries look long s)
-  rank-ordered s = ordered-append (side_entries look s false (long s)) (side_entries look s true (long s)) (side-ordered s false (long s)) (side-ordered s true (long s))
+  seq-ordered : (s : ℕ) → IsLedger key_cmp (rank_entries look long s)
+  seq-ordered s = ordered-append (side_entries look s false (long s)) (side_entries look s true (long s)) (side-ordered s false (long s)) (side-ordered s true (long s))
       (all-weaker (IsOn s false (long s)) (λ k. AllKeys (λ l. key_cmp k l ≡ Less) (side_entries look s true (long s))) (side_entries look s false (long s))
       (λ k on. all-weaker (IsOn s true (long s)) (λ l. key_cmp k l ≡ Less) (side_entries look s true (long s)) (λ l other. side-less k l (on.0 ∙ sym other.0) on.1 other.1) (side-keys s true (long s)))
       (side-keys s false (long s)))
 
-  rank-found : (s : ℕ) (t : Bool) (p : ℕ) → p < long s → value_at key_cmp (rank_entries look long s) (s, t, p) ≡ look (s, t, p)
-  rank-found s false p below =
+  seq-found : (s : ℕ) (t : Bool) (p : ℕ) → p < long s → value_at key_cmp (rank_entries look long s) (s, t, p) ≡ look (s, t, p)
+  seq-found s false p below =
       found-append (is_at (key_cmp (s, false, p))) (side_entries look s false (long s)) (side_entries look s true (long s))
       ∙ ap (option_or (value_at key_cmp (side_entries look s false (long s)) (s, false, p)))
       (absent (IsOn s true (long s)) (side_entries look s true (long s)) (s, false, p) (side-keys s true (long s)) (λ on. let never : false ≡ true = on.1 in cc))
       ∙ or-none (value_at key_cmp (side_entries look s false (long s)) (s, false, p)) ∙ side-found s false (long s) p below
-  rank-found s true p below =
+  seq-found s true p below =
       found-append (is_at (key_cmp (s, true, p))) (side_entries look s false (long s)) (side_entries look s true (long s))
       ∙ ap (λ o. option_or o (value_at key_cmp (side_entries look s true (long s)) (s, true, p)))
       (absent (IsOn s false (long s)) (side_entries look s false (long s)) (s, true, p) (side-keys s false (long s)) (λ on. let never : true ≡ false = on.1 in cc))
@@ -204,16 +197,16 @@ module _ (look : Key → Option Kept) (long : ℕ → ℕ) where
   all-keys (suc n) = subst (AllKeys (IsIn (suc n))) (sym (all-more n))
       (all-append (IsIn (suc n)) (all_entries look long n) (rank_entries look long n)
       (all-weaker (IsIn n) (IsIn (suc n)) (all_entries look long n) (λ k low. (omega (arith, low.0), low.1)) (all-keys n))
-      (all-weaker (IsOf n) (IsIn (suc n)) (rank_entries look long n) (λ k of. (omega (arith, of.0), of.1)) (rank-keys n)))
+      (all-weaker (IsOf n) (IsIn (suc n)) (rank_entries look long n) (λ k of. (omega (arith, of.0), of.1)) (seq-keys n)))
 
   -- they are in order
   pub all-ordered : (n : ℕ) → IsLedger key_cmp (all_entries look long n)
   unfolding IsStrictlySortedBy
   all-ordered zero = tt
   all-ordered (suc n) = subst (IsLedger key_cmp) (sym (all-more n))
-      (ordered-append (all_entries look long n) (rank_entries look long n) (all-ordered n) (rank-ordered n)
+      (ordered-append (all_entries look long n) (rank_entries look long n) (all-ordered n) (seq-ordered n)
       (all-weaker (IsIn n) (λ k. AllKeys (λ l. key_cmp k l ≡ Less) (rank_entries look long n)) (all_entries look long n)
-      (λ k low. all-weaker (IsOf n) (λ l. key_cmp k l ≡ Less) (rank_entries look long n) (λ l of. rank-less k l (omega (arith, low.0, of.0))) (rank-keys n))
+      (λ k low. all-weaker (IsOf n) (λ l. key_cmp k l ≡ Less) (rank_entries look long n) (λ l of. seq-less k l (omega (arith, low.0, of.0))) (seq-keys n))
       (all-keys n)))
 
   all-found : (n : ℕ) (k : Key) → k.0 < n → k.2 < long k.0 → value_at key_cmp (all_entries look long n) k ≡ look k
@@ -224,7 +217,7 @@ module _ (look : Key → Option Kept) (long : ℕ → ℕ) where
       ∙ elim (cases_lt k.0 n) [
         | inl within ↦
             ap (option_or (value_at key_cmp (all_entries look long n) k))
-            (absent (IsOf n) (rank_entries look long n) k (rank-keys n) (λ of. absurd (omega (arith, of.0))))
+            (absent (IsOf n) (rank_entries look long n) k (seq-keys n) (λ of. absurd (omega (arith, of.0))))
             ∙ or-none (value_at key_cmp (all_entries look long n) k) ∙ all-found n k within below
         | inr past ↦
             let same : k.0 ≡ n = omega arith in
@@ -232,7 +225,7 @@ module _ (look : Key → Option Kept) (long : ℕ → ℕ) where
             let here : k.2 < long n = omega (arith, ap long same) in
             ap (λ o. option_or o (value_at key_cmp (rank_entries look long n) k))
             (absent (IsIn n) (all_entries look long n) k (all-keys n) (λ inside. absurd (omega (arith, inside.0))))
-            ∙ ap (value_at key_cmp (rank_entries look long n)) key ∙ rank-found n k.1 k.2 here ∙ ap look (sym key)
+            ∙ ap (value_at key_cmp (rank_entries look long n)) key ∙ seq-found n k.1 k.2 here ∙ ap look (sym key)
       ]
 
   -- and what is found among them is what is looked up, if that is nothing past the ends

@@ -1,18 +1,18 @@
 -- How an interval is joined with the blocks that it reaches, over plain functions.
 use Rattle.std.proofs.Common.{◌≡◌, ◌⊎◌, inl, inr, ℕ, zero, suc, ◌+◌, ◌-◌, ◌<◌, ◌≤◌, max, true, if◌then◌else◌, ◌==◌, List, length, filter, Option, Some, None, refl, sym, ap, ◌∙◌, arith, eq-eqb, ne_eqb}
-use Rattle.std.specs.Option.{is_some}
+use Rattle.std.specs.Option.{is_some, option_or}
 use Rattle.std.proofs.lemmas.Bool.{cond-true, cond-false, cases_lt, cases_eq, false_from_ne_true}
+use Rattle.std.proofs.lemmas.Option.{none-some, same_Some}
 use Rattle.iv_lines.proofs.ListLemmas.{Mem, filter-weaker, filter-weaker_more}
 use Rattle.iv_cover.proofs.Cover.{starts_in, starts_in-true, starts_in-from}
 use Rattle.iv_blocks.specs.KeptBlocks.{Kept}
 use Rattle.iv_blocks.specs.Inside.Lookups.{IsFirstBlock}
 use Rattle.iv_blocks.specs.Inside.Repairs.{JoinsAfter, count_from}
 
-pub none-some : (b : Kept) → ◌≡◌ {A = Option Kept} None (Some b) → ⊥
-none-some b e = cc
-
-pub some-same : (a b : Kept) → Some a ≡ Some b → a ≡ b
-some-same a b e = cc
+-- what follows nothing doesn't count
+pub or-none : {A : Type 0} (o : Option A) → option_or o None ≡ o
+or-none None = refl
+or-none (Some a) = refl
 
 -- ---- how many blocks there are
 
@@ -118,7 +118,7 @@ module _ (d : ℕ) (old now : ℕ → Option Kept) (from first high taken : ℕ)
           | inl early ↦ omega (arith, state.within x v from_x early e)
           | inr later ↦ elim (cases_eq x b.0) [
             | inl at ↦
-                let same : block ≡ v = some-same block v (sym is ∙ ap old (sym at) ∙ e) in
+                let same : block ≡ v = same_Some block v (sym is ∙ ap old (sym at) ∙ e) in
                 omega (arith, ap (λ (k : Kept). k.stop) same)
             | inr ne ↦ absurd (none-some v (sym (entry.none x from_x (omega arith)) ∙ state.others x (inr later) ∙ e))
           ]

@@ -1,10 +1,9 @@
 -- The entries that are kept are the definition's blocks, in order.
 use Rattle.std.proofs.Common.{◌≡◌, ℕ, ◌<◌, ◌≤◌, ◌==◌, Bool, true, false, List, [], ◌∷◌, ◌++◌, map, length, filter_map, Option, Some, None, refl, sym, ◌∙◌, ap, arith, append-nil, eqb-true, All}
 use Rattle.std.specs.List.{flat_map, range_with_len, cons_option}
-use Rattle.std.specs.Option.{option_map, unwrap_or}
+use Rattle.std.specs.Option.{option_map}
 use Rattle.std.proofs.lemmas.Bool.{and_parts, and_right}
 use Rattle.std.proofs.lemmas.List.Concat.{flat_map-append}
-use Rattle.std.proofs.lemmas.Option.{slice_get-map}
 use Rattle.iv_lines.specs.Genome.{Sequences, seq_count, sequence_name, sequence_length}
 use Rattle.iv_lines.specs.Named.{names_of}
 use Rattle.iv_lines.specs.Read.{Fits}
@@ -14,13 +13,14 @@ use Rattle.iv_cover.specs.TrackBlocks.{start_of, stop_of}
 use Rattle.iv_cover.proofs.Cover.{no_start-test, block_at-none}
 use Rattle.iv_cover.proofs.WalkLemmas.{blocks-none}
 use Rattle.iv_cover.proofs.Positions.{values-agree}
-use Rattle.iv_lines.proofs.ListLemmas.{Mem, mem-filter, all-mem, filter-none}
+use Rattle.iv_lines.proofs.ListLemmas.{Mem, mem-filter, all-mem, filter-none, option_map-map}
 use Rattle.iv_blocks.specs.Inside.Groups.{is_in_group}
 use Rattle.iv_blocks.specs.Groups.{is_on_side, group, sides, listed}
 use Rattle.iv_blocks.specs.KeptBlocks.{Key, Kept, Entries, AreBlocksOf, kept_at, kept_block, name_of}
 use Rattle.iv_blocks.specs.MergeRows.{side_blocks}
 use Rattle.iv_blocks.specs.declared.options.BlockOptions.{BlockOptions}
 use Rattle.iv_blocks.proofs.EntryLemmas.{side_entries, rank_entries, entries-all}
+use Rattle.iv_blocks.proofs.NameLemmas.{name-same}
 
 -- ---- lists
 
@@ -49,16 +49,9 @@ group-in stranded s t records q m =
 pub group-other : (s : ℕ) (records : List RecordValue) → group false s true records ≡ []
 group-other s records = filter-none (is_in_group false s true) records (λ q m. and_right (q.seq == s) false refl)
 
-pub name_is : (g : Sequences) (rank : ℕ) → name_of (names_of g) rank ≡ sequence_name g rank
-name_is g rank = ap (λ o. unwrap_or o []) (slice_get-map (λ (s : List ℕ × ℕ). s.0) g rank)
-
 -- the entry of a block
 abbrev pub entry_of : BlockOptions → Sequences → ℕ → Bool → ℕ × (ℕ × List RecordValue) → Key × Kept
 entry_of o g s t b = ((s, t, b.0), kept_block (sequence_name g s) (listed o.summaries) b.1)
-
-option_map-map : {A B C : Type 0} (h : B → C) (f : A → B) (o : Option A) → option_map h (option_map f o) ≡ option_map (λ a. h (f a)) o
-option_map-map h f None = refl
-option_map-map h f (Some a) = refl
 
 -- the entries of a side are those of its blocks
 pub side-is : (o : BlockOptions) (g : Sequences) (records : List RecordValue) (s : ℕ) (t : Bool) (n : ℕ)
@@ -68,7 +61,7 @@ side-is o g records s t n =
     values-agree (λ p. option_map (λ v. ((s, t, p), v)) (kept_at o (names_of g) records (s, t, p))) (λ p. option_map (entry_of o g s t) (option_map (λ b. (p, b)) (at p))) n
     (λ p below.
     option_map-map (λ v. ((s, t, p), v)) (kept_block (name_of (names_of g) s) (listed o.summaries)) (at p)
-    ∙ ap (λ name. option_map (λ (b : ℕ × List RecordValue). ((s, t, p), kept_block name (listed o.summaries) b)) (at p)) (name_is g s)
+    ∙ ap (λ name. option_map (λ (b : ℕ × List RecordValue). ((s, t, p), kept_block name (listed o.summaries) b)) (at p)) (name-same g s)
     ∙ sym (option_map-map (entry_of o g s t) (λ b. (p, b)) (at p)))
     ∙ sym (map-filter_map (entry_of o g s t) (λ p. option_map (λ b. (p, b)) (at p)) (range_with_len 0 n))
 
@@ -109,16 +102,16 @@ module _ (o : BlockOptions) (g : Sequences) (width : ℕ) (records : List Record
 
   -- no block starts past the end of its sequence
   pub none-past : (s : ℕ) (t : Bool) (p : ℕ) → sequence_length g s ≤ p → kept_at o (names_of g) records (s, t, p) ≡ None
-  none-past s t p high = no_block s t p (λ q m rank at.
+  none-past s t p high = no_block s t p (λ q m seq at.
       let is_placed = (all-mem (Fits g width) records fit q m).is_placed in
-      let stop : q.stop ≤ sequence_length g s = rw rank at is_placed.within.1 in
+      let stop : q.stop ≤ sequence_length g s = rw seq at is_placed.within.1 in
       omega (arith, is_placed.some, stop, at, high))
 
   -- nor past the last sequence
   pub none-later : (s : ℕ) (t : Bool) (p : ℕ) → seq_count g ≤ s → kept_at o (names_of g) records (s, t, p) ≡ None
-  none-later s t p high = no_block s t p (λ q m rank at.
+  none-later s t p high = no_block s t p (λ q m seq at.
       let low : q.seq < length g = (all-mem (Fits g width) records fit q m).is_placed.within.0 in
-      omega (arith, low, rank, high))
+      omega (arith, low, seq, high))
 
   -- the entries are the definition's blocks, in order
   pub entries-are : (entries : Entries) → AreBlocksOf o (names_of g) records entries

@@ -60,7 +60,7 @@ key-apart g x y ne =
 key-of_other : (g : Group) (k : Key) (x : ℕ) → IsOfOther g k → is_eq (key_cmp k (key_of g x)) ≡ false
 key-of_other g k x other = false_from_ne_true _ (λ e.
     let same : k ≡ key_of g x = keys_exact k (key_of g x) ((Equal-is (key_cmp k (key_of g x))).0 e) in
-    elim other [ inl rank ↦ rank (ap (λ (j : Key). j.0) same) | inr side ↦ side (ap (λ (j : Key). j.1) same) ])
+    elim other [ inl seq ↦ seq (ap (λ (j : Key). j.0) same) | inr side ↦ side (ap (λ (j : Key). j.1) same) ])
 
 -- a block that is inserted, as seen at the positions of its group
 pub look-put : (entries : Entries) (g : Group) (x : ℕ) (v : Kept) (y : ℕ)
@@ -82,13 +82,13 @@ look-put_other entries g x v k other = put-other key_cmp keys_exact entries (key
 
 -- a key is of the group or of another
 pub key-cases : (g : Group) (k : Key) → (k ≡ key_of g k.2) ⊎ IsOfOther g k
-key-cases g k = elim (cases_eq k.0 g.rank) [
-  | inl rank ↦ go k.1 (is_minus g.side) refl refl rank
+key-cases g k = elim (cases_eq k.0 g.seq) [
+  | inl seq ↦ go k.1 (is_minus g.side) refl refl seq
   | inr ne ↦ inr (inl ne)
 ]
   where
-    go : (a b : Bool) → k.1 ≡ a → is_minus g.side ≡ b → k.0 ≡ g.rank → (k ≡ key_of g k.2) ⊎ IsOfOther g k
-    go false false p q rank = let side : k.1 ≡ is_minus g.side = p ∙ sym q in inl (λ i. (rank i, side i, k.2))
-    go true true p q rank = let side : k.1 ≡ is_minus g.side = p ∙ sym q in inl (λ i. (rank i, side i, k.2))
-    go false true p q rank = inr (inr (λ same. cc))
-    go true false p q rank = inr (inr (λ same. cc))
+    go : (a b : Bool) → k.1 ≡ a → is_minus g.side ≡ b → k.0 ≡ g.seq → (k ≡ key_of g k.2) ⊎ IsOfOther g k
+    go false false p q seq = let side : k.1 ≡ is_minus g.side = p ∙ sym q in inl (λ i. (seq i, side i, k.2))
+    go true true p q seq = let side : k.1 ≡ is_minus g.side = p ∙ sym q in inl (λ i. (seq i, side i, k.2))
+    go false true p q seq = inr (inr (λ same. cc))
+    go true false p q seq = inr (inr (λ same. cc))

@@ -1,8 +1,7 @@
 -- A walk over records in order, and the members of a group that are ahead in it.
-use Rattle.std.proofs.Common.{ℕ, ◌+◌, ◌<◌, ◌≤◌, ◌≡◌, ◌⊎◌, inl, inr, Bool, true, false, ◌&&◌, ◌==◌, nat_le, nat_lt, List, [], ◌∷◌, ◌++◌, length, filter, Ordering, Less, Equal, Greater, nat_cmp, refl, sym, ap, subst, ◌∙◌, arith, eq-eqb, eqb-true, le-leb, leb-true, lt-ltb, ltb-true}
+use Rattle.std.proofs.Common.{ℕ, ◌+◌, ◌<◌, ◌≤◌, ◌≡◌, ◌⊎◌, inl, inr, Bool, true, false, ◌&&◌, ◌==◌, nat_le, nat_lt, List, [], ◌∷◌, ◌++◌, length, filter, Ordering, Less, Equal, nat_cmp, refl, sym, ap, subst, ◌∙◌, arith, eq-eqb, eqb-true, le-leb, leb-true, lt-ltb, ltb-true}
 use Rattle.std.specs.Ordering.{is_le, ordering_then}
 use Rattle.std.proofs.lemmas.Bool.{cond-true, cond-false, cases_Bool, and_parts, and_from, and_left, false_from_ne_true}
-use Rattle.std.proofs.lemmas.Cmp.{ranked, by_ranked}
 use Rattle.std.proofs.lemmas.Map.Keys.{le_from_is_le}
 use Rattle.iv_lines.specs.Ordered.{AreInOrder}
 use Rattle.iv_lines.specs.RecordValue.{RecordValue, record_cmp}
@@ -10,7 +9,9 @@ use Rattle.iv_track.specs.Tracked.{is_from}
 use Rattle.iv_track.proofs.NumberOrder.{le-cmp}
 use Rattle.iv_lines.proofs.InOrderLemmas.{all-recursion, recursion-all, in_order-filter}
 use Rattle.iv_lines.proofs.ListLemmas.{Mem, mem-filter, filter-agree, filter-filter, filter-none, same_tests}
-use Rattle.iv_lines.proofs.PrecedesLemmas.{Precedes, precedes-from}
+use Rattle.iv_lines.proofs.PrecedesLemmas.{Precedes, precedes-from, equal-from, less-from, then-le}
+use Rattle.iv_cover.proofs.Groups.{mem-right}
+use Rattle.iv_locators.proofs.OrderLemmas.{nat_tied}
 use Rattle.iv_blocks.specs.Inside.MembersLeft.{MembersLeft, IsAhead}
 use Rattle.iv_blocks.specs.Inside.Groups.{is_in_group, starts_between, between_on, members_between, is_apart, is_minus}
 use Rattle.iv_blocks.specs.Groups.{is_on_side}
@@ -21,39 +22,24 @@ use Rattle.iv_blocks.specs.declared.group.Group.{Group}
 -- each record of the first part is before each of the second
 pub in_order-parts : (xs ys : List RecordValue) → AreInOrder (xs ++ ys) → (q r : RecordValue) → Mem q xs → Mem r ys → Precedes q r
 in_order-parts [] ys h q r m n = absurd m
-in_order-parts (x ∷ xs) ys h q r (inl at) n = subst (λ (k : RecordValue). Precedes k r) at (precedes-from x r (all-recursion (λ y. is_le (record_cmp x y) ≡ true) (xs ++ ys) h.0 r (later xs ys n)))
-  where
-    later : (xs ys : List RecordValue) → Mem r ys → Mem r (xs ++ ys)
-    later [] ys n = n
-    later (x ∷ xs) ys n = inr (later xs ys n)
+in_order-parts (x ∷ xs) ys h q r (inl at) n = subst (λ (k : RecordValue). Precedes k r) at (precedes-from x r (all-recursion (λ y. is_le (record_cmp x y) ≡ true) (xs ++ ys) h.0 r (mem-right xs ys r n)))
 in_order-parts (x ∷ xs) ys h q r (inr m) n = in_order-parts xs ys h.1 q r m n
 
 -- ---- where a walk begins
-
-then-le : (o p : Ordering) → is_le (ordering_then o p) ≡ true → (o ≡ Less) ⊎ ((o ≡ Equal) × (is_le p ≡ true))
-then-le Less p e = inl refl
-then-le Equal p e = inr (refl, e)
-then-le Greater p e = cc
 
 le-then : (o p : Ordering) → (o ≡ Less) ⊎ ((o ≡ Equal) × (is_le p ≡ true)) → is_le (ordering_then o p) ≡ true
 le-then o p (inl e) = rw e refl
 le-then o p (inr e) = rw (e.0, e.1) refl
 
 -- from a position on: on a later sequence, or on this one and no earlier
-pub from-true : (rank from : ℕ) (q : RecordValue) → is_from rank from q ≡ true → (rank < q.seq) ⊎ ((rank ≡ q.seq) × (from ≤ q.start))
-from-true rank from q e = elim (then-le (nat_cmp rank q.seq) (nat_cmp from q.start) e) [
-  | inl less ↦ inl (by_ranked (rank < q.seq) (rank ≡ q.seq) (q.seq < rank) (nat_cmp rank q.seq) (ranked rank q.seq _ refl) (λ _ l. l) (λ f _. cc) (λ f _. cc))
-  | inr equal ↦ inr (
-    by_ranked (rank < q.seq) (rank ≡ q.seq) (q.seq < rank) (nat_cmp rank q.seq) (ranked rank q.seq _ refl) (λ f _. cc) (λ _ l. l) (λ f _. cc),
-    le_from_is_le from q.start equal.1,
-  )
+pub from-true : (seq from : ℕ) (q : RecordValue) → is_from seq from q ≡ true → (seq < q.seq) ⊎ ((seq ≡ q.seq) × (from ≤ q.start))
+from-true seq from q e = elim (then-le (nat_cmp seq q.seq) (nat_cmp from q.start) e) [
+  | inl less ↦ inl (less-from seq q.seq less)
+  | inr equal ↦ inr (equal-from seq q.seq equal.0, le_from_is_le from q.start equal.1)
 ]
 
-equal-from : (a b : ℕ) → a ≡ b → nat_cmp a b ≡ Equal
-equal-from a b same = by_ranked (a < b) (a ≡ b) (b < a) (nat_cmp a b) (ranked a b _ refl) (λ _ l. absurd (omega arith)) (λ e _. e) (λ _ l. absurd (omega arith))
-
-pub from-here : (rank from : ℕ) (q : RecordValue) → rank ≡ q.seq → from ≤ q.start → is_from rank from q ≡ true
-from-here rank from q at after = le-then (nat_cmp rank q.seq) (nat_cmp from q.start) (inr (equal-from rank q.seq at, le-cmp from q.start after))
+pub from-here : (seq from : ℕ) (q : RecordValue) → seq ≡ q.seq → from ≤ q.start → is_from seq from q ≡ true
+from-here seq from q at after = le-then (nat_cmp seq q.seq) (nat_cmp from q.start) (inr (nat_tied seq q.seq at, le-cmp from q.start after))
 
 -- ---- what is between two starts
 
@@ -64,24 +50,24 @@ pub between-from : (from to : ℕ) (q : RecordValue) → from ≤ q.start → q.
 between-from from to q above below = and_from _ _ (le-leb _ _ above) (lt-ltb _ _ below)
 
 -- a test of records on one sequence, from a start on and below another, as a walk from there on sees it
-pub walked : (p : RecordValue → Bool) (rank from to : ℕ) (records : List RecordValue) → ((q : RecordValue) → p q ≡ true → q.seq ≡ rank)
-    → filter (λ q. p q && starts_between 0 to q) (filter (is_from rank from) records) ≡ filter (λ q. p q && starts_between from to q) records
-walked p rank from to records on =
-    filter-filter (λ q. p q && starts_between 0 to q) (is_from rank from) records
+pub walked : (p : RecordValue → Bool) (seq from to : ℕ) (records : List RecordValue) → ((q : RecordValue) → p q ≡ true → q.seq ≡ seq)
+    → filter (λ q. p q && starts_between 0 to q) (filter (is_from seq from) records) ≡ filter (λ q. p q && starts_between from to q) records
+walked p seq from to records on =
+    filter-filter (λ q. p q && starts_between 0 to q) (is_from seq from) records
     ∙ filter-agree _ _ records (λ q m. same_tests _ _
     (λ e.
-    let both = and_parts (is_from rank from q) (p q && starts_between 0 to q) e in
+    let both = and_parts (is_from seq from q) (p q && starts_between 0 to q) e in
     let more = and_parts (p q) (starts_between 0 to q) both.1 in
-    let at : q.seq ≡ rank = on q more.0 in
+    let at : q.seq ≡ seq = on q more.0 in
     let below = between-true 0 to q more.1 in
-    elim (from-true rank from q both.0) [
+    elim (from-true seq from q both.0) [
       | inl later ↦ absurd (omega arith)
       | inr here ↦ and_from _ _ more.0 (between-from from to q here.1 below.1)
     ])
     (λ e.
     let both = and_parts (p q) (starts_between from to q) e in
     let range = between-true from to q both.1 in
-    and_from _ _ (from-here rank from q (sym (on q both.0)) range.0) (and_from _ _ both.0 (between-from 0 to q (omega arith) range.1))))
+    and_from _ _ (from-here seq from q (sym (on q both.0)) range.0) (and_from _ _ both.0 (between-from 0 to q (omega arith) range.1))))
 
 -- in a range without a position there is none
 pub none_between : (p : RecordValue → Bool) (from to : ℕ) (records : List RecordValue) → to ≤ from → filter (λ q. p q && starts_between from to q) records ≡ []
@@ -90,40 +76,40 @@ none_between p from to records empty = filter-none _ records (λ q m. false_from
     let range = between-true from to q both.1 in
     omega arith))
 
-pub in_group-on : (g : Group) (q : RecordValue) → is_in_group (is_apart g.side) g.rank (is_minus g.side) q ≡ true → q.seq ≡ g.rank
-in_group-on g q e = eqb-true _ _ (and_parts (q.seq == g.rank) (is_on_side (is_apart g.side) (is_minus g.side) q) e).0
+pub in_group-on : (g : Group) (q : RecordValue) → is_in_group (is_apart g.side) g.seq (is_minus g.side) q ≡ true → q.seq ≡ g.seq
+in_group-on g q e = eqb-true _ _ (and_parts (q.seq == g.seq) (is_on_side (is_apart g.side) (is_minus g.side) q) e).0
 
-on-rank : (rank : ℕ) (q : RecordValue) → (q.seq == rank) ≡ true → q.seq ≡ rank
-on-rank rank q e = eqb-true _ _ e
+on-seq : (seq : ℕ) (q : RecordValue) → (q.seq == seq) ≡ true → q.seq ≡ seq
+on-seq seq q e = eqb-true _ _ e
 
 -- what is ahead of a walk from a position on
-pub members-walked : (g : Group) (from to : ℕ) (records : List RecordValue) → members_between g 0 to (filter (is_from g.rank from) records) ≡ members_between g from to records
-members-walked g from to records = walked (is_in_group (is_apart g.side) g.rank (is_minus g.side)) g.rank from to records (in_group-on g)
+pub members-walked : (g : Group) (from to : ℕ) (records : List RecordValue) → members_between g 0 to (filter (is_from g.seq from) records) ≡ members_between g from to records
+members-walked g from to records = walked (is_in_group (is_apart g.side) g.seq (is_minus g.side)) g.seq from to records (in_group-on g)
 
-pub records-walked : (rank from to : ℕ) (records : List RecordValue) → between_on rank 0 to (filter (is_from rank from) records) ≡ between_on rank from to records
-records-walked rank from to records = walked (λ q. q.seq == rank) rank from to records (on-rank rank)
+pub records-walked : (seq from to : ℕ) (records : List RecordValue) → between_on seq 0 to (filter (is_from seq from) records) ≡ between_on seq from to records
+records-walked seq from to records = walked (λ q. q.seq == seq) seq from to records (on-seq seq)
 
 -- what a new walk shows: it begins at the range's start, or the range is empty and it ends at once
-pub remaining-walked : (g : Group) (from to begin end : ℕ) (records left : List RecordValue) → left ≡ filter (is_from g.rank begin) records
+pub remaining-walked : (g : Group) (from to begin end : ℕ) (records left : List RecordValue) → left ≡ filter (is_from g.seq begin) records
     → ((begin ≡ from) × (end ≡ to)) ⊎ ((to ≤ from) × (end ≡ 0))
-    → ◌≡◌ {A = MembersLeft} (record { members = members_between g 0 end left; passed_records = length (between_on g.rank 0 end left) })
-    (record { members = members_between g from to records; passed_records = length (between_on g.rank from to records) })
+    → ◌≡◌ {A = MembersLeft} (record { members = members_between g 0 end left; passed_records = length (between_on g.seq 0 end left) })
+    (record { members = members_between g from to records; passed_records = length (between_on g.seq from to records) })
 remaining-walked g from to begin end records left is (inl at) =
     let members : members_between g 0 end left ≡ members_between g from to records = rw (is, at.0, at.1) (members-walked g from to records) in
-    let passed_records : between_on g.rank 0 end left ≡ between_on g.rank from to records = rw (is, at.0, at.1) (records-walked g.rank from to records) in
+    let passed_records : between_on g.seq 0 end left ≡ between_on g.seq from to records = rw (is, at.0, at.1) (records-walked g.seq from to records) in
     λ i. record { members = members i; passed_records = length (passed_records i) }
 remaining-walked g from to begin end records left is (inr empty) =
     let members : members_between g 0 end left ≡ members_between g from to records =
-    rw empty.1 (none_between (is_in_group (is_apart g.side) g.rank (is_minus g.side)) 0 0 left (omega arith)
-    ∙ sym (none_between (is_in_group (is_apart g.side) g.rank (is_minus g.side)) from to records empty.0)) in
-    let passed_records : between_on g.rank 0 end left ≡ between_on g.rank from to records =
-    rw empty.1 (none_between (λ q. q.seq == g.rank) 0 0 left (omega arith) ∙ sym (none_between (λ q. q.seq == g.rank) from to records empty.0)) in
+    rw empty.1 (none_between (is_in_group (is_apart g.side) g.seq (is_minus g.side)) 0 0 left (omega arith)
+    ∙ sym (none_between (is_in_group (is_apart g.side) g.seq (is_minus g.side)) from to records empty.0)) in
+    let passed_records : between_on g.seq 0 end left ≡ between_on g.seq from to records =
+    rw empty.1 (none_between (λ q. q.seq == g.seq) 0 0 left (omega arith) ∙ sym (none_between (λ q. q.seq == g.seq) from to records empty.0)) in
     λ i. record { members = members i; passed_records = length (passed_records i) }
 
-pub ahead-walked : (rank from : ℕ) (records : List RecordValue) → AreInOrder records → IsAhead rank (filter (is_from rank from) records)
-ahead-walked rank from records order = record {
-  ordered = in_order-filter record_cmp (is_from rank from) records order;
-  ranks = recursion-all (λ r. rank ≤ r.seq) _ (λ q m. elim (from-true rank from q (mem-filter (is_from rank from) records q m).1) [
+pub ahead-walked : (seq from : ℕ) (records : List RecordValue) → AreInOrder records → IsAhead seq (filter (is_from seq from) records)
+ahead-walked seq from records order = record {
+  ordered = in_order-filter record_cmp (is_from seq from) records order;
+  ranks = recursion-all (λ r. seq ≤ r.seq) _ (λ q m. elim (from-true seq from q (mem-filter (is_from seq from) records q m).1) [
     | inl later ↦ omega arith
     | inr here ↦ omega (arith, here.0)
   ]);
@@ -131,17 +117,17 @@ ahead-walked rank from records order = record {
 
 -- ---- one more step of a walk
 
-pub ahead-rest : (rank : ℕ) (r : RecordValue) (records : List RecordValue) → IsAhead rank (r ∷ records) → IsAhead rank records
-ahead-rest rank r records h = record { ordered = h.ordered.1; ranks = h.ranks.1 }
+pub ahead-rest : (seq : ℕ) (r : RecordValue) (records : List RecordValue) → IsAhead seq (r ∷ records) → IsAhead seq records
+ahead-rest seq r records h = record { ordered = h.ordered.1; ranks = h.ranks.1 }
 
 -- a record on another sequence, or from the end on, has nothing of the range after it
-pub past-none : (p : RecordValue → Bool) (rank to : ℕ) (r : RecordValue) (records : List RecordValue) → ((q : RecordValue) → p q ≡ true → q.seq ≡ rank) → IsAhead rank (r ∷ records)
-    → (r.seq ≡ rank → ⊥) ⊎ (to ≤ r.start) → filter (λ q. p q && starts_between 0 to q) (r ∷ records) ≡ []
-past-none p rank to r records on h past = filter-none _ (r ∷ records) (λ q m. false_from_ne_true _ (λ e.
+pub past-none : (p : RecordValue → Bool) (seq to : ℕ) (r : RecordValue) (records : List RecordValue) → ((q : RecordValue) → p q ≡ true → q.seq ≡ seq) → IsAhead seq (r ∷ records)
+    → (r.seq ≡ seq → ⊥) ⊎ (to ≤ r.start) → filter (λ q. p q && starts_between 0 to q) (r ∷ records) ≡ []
+past-none p seq to r records on h past = filter-none _ (r ∷ records) (λ q m. false_from_ne_true _ (λ e.
     let both = and_parts (p q) (starts_between 0 to q) e in
     let range = between-true 0 to q both.1 in
-    let at : q.seq ≡ rank = on q both.0 in
-    let first : rank ≤ r.seq = h.ranks.0 in
+    let at : q.seq ≡ seq = on q both.0 in
+    let first : seq ≤ r.seq = h.ranks.0 in
     let before : Precedes r q ⊎ (r ≡ q) = elim m [
       | inl same ↦ inr same
       | inr later ↦ inl (precedes-from r q (all-recursion (λ y. is_le (record_cmp r y) ≡ true) records h.ordered.0 q later))
@@ -157,11 +143,11 @@ past-none p rank to r records on h past = filter-none _ (r ∷ records) (λ q m.
       ]
     ]))
 
-pub past-members : (g : Group) (to : ℕ) (r : RecordValue) (records : List RecordValue) → IsAhead g.rank (r ∷ records) → (r.seq ≡ g.rank → ⊥) ⊎ (to ≤ r.start) → members_between g 0 to (r ∷ records) ≡ []
-past-members g to r records h past = past-none (is_in_group (is_apart g.side) g.rank (is_minus g.side)) g.rank to r records (in_group-on g) h past
+pub past-members : (g : Group) (to : ℕ) (r : RecordValue) (records : List RecordValue) → IsAhead g.seq (r ∷ records) → (r.seq ≡ g.seq → ⊥) ⊎ (to ≤ r.start) → members_between g 0 to (r ∷ records) ≡ []
+past-members g to r records h past = past-none (is_in_group (is_apart g.side) g.seq (is_minus g.side)) g.seq to r records (in_group-on g) h past
 
-pub past-records : (rank to : ℕ) (r : RecordValue) (records : List RecordValue) → IsAhead rank (r ∷ records) → (r.seq ≡ rank → ⊥) ⊎ (to ≤ r.start) → between_on rank 0 to (r ∷ records) ≡ []
-past-records rank to r records h past = past-none (λ q. q.seq == rank) rank to r records (on-rank rank) h past
+pub past-records : (seq to : ℕ) (r : RecordValue) (records : List RecordValue) → IsAhead seq (r ∷ records) → (r.seq ≡ seq → ⊥) ⊎ (to ≤ r.start) → between_on seq 0 to (r ∷ records) ≡ []
+past-records seq to r records h past = past-none (λ q. q.seq == seq) seq to r records (on-seq seq) h past
 
 -- none in a list is none in its rest
 pub rest-none : (p : RecordValue → Bool) (r : RecordValue) (records : List RecordValue) → filter p (r ∷ records) ≡ [] → filter p records ≡ []
@@ -171,20 +157,20 @@ rest-none p r records none = elim (cases_Bool (p r)) [
 ]
 
 -- a record within the range is one of those ahead
-pub here-records : (rank to : ℕ) (r : RecordValue) (records : List RecordValue) → r.seq ≡ rank → r.start < to → length (between_on rank 0 to (r ∷ records)) ≡ length (between_on rank 0 to records) + 1
-here-records rank to r records at below =
-    ap length (cond-true ((r.seq == rank) && starts_between 0 to r) (r ∷ between_on rank 0 to records) (between_on rank 0 to records)
+pub here-records : (seq to : ℕ) (r : RecordValue) (records : List RecordValue) → r.seq ≡ seq → r.start < to → length (between_on seq 0 to (r ∷ records)) ≡ length (between_on seq 0 to records) + 1
+here-records seq to r records at below =
+    ap length (cond-true ((r.seq == seq) && starts_between 0 to r) (r ∷ between_on seq 0 to records) (between_on seq 0 to records)
     (and_from _ _ (eq-eqb _ _ at) (between-from 0 to r (omega arith) below))) ∙ omega arith
 
 -- and a member if it is in the group
-pub here-member : (g : Group) (to : ℕ) (r : RecordValue) (records : List RecordValue) → r.start < to → is_in_group (is_apart g.side) g.rank (is_minus g.side) r ≡ true
+pub here-member : (g : Group) (to : ℕ) (r : RecordValue) (records : List RecordValue) → r.start < to → is_in_group (is_apart g.side) g.seq (is_minus g.side) r ≡ true
     → members_between g 0 to (r ∷ records) ≡ r ∷ members_between g 0 to records
 here-member g to r records below in_group =
-    cond-true (is_in_group (is_apart g.side) g.rank (is_minus g.side) r && starts_between 0 to r) (r ∷ members_between g 0 to records) (members_between g 0 to records)
+    cond-true (is_in_group (is_apart g.side) g.seq (is_minus g.side) r && starts_between 0 to r) (r ∷ members_between g 0 to records) (members_between g 0 to records)
     (and_from _ _ in_group (between-from 0 to r (omega arith) below))
 
-pub other-member : (g : Group) (to : ℕ) (r : RecordValue) (records : List RecordValue) → is_in_group (is_apart g.side) g.rank (is_minus g.side) r ≡ false
+pub other-member : (g : Group) (to : ℕ) (r : RecordValue) (records : List RecordValue) → is_in_group (is_apart g.side) g.seq (is_minus g.side) r ≡ false
     → members_between g 0 to (r ∷ records) ≡ members_between g 0 to records
 other-member g to r records other =
-    cond-false (is_in_group (is_apart g.side) g.rank (is_minus g.side) r && starts_between 0 to r) (r ∷ members_between g 0 to records) (members_between g 0 to records)
+    cond-false (is_in_group (is_apart g.side) g.seq (is_minus g.side) r && starts_between 0 to r) (r ∷ members_between g 0 to records) (members_between g 0 to records)
     (and_left _ _ other)

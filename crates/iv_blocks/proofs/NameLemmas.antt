@@ -6,5 +6,5 @@ use Rattle.iv_lines.specs.Genome.{Sequences, sequence_name}
 use Rattle.iv_lines.specs.Named.{names_of}
 use Rattle.iv_blocks.specs.KeptBlocks.{name_of}
 
-pub name-same : (g : Sequences) (rank : ℕ) → name_of (names_of g) rank ≡ sequence_name g rank
-name-same g rank = ap (λ (o : Option (List ℕ)). unwrap_or o []) (slice_get-map (λ (s : List ℕ × ℕ). s.0) g rank)
+pub name-same : (g : Sequences) (seq : ℕ) → name_of (names_of g) seq ≡ sequence_name g seq
+name-same g seq = ap (λ (o : Option (List ℕ)). unwrap_or o []) (slice_get-map (λ (s : List ℕ × ℕ). s.0) g seq)

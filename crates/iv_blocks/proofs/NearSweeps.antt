@@ -22,12 +22,12 @@ use Rattle.iv_blocks.proofs.MembersLemmas.{between-true, between-from}
 -- ---- a range in two parts
 
 -- records in order that start within a range: those before a position, and those from there on
-cut : (rank low from high : ℕ) (l : List RecordValue) → AreInOrder l → ((q : RecordValue) → Mem q l → (q.seq ≡ rank) × (low ≤ q.start) × (q.start < high))
+cut : (seq low from high : ℕ) (l : List RecordValue) → AreInOrder l → ((q : RecordValue) → Mem q l → (q.seq ≡ seq) × (low ≤ q.start) × (q.start < high))
     → l ≡ filter (starts_between low from) l ++ filter (starts_between from high) l
-cut rank low from high [] order within = refl
-cut rank low from high (q ∷ l) order within = elim (cases_lt q.start from) [
+cut seq low from high [] order within = refl
+cut seq low from high (q ∷ l) order within = elim (cases_lt q.start from) [
   | inl before ↦
-      ap (λ (k : List RecordValue). q ∷ k) (cut rank low from high l order.1 (λ p m. within p (inr m)))
+      ap (λ (k : List RecordValue). q ∷ k) (cut seq low from high l order.1 (λ p m. within p (inr m)))
       ∙ sym (ap₂ (λ (a b : List RecordValue). a ++ b)
       (cond-true (starts_between low from q) (q ∷ filter (starts_between low from) l) (filter (starts_between low from) l) (between-from low from q (within q (inl refl)).1 before))
       (cond-false (starts_between from high q) (q ∷ filter (starts_between from high) l) (filter (starts_between from high) l)
@@ -48,16 +48,16 @@ cut rank low from high (q ∷ l) order within = elim (cases_lt q.start from) [
 pub members-cut : (g : Group) (low from high : ℕ) (records : List RecordValue) → AreInOrder records → low ≤ from → from ≤ high
     → members_between g low high records ≡ members_between g low from records ++ members_between g from high records
 members-cut g low from high records order above within =
-    cut g.rank low from high (members_between g low high records) (in_order-filter record_cmp _ records order) (λ q m. let is = member-in g low high records q m in (is.1, is.2, is.3))
+    cut g.seq low from high (members_between g low high records) (in_order-filter record_cmp _ records order) (λ q m. let is = member-in g low high records q m in (is.1, is.2, is.3))
     ∙ ap₂ (λ (a b : List RecordValue). a ++ b)
     (members-narrow g low high low from records (omega arith) within)
     (members-narrow g low high from high records above (omega arith))
 
 -- a later range has no more records
-pub count-later : (rank low from high : ℕ) (records : List RecordValue) → low ≤ from → length (between_on rank from high records) ≤ length (between_on rank low high records)
-count-later rank low from high records above =
-    filter-weaker (λ q. (q.seq == rank) && starts_between from high q) (λ q. (q.seq == rank) && starts_between low high q) records (λ q m e.
-    let both = and_parts (q.seq == rank) (starts_between from high q) e in
+pub count-later : (seq low from high : ℕ) (records : List RecordValue) → low ≤ from → length (between_on seq from high records) ≤ length (between_on seq low high records)
+count-later seq low from high records above =
+    filter-weaker (λ q. (q.seq == seq) && starts_between from high q) (λ q. (q.seq == seq) && starts_between low high q) records (λ q m e.
+    let both = and_parts (q.seq == seq) (starts_between from high q) e in
     let range = between-true from high q both.1 in
     and_from _ _ both.0 (between-from low high q (omega (arith, range.0, above)) range.1))
 

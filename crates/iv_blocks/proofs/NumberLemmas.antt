@@ -97,13 +97,13 @@ module _ (d : ℕ) (g : Sequences) (records : List RecordValue) (lie : All (IsOn
   later-block q r there same low =
       let grow = values-grow (at r.seq) (suc (own q)) (own r) (suc (own r)) _ low (omega arith) (own-block r there) in
       let first : blocks_before d records q.seq (q.start + 1) ≡ length (values (at r.seq) (suc (own q))) = own-number q ∙ ap (λ s. length (values (at s) (suc (own q)))) same in
-      let sums = ap (λ (s : ℕ). sum (map (λ rank. blocks_before d records rank (sequence_length g rank)) (range_with_len 0 s))) same in
+      let sums = ap (λ (s : ℕ). sum (map (λ seq. blocks_before d records seq (sequence_length g seq)) (range_with_len 0 s))) same in
       omega (arith, grow, first, own-number r, sums)
 
   -- and so has one on a later sequence
   later-sequence : (q r : RecordValue) → Contains records q → Contains records r → q.seq < r.seq → block_number d g records q < block_number d g records r
   later-sequence q r here there low =
-      let h : ℕ → ℕ = λ rank. blocks_before d records rank (sequence_length g rank) in
+      let h : ℕ → ℕ = λ seq. blocks_before d records seq (sequence_length g seq) in
       let is_placed = all-mem (IsOnGenome g) records lie q (contains-mem records q here) in
       let fits : q.start + 1 ≤ sequence_length g q.seq = omega (arith, is_placed.some, is_placed.within.1) in
       let within = values-rise (at q.seq) (q.start + 1) (sequence_length g q.seq) fits in
@@ -133,16 +133,16 @@ module _ (d : ℕ) (g : Sequences) (records : List RecordValue) (lie : All (IsOn
       | inr high ↦ elim (cases_lt r.seq q.seq) [
         | inl below ↦ absurd (omega (arith, same, later-sequence r q there here below))
         | inr above ↦
-            let rank : q.seq ≡ r.seq = omega arith in
+            let seq : q.seq ≡ r.seq = omega arith in
             elim (cases_lt (own q) (own r)) [
-              | inl before ↦ absurd (omega (arith, same, later-block q r there rank before))
+              | inl before ↦ absurd (omega (arith, same, later-block q r there seq before))
               | inr past ↦ elim (cases_lt (own r) (own q)) [
-                | inl after ↦ absurd (omega (arith, same, later-block r q here (sym rank) after))
+                | inl after ↦ absurd (omega (arith, same, later-block r q here (sym seq) after))
                 | inr at_most ↦
                     let one : own q ≡ own r = omega arith in
                     let first : Contains (members start_of stop_of d (on r.seq records) (own r)) q
-                    = subst (λ x. Contains (members start_of stop_of d (on r.seq records) x) q) one (subst (λ s. Contains (members start_of stop_of d (on s records) (own q)) q) rank (home-belongs q here)) in
-                    (rank, (own r, first, home-belongs r there))
+                    = subst (λ x. Contains (members start_of stop_of d (on r.seq records) x) q) one (subst (λ s. Contains (members start_of stop_of d (on s records) (own q)) q) seq (home-belongs q here)) in
+                    (seq, (own r, first, home-belongs r there))
               ]
             ]
       ]
@@ -152,5 +152,5 @@ module _ (d : ℕ) (g : Sequences) (records : List RecordValue) (lie : All (IsOn
         let second : own r ≡ both.1.0 = same-home r.seq both.1.0 r both.1.2 in
         let on_own : blocks_before d records q.seq (q.start + 1) ≡ blocks_before d records r.seq (r.start + 1)
         = own-number q ∙ ap (λ s. length (values (at s) (suc (own q)))) both.0 ∙ ap (λ x. length (values (at r.seq) (suc x))) (first ∙ sym second) ∙ sym (own-number r) in
-        omega (arith, on_own, ap (λ (s : ℕ). sum (map (λ rank. blocks_before d records rank (sequence_length g rank)) (range_with_len 0 s))) both.0),
+        omega (arith, on_own, ap (λ (s : ℕ). sum (map (λ seq. blocks_before d records seq (sequence_length g seq)) (range_with_len 0 s))) both.0),
   )

@@ -13,6 +13,8 @@ use Rattle.std.proofs.lemmas.List.{length-map}
 use Rattle.std.proofs.lemmas.List.Elements.{filter-append}
 use Rattle.std.proofs.lemmas.List.Folds.{flat_map-map}
 use Rattle.std.proofs.lemmas.Map.Keys.{le_from_is_le}
+use Rattle.std.proofs.lemmas.Option.{none-some}
+use Rattle.std.proofs.Math.Bool.{and-true}
 use Rattle.iv_lines.specs.Genome.{Sequences, sequence_name, sequence_length}
 use Rattle.iv_lines.specs.Named.{names_of}
 use Rattle.iv_lines.specs.Read.{Fits}
@@ -31,7 +33,6 @@ use Rattle.iv_blocks.specs.Inside.Texts.{merge_text_in}
 use Rattle.iv_blocks.specs.declared.options.BlockOptions.{BlockOptions}
 use Rattle.iv_blocks.proofs.ComplementLemmas.{mem-values}
 use Rattle.iv_blocks.proofs.EntryLemmas.{from, walked-on, later-keys, side_entries, none-past as no_entry}
-use Rattle.iv_blocks.proofs.JoinLemmas.{none-some}
 use Rattle.iv_blocks.proofs.KeptLemmas.{group-in, side-is, entry_of, none-past}
 use Rattle.iv_blocks.proofs.Keys.{keys_total, keys_exact}
 use Rattle.iv_blocks.proofs.LookupLemmas.{key_cmp-group, beside-after}
@@ -47,10 +48,6 @@ filter-mapped p q f (x ∷ xs) same = elim (cases_Bool (q x)) [
   | inl e ↦ cond-true (p (f x)) _ _ (same x ∙ e) ∙ ap (λ l. f x ∷ l) (filter-mapped p q f xs same) ∙ sym (ap (map f) (cond-true (q x) (x ∷ filter q xs) (filter q xs) e))
   | inr e ↦ cond-false (p (f x)) _ _ (same x ∙ e) ∙ filter-mapped p q f xs same ∙ sym (ap (map f) (cond-false (q x) (x ∷ filter q xs) (filter q xs) e))
 ]
-
-both-true : (a b : Bool) → b ≡ true → (a && b) ≡ a
-both-true true b e = e
-both-true false b e = refl
 
 -- ---- entries in order
 
@@ -175,7 +172,7 @@ module _ (s : ℕ) (t : Bool) (start stop : ℕ) where
   -- of an entry that stops past the region's start, both tests say the same
   in-is_early : (e : Key × Kept) → (e.0 ≡ (s, t, e.0.2) → start < e.1.stop) → is_early s t stop e ≡ is_in e
   in-is_early e past = elim (cases_Bool (is_of s t e)) [
-    | inl own ↦ ap (λ (b : Bool). is_of s t e && b) (sym (both-true (nat_lt e.0.2 stop) (nat_lt start e.1.stop) (lt-ltb _ _ (past (key-is s t e own)))))
+    | inl own ↦ ap (λ (b : Bool). is_of s t e && b) (sym (ap (λ (c : Bool). nat_lt e.0.2 stop && c) (lt-ltb _ _ (past (key-is s t e own))) ∙ and-true (nat_lt e.0.2 stop)))
     | inr other ↦ ap (λ (b : Bool). b && nat_lt e.0.2 stop) other ∙ sym (ap (λ (b : Bool). b && shares start stop e.0.2 e.1.stop) other)
   ]
 

@@ -1,7 +1,8 @@
 -- What the blocks of a group are after a repair, over plain functions.
-use Rattle.std.proofs.Common.{◌≡◌, ◌⊎◌, inl, inr, ℕ, ◌+◌, suc, ◌-◌, ◌<◌, ◌≤◌, false, if◌then◌else◌, ◌==◌, ◌&&◌, List, length, filter, Option, Some, None, refl, sym, ap, subst, ◌∙◌, arith, eq-eqb, ne_eqb}
+use Rattle.std.proofs.Common.{◌≡◌, ◌⊎◌, inl, inr, ℕ, ◌+◌, suc, ◌-◌, ◌<◌, ◌≤◌, false, if◌then◌else◌, ◌==◌, ◌&&◌, List, length, filter, Option, Some, None, sym, ap, subst, ◌∙◌, arith, eq-eqb, ne_eqb}
 use Rattle.std.specs.Option.{option_map, option_or}
 use Rattle.std.proofs.lemmas.Bool.{cond-true, cond-false, cases_Bool, cases_lt, cases_eq, both_ways}
+use Rattle.std.proofs.lemmas.Option.{none-some, same_Some}
 use Rattle.iv_lines.specs.RecordValue.{RecordValue}
 use Rattle.iv_cover.specs.Blocks.{is_block_start, block_stop, block_at}
 use Rattle.iv_cover.specs.TrackBlocks.{start_of, stop_of}
@@ -12,11 +13,7 @@ use Rattle.iv_cover.specs.declared.column.ColumnSummary.{ColumnSummary}
 use Rattle.iv_blocks.specs.KeptBlocks.{Kept, kept_block, within_block}
 use Rattle.iv_blocks.specs.Inside.Lookups.{IsLastBlock}
 use Rattle.iv_blocks.specs.Inside.Repairs.{JoinsOne, JoinsNone, JoinsBefore, JoinsAfter, count_from}
-use Rattle.iv_blocks.proofs.JoinLemmas.{none-some, some-same, count-records}
-
-or-none : {A : Type 0} (o : Option A) → option_or o None ≡ o
-or-none None = refl
-or-none (Some a) = refl
+use Rattle.iv_blocks.proofs.JoinLemmas.{count-records, or-none}
 
 module _ (d : ℕ) (name : List ℕ) (summaries : List ColumnSummary) where
   -- what is to be kept of the block of the records that starts at x, if there is one
@@ -35,7 +32,7 @@ module _ (d : ℕ) (name : List ℕ) (summaries : List ColumnSummary) where
     | inl starts ↦
         let block = block_at_start start_of stop_of d G x lasting starts in
         let stop : ℕ = block_stop start_of stop_of d G x in
-        let same : kept_block name summaries (stop, filter (starts_in start_of stop_of d x stop) G) ≡ b = some-same _ b (sym (shown-some G x stop lasting block) ∙ e) in
+        let same : kept_block name summaries (stop, filter (starts_in start_of stop_of d x stop) G) ≡ b = same_Some _ b (sym (shown-some G x stop lasting block) ∙ e) in
         subst (λ s. IsBlock start_of stop_of d G x s) (ap (λ (v : Kept). v.stop) same) block
     | inr none ↦ absurd (none-some b (sym (shown-none G x none) ∙ e))
   ]

@@ -1,5 +1,5 @@
 -- Blocks of the records that pass a test, among others that are passed over.
-use Rattle.std.proofs.Common.{ℕ, ◌+◌, ◌≤◌, ◌≡◌, Bool, true, false, List, [], ◌∷◌, ◌++◌, Some, None, refl, sym, ap, ap₂, ◌∙◌, length, take, drop, filter, max, append-nil, arith, add-one}
+use Rattle.std.proofs.Common.{ℕ, ◌+◌, ◌≤◌, ◌≡◌, Bool, true, false, List, [], ◌∷◌, ◌++◌, Some, refl, sym, ap, ap₂, ◌∙◌, length, take, drop, filter, max, append-nil, arith, add-one}
 use Rattle.std.proofs.lemmas.Bool.{cond-true, cond-false}
 use Rattle.std.proofs.lemmas.List.Elements.{filter-append}
 use Rattle.std.specs.Prelude.{slice_get}
@@ -7,9 +7,9 @@ use Rattle.iv_lines.specs.RecordValue.{RecordValue}
 use Rattle.iv_blocks.specs.Inside.Groups.{is_on}
 use Rattle.iv_blocks.specs.declared.group.Side.TheVariants.{Both}
 use Rattle.iv_cover.specs.declared.block.Block.{Block}
-use Rattle.iv_cover.specs.TrackBlocks.{BlockWithMembers, with_members}
+use Rattle.iv_cover.specs.TrackBlocks.{with_members}
 use Rattle.iv_cover.specs.Inside.RemainingBlocks.{is_joined, remaining_blocks}
-use Rattle.iv_cover.proofs.RemainingLemmas.{remaining-joined, remaining-split_up}
+use Rattle.iv_cover.proofs.RemainingLemmas.{remaining-joined}
 use Rattle.iv_lines.proofs.ListLemmas.{filter-weaker, filter-all}
 use Rattle.iv_blocks.proofs.ComingLemmas.{drop-next}
 
@@ -56,10 +56,3 @@ joins d p b c n xs r rs at e joined same =
     ap (remaining_blocks d (Some (with_members b (filter p (take n xs))))) (on-first p r rs e)
     ∙ remaining-joined d (with_members b (filter p (take n xs))) r (filter p rs) joined
     ∙ sym (ap₂ (λ (m : Block) (l : List RecordValue). remaining_blocks d (Some (with_members m l)) (filter p rs)) same (on-last p n xs r rs at e))
-
--- or begins the next one
-pub parts : (d : ℕ) (p : RecordValue → Bool) (b : BlockWithMembers) (r : RecordValue) (rs : List RecordValue) → p r ≡ true → is_joined d b r ≡ false
-    → remaining_blocks d (Some b) (filter p (r ∷ rs)) ≡ b ∷ remaining_blocks d None (filter p (r ∷ rs))
-parts d p b r rs e split_up =
-    ap (remaining_blocks d (Some b)) (on-first p r rs e) ∙ remaining-split_up d b r (filter p rs) split_up
-    ∙ ap (λ (l : List RecordValue). b ∷ remaining_blocks d None l) (sym (on-first p r rs e))

@@ -22,10 +22,10 @@ use Rattle.iv_blocks.specs.Inside.MergeSweeps.{group_row, group_rows, sequence_r
 use Rattle.iv_blocks.specs.declared.group.Side.TheVariants.{Plus, Minus}
 
 -- the first of the ranks that are left
-ranks-next : (f : ℕ → List ℕ) (rank count : ℕ) → rank < count → flat_map f (range_with_len rank (count - rank)) ≡ f rank ++ flat_map f (range_with_len (rank + 1) (count - (rank + 1)))
-ranks-next f rank count low =
-    let more : count - rank ≡ suc (count - (rank + 1)) = omega arith in
-    ap (λ (n : ℕ). flat_map f (range_with_len rank n)) more
+ranks-next : (f : ℕ → List ℕ) (seq count : ℕ) → seq < count → flat_map f (range_with_len seq (count - seq)) ≡ f seq ++ flat_map f (range_with_len (seq + 1) (count - (seq + 1)))
+ranks-next f seq count low =
+    let more : count - seq ≡ suc (count - (seq + 1)) = omega arith in
+    ap (λ (n : ℕ). flat_map f (range_with_len seq n)) more
 
 -- ---- strands apart
 
@@ -40,53 +40,53 @@ apart o name records is =
 module _ (o : BlockOptions) (g : Sequences) (records : List RecordValue) (order : AreInOrder records) (lie : All (IsOnGenome g) records) where
   -- the rows of the sequence of this rank
   abbrev pub rank_rows : ℕ → List ℕ
-  rank_rows rank = flat_map (side_rows o g records rank) (sides o.stranded)
+  rank_rows seq = flat_map (side_rows o g records seq) (sides o.stranded)
 
   -- the group's records
   abbrev of : ℕ → Bool → List RecordValue
-  of rank minus = group o.stranded rank minus records
+  of seq minus = group o.stranded seq minus records
 
-  elsewhere : (rank : ℕ) (minus : Bool) (k : ℕ) → (k ≡ rank → ⊥) → blocks_on o.distance g (of rank minus) k ≡ []
-  elsewhere rank minus k other =
-      let none : on k (of rank minus) ≡ [] = on-none k (of rank minus) (λ q m at. other (sym at ∙ (group-in o.stranded rank minus records q m).1)) in
+  elsewhere : (seq : ℕ) (minus : Bool) (k : ℕ) → (k ≡ seq → ⊥) → blocks_on o.distance g (of seq minus) k ≡ []
+  elsewhere seq minus k other =
+      let none : on k (of seq minus) ≡ [] = on-none k (of seq minus) (λ q m at. other (sym at ∙ (group-in o.stranded seq minus records q m).1)) in
       ap (λ (l : List RecordValue). map (block_on k) (blocks_below start_of stop_of o.distance l (sequence_length g k))) none
       ∙ ap (map (block_on k)) (blocks-none o.distance (sequence_length g k))
 
   -- its blocks are those of the one sequence
-  one-sequence : (rank : ℕ) (minus : Bool) → rank < seq_count g
-      → remaining_blocks o.distance None (of rank minus) ≡ map (block_on rank) (blocks_below start_of stop_of o.distance (of rank minus) (sequence_length g rank))
-  one-sequence rank minus low =
-      let G = of rank minus in
+  one-sequence : (seq : ℕ) (minus : Bool) → seq < seq_count g
+      → remaining_blocks o.distance None (of seq minus) ≡ map (block_on seq) (blocks_below start_of stop_of o.distance (of seq minus) (sequence_length g seq))
+  one-sequence seq minus low =
+      let G = of seq minus in
       let f = blocks_on o.distance g G in
-      let same : on rank G ≡ G = filter-all (λ (q : RecordValue). q.seq == rank) G (λ q m. eq-eqb q.seq rank (group-in o.stranded rank minus records q m).1) in
-      merge-all o.distance g G (in_order-filter record_cmp (is_in_group o.stranded rank minus) records order)
-      (mem-all (IsOnGenome g) G (λ q m. all-mem (IsOnGenome g) records lie q (group-in o.stranded rank minus records q m).0))
-      ∙ gathered-none_from f (seq_count g) (suc rank) (omega arith) (λ j above below. elsewhere rank minus j (λ at. omega (arith, at)))
-      ∙ gathered-more f rank
-      ∙ ap (λ (l : List BlockWithMembers). l ++ f rank) (gathered-none_from f rank 0 (omega arith) (λ j above below. elsewhere rank minus j (λ at. omega (arith, at))))
-      ∙ ap (λ (l : List RecordValue). map (block_on rank) (blocks_below start_of stop_of o.distance l (sequence_length g rank))) same
+      let same : on seq G ≡ G = filter-all (λ (q : RecordValue). q.seq == seq) G (λ q m. eq-eqb q.seq seq (group-in o.stranded seq minus records q m).1) in
+      merge-all o.distance g G (in_order-filter record_cmp (is_in_group o.stranded seq minus) records order)
+      (mem-all (IsOnGenome g) G (λ q m. all-mem (IsOnGenome g) records lie q (group-in o.stranded seq minus records q m).0))
+      ∙ gathered-none_from f (seq_count g) (suc seq) (omega arith) (λ j above below. elsewhere seq minus j (λ at. omega (arith, at)))
+      ∙ gathered-more f seq
+      ∙ ap (λ (l : List BlockWithMembers). l ++ f seq) (gathered-none_from f seq 0 (omega arith) (λ j above below. elsewhere seq minus j (λ at. omega (arith, at))))
+      ∙ ap (λ (l : List RecordValue). map (block_on seq) (blocks_below start_of stop_of o.distance l (sequence_length g seq))) same
 
-  side-is : (rank : ℕ) (minus : Bool) → rank < seq_count g
-      → group_rows o (sequence_name g rank) (filter (is_on_side o.stranded minus) (on rank records)) ≡ side_rows o g records rank minus
-  side-is rank minus low =
-      let name = sequence_name g rank in
+  side-is : (seq : ℕ) (minus : Bool) → seq < seq_count g
+      → group_rows o (sequence_name g seq) (filter (is_on_side o.stranded minus) (on seq records)) ≡ side_rows o g records seq minus
+  side-is seq minus low =
+      let name = sequence_name g seq in
       let asked = listed o.summaries in
-      ap (group_rows o name) (filter-filter (is_on_side o.stranded minus) (λ (q : RecordValue). q.seq == rank) records)
-      ∙ ap (flat_map (group_row name asked)) (one-sequence rank minus low)
-      ∙ flat_map-map (group_row name asked) (block_on rank) (blocks_below start_of stop_of o.distance (of rank minus) (sequence_length g rank))
+      ap (group_rows o name) (filter-filter (is_on_side o.stranded minus) (λ (q : RecordValue). q.seq == seq) records)
+      ∙ ap (flat_map (group_row name asked)) (one-sequence seq minus low)
+      ∙ flat_map-map (group_row name asked) (block_on seq) (blocks_below start_of stop_of o.distance (of seq minus) (sequence_length g seq))
 
-  rank-is : (rank : ℕ) → rank < seq_count g → sequence_rows o (sequence_name g rank) (on rank records) ≡ rank_rows rank
-  rank-is rank low =
-      flat_map-agree (λ minus. group_rows o (sequence_name g rank) (filter (is_on_side o.stranded minus) (on rank records))) (side_rows o g records rank) (sides o.stranded)
-      (λ minus. side-is rank minus low)
+  seq-is : (seq : ℕ) → seq < seq_count g → sequence_rows o (sequence_name g seq) (on seq records) ≡ rank_rows seq
+  seq-is seq low =
+      flat_map-agree (λ minus. group_rows o (sequence_name g seq) (filter (is_on_side o.stranded minus) (on seq records))) (side_rows o g records seq) (sides o.stranded)
+      (λ minus. side-is seq minus low)
 
   -- the rows of the first of the sequences that are left, as they are put, and those of the sequences after it
-  pub rows-next : (p : BlockOptions) (name : List ℕ) (here : List RecordValue) (rank : ℕ) → rank < seq_count g → p ≡ o → name ≡ sequence_name g rank → here ≡ on rank records
-      → flat_map rank_rows (range_with_len rank (seq_count g - rank)) ≡ sequence_rows p name here ++ flat_map rank_rows (range_with_len (rank + 1) (seq_count g - (rank + 1)))
-  rows-next p name here rank low options named is =
-      let rest : List ℕ = flat_map rank_rows (range_with_len (rank + 1) (seq_count g - (rank + 1))) in
-      ranks-next rank_rows rank (seq_count g) low
-      ∙ ap (λ (l : List ℕ). l ++ rest) (sym (rank-is rank low))
-      ∙ ap (λ (l : List RecordValue). sequence_rows o (sequence_name g rank) l ++ rest) (sym is)
+  pub rows-next : (p : BlockOptions) (name : List ℕ) (here : List RecordValue) (seq : ℕ) → seq < seq_count g → p ≡ o → name ≡ sequence_name g seq → here ≡ on seq records
+      → flat_map rank_rows (range_with_len seq (seq_count g - seq)) ≡ sequence_rows p name here ++ flat_map rank_rows (range_with_len (seq + 1) (seq_count g - (seq + 1)))
+  rows-next p name here seq low options named is =
+      let rest : List ℕ = flat_map rank_rows (range_with_len (seq + 1) (seq_count g - (seq + 1))) in
+      ranks-next rank_rows seq (seq_count g) low
+      ∙ ap (λ (l : List ℕ). l ++ rest) (sym (seq-is seq low))
+      ∙ ap (λ (l : List RecordValue). sequence_rows o (sequence_name g seq) l ++ rest) (sym is)
       ∙ ap (λ (n : List ℕ). sequence_rows o n here ++ rest) (sym named)
       ∙ ap (λ (q : BlockOptions). sequence_rows q name here ++ rest) (sym options)

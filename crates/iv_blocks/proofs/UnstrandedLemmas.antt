@@ -4,6 +4,8 @@ use Rattle.std.specs.Iterator.{Drains, YieldsFirst}
 use Rattle.std.specs.List.{flat_map, range_with_len}
 use Rattle.std.proofs.lemmas.Iterator.Consumers.{YieldsList-from_shown}
 use Rattle.std.proofs.lemmas.List.Elements.{All-weaker}
+use Rattle.std.proofs.Math.Bool.{and-true}
+use Rattle.std.proofs.lemmas.List.{map-append}
 use Rattle.iv_lines.specs.Genome.{Sequences, seq_count, sequence_length}
 use Rattle.iv_lines.specs.Named.{names_of}
 use Rattle.iv_lines.specs.Read.{Fits, IsOnGenome}
@@ -36,11 +38,7 @@ all-lie g width records fit = All-weaker (Fits g width) (IsOnGenome g) (λ r fit
 
 pub map-flat_map : {X Y Z : Type 0} (h : Y → Z) (f : X → List Y) (xs : List X) → map h (flat_map f xs) ≡ flat_map (λ x. map h (f x)) xs
 map-flat_map h f [] = refl
-map-flat_map h f (x ∷ xs) = map-both (f x) (flat_map f xs) ∙ ap (λ l. map h (f x) ++ l) (map-flat_map h f xs)
-  where
-    map-both : (a b : List _) → map h (a ++ b) ≡ map h a ++ map h b
-    map-both [] b = refl
-    map-both (y ∷ a) b = ap (λ l. h y ∷ l) (map-both a b)
+map-flat_map h f (x ∷ xs) = map-append h (f x) (flat_map f xs) ∙ ap (λ l. map h (f x) ++ l) (map-flat_map h f xs)
 
 -- what is drained is what was left
 pub drained : (bs : List BlockWithMembers) (es : List (Key × ℕ)) → Drains GivesStops bs es → es ≡ map stop_entry bs
@@ -51,10 +49,6 @@ module _ (o : BlockOptions) (g : Sequences) (width : ℕ) (records : List Record
   group-on : (s : ℕ) → group o.stranded s false records ≡ on s records
   group-on s = ap (λ b. group b s false records) together
       ∙ filter-agree (is_in_group false s false) (λ r. r.seq == s) records (λ r m. and-true (r.seq == s))
-    where
-      and-true : (b : Bool) → (b && true) ≡ b
-      and-true true = refl
-      and-true false = refl
 
   kept-block : (s : ℕ) (bs : List (ℕ × (ℕ × List RecordValue))) → map (kept_entry g (listed o.summaries)) (map (block_on s) bs) ≡ map (entry_of o g s false) bs
   kept-block s [] = refl

@@ -10,12 +10,12 @@ use Rattle.iv_cover.specs.TrackBlocks.{start_of, stop_of}
 
 -- how many blocks start below a position of the sequence of this rank
 abbrev pub blocks_before : ℕ → List RecordValue → ℕ → ℕ → ℕ
-blocks_before d records rank position = length (blocks_below start_of stop_of d (on rank records) position)
+blocks_before d records seq position = length (blocks_below start_of stop_of d (on seq records) position)
 
 -- how many blocks there are on sequences before the one of this rank, and on it below a position
 abbrev pub blocks_until : ℕ → Sequences → List RecordValue → ℕ → ℕ → ℕ
-blocks_until d g records rank position =
-    sum (map (λ s. blocks_before d records s (sequence_length g s)) (range_with_len 0 rank)) + blocks_before d records rank position
+blocks_until d g records seq position =
+    sum (map (λ s. blocks_before d records s (sequence_length g s)) (range_with_len 0 seq)) + blocks_before d records seq position
 
 -- the row of a record: its columns, the number of its block from 1, which is how many blocks there are up to its own, and a line feed
 abbrev pub cluster_row : ℕ → Sequences → List RecordValue → RecordValue → List ℕ

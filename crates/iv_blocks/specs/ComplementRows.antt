@@ -14,10 +14,10 @@ gap_row name gap = name ++ codes "\t" ++ decimal gap.start ++ codes "\t" ++ deci
 
 -- the gaps of a sequence: the maximal intervals that no record covers; none if only sequences with a record are shown, and it has none
 abbrev pub gaps : Bool → Sequences → List RecordValue → ℕ → List Run
-gaps limited g records rank =
-    if not limited || list_any (λ r. r.seq == rank) records then empty_runs (depth records rank) 0 (sequence_length g rank) else []
+gaps limited g records seq =
+    if not limited || list_any (λ r. r.seq == seq) records then empty_runs (depth records seq) 0 (sequence_length g seq) else []
 
 -- the rows of a complement on the sequence of this rank: one for each gap
 abbrev pub gap_rows : Option Region → Bool → Sequences → List RecordValue → ℕ → List ℕ
-gap_rows part limited g records rank =
-    flat_map (gap_row (sequence_name g rank)) (intervals_in (λ gap. gap.start) (λ gap. gap.stop) part (gaps limited g records rank))
+gap_rows part limited g records seq =
+    flat_map (gap_row (sequence_name g seq)) (intervals_in (λ gap. gap.start) (λ gap. gap.stop) part (gaps limited g records seq))

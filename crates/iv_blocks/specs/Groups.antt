@@ -23,7 +23,7 @@ is_on_side stranded minus r = if stranded then is_strand minus r.strand else not
 
 -- the records on the sequence of this rank and on this side
 abbrev pub group : Bool → ℕ → Bool → List RecordValue → List RecordValue
-group stranded rank minus records = filter (λ r. (r.seq == rank) && is_on_side stranded minus r) records
+group stranded seq minus records = filter (λ r. (r.seq == seq) && is_on_side stranded minus r) records
 
 -- the sides whose blocks are printed, in order: with strands apart, `+` and then `-`
 abbrev pub sides : Bool → List Bool

@@ -31,7 +31,7 @@ Entries = List (Key × Kept)
 
 -- the name at a rank, empty if there is none
 abbrev pub name_of : List (List ℕ) → ℕ → List ℕ
-name_of names rank = unwrap_or (slice_get names rank) []
+name_of names seq = unwrap_or (slice_get names seq) []
 
 -- a block that stops at b.0 and has the records b.1, as it is kept
 abbrev pub kept_block : List ℕ → List ColumnSummary → ℕ × List RecordValue → Kept

@@ -20,14 +20,14 @@ block_row name summaries b =
 
 -- the blocks of one side of a sequence, by start
 abbrev pub side_blocks : BlockOptions → Sequences → List RecordValue → ℕ → Bool → List (ℕ × (ℕ × List RecordValue))
-side_blocks o g records rank minus = blocks_below start_of stop_of o.distance (group o.stranded rank minus records) (sequence_length g rank)
+side_blocks o g records seq minus = blocks_below start_of stop_of o.distance (group o.stranded seq minus records) (sequence_length g seq)
 
 -- the rows of a merge on the sequence of this rank: one for each block, those of each side together
 abbrev pub merge_rows : Option Region → BlockOptions → Sequences → List RecordValue → ℕ → List ℕ
-merge_rows part o g records rank =
-    flat_map (λ minus. flat_map (block_row (sequence_name g rank) (listed o.summaries))
-    (intervals_in (λ b. b.0) (λ b. b.1.0) part (side_blocks o g records rank minus))) (sides o.stranded)
+merge_rows part o g records seq =
+    flat_map (λ minus. flat_map (block_row (sequence_name g seq) (listed o.summaries))
+    (intervals_in (λ b. b.0) (λ b. b.1.0) part (side_blocks o g records seq minus))) (sides o.stranded)
 
 -- all blocks: those of each sequence by rank, and within it of each side
 abbrev pub all_blocks : BlockOptions → Sequences → List RecordValue → List (ℕ × (ℕ × List RecordValue))
-all_blocks o g records = flat_map (λ rank. flat_map (side_blocks o g records rank) (sides o.stranded)) (range_with_len 0 (seq_count g))
+all_blocks o g records = flat_map (λ seq. flat_map (side_blocks o g records seq) (sides o.stranded)) (range_with_len 0 (seq_count g))

@@ -15,12 +15,12 @@ shares start stop from to = nat_lt from stop && nat_lt start to
 
 -- the blocks of one side of a sequence that share a position with the region, by start
 abbrev pub side_blocks_in : BlockOptions → Sequences → List RecordValue → ℕ → ℕ → ℕ → Bool → List (ℕ × (ℕ × List RecordValue))
-side_blocks_in o g records rank start stop minus = filter (λ b. shares start stop b.0 b.1.0) (side_blocks o g records rank minus)
+side_blocks_in o g records seq start stop minus = filter (λ b. shares start stop b.0 b.1.0) (side_blocks o g records seq minus)
 
 -- those of each side
 abbrev pub blocks_in : BlockOptions → Sequences → List RecordValue → ℕ → ℕ → ℕ → List (ℕ × (ℕ × List RecordValue))
-blocks_in o g records rank start stop = flat_map (side_blocks_in o g records rank start stop) (sides o.stranded)
+blocks_in o g records seq start stop = flat_map (side_blocks_in o g records seq start stop) (sides o.stranded)
 
 -- the gaps of a sequence that share a position with the region
 abbrev pub gaps_in : Bool → Sequences → List RecordValue → ℕ → ℕ → ℕ → List Run
-gaps_in limited g records rank start stop = filter (λ gap. shares start stop gap.start gap.stop) (gaps limited g records rank)
+gaps_in limited g records seq start stop = filter (λ gap. shares start stop gap.start gap.stop) (gaps limited g records seq)

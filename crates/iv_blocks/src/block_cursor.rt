@@ -7,7 +7,6 @@ ghost use Rattle.iv_blocks.specs.Inside.BlockCursor.{interval_of, starts_until, 
 
 use crate::block_ledger::LedgerWalk;
 use crate::blocks::Blocks;
-use crate::group::FIRST_KEY;
 use iv_cover::Block;
 use iv_track::Meter;
 use std::alloc::Allocator;
@@ -26,8 +25,8 @@ pub(crate) trait BlocksAhead {
     /// The next block, if it starts at this position of the sequence of this rank, or before it.
     ///
     /// At most one step for a block, and none if there is no such block.
-    fn next_until(&mut self, rank: u32, position: u64, counter: &mut Self::Meter) -> Option<Block>
-        ensures next { GivesPassing (starts_until rank position) (left self.old) result (left self.new) }
+    fn next_until(&mut self, seq: u32, position: u64, counter: &mut Self::Meter) -> Option<Block>
+        ensures next { GivesPassing (starts_until seq position) (left self.old) result (left self.new) }
         ensures steps { TakesForEach (steps counter.old) (steps counter.new) (left self.old) (left self.new) };
 }
 
@@ -59,7 +58,7 @@ impl<'a, A: Allocator + Copy> BlockCursor<'a, A> {
         ensures all { result ≡ map interval_of blocks.now.entries }
         ensures steps { TakesUpTo meter.old meter.new 2 }
     {
-        let mut walk = blocks.ledger.walk(&FIRST_KEY, meter);
+        let mut walk = blocks.ledger.walk_all(meter);
         let next = read(&mut walk, meter);
         BlockCursor { walk, next }
     }
@@ -72,9 +71,9 @@ impl<'a, A: Allocator + Copy> BlocksAhead for BlockCursor<'a, A> {
 
     ghost steps = { λ meter. meter };
 
-    fn next_until(&mut self, rank: u32, position: u64, meter: &mut Meter) -> Option<Block> {
+    fn next_until(&mut self, seq: u32, position: u64, meter: &mut Meter) -> Option<Block> {
         let block = self.next?;
-        if !is_until(block, rank, position) {
+        if !is_until(block, seq, position) {
             return None;
         }
         self.next = read(&mut self.walk, meter);
@@ -83,10 +82,10 @@ impl<'a, A: Allocator + Copy> BlocksAhead for BlockCursor<'a, A> {
 }
 
 /// Whether the block starts at this position of the sequence of this rank, or before it.
-fn is_until(block: Block, rank: u32, position: u64) -> bool
-    ensures { result ≡ starts_until rank position block }
+fn is_until(block: Block, seq: u32, position: u64) -> bool
+    ensures { result ≡ starts_until seq position block }
 {
-    block.sequence < rank || (block.sequence == rank && u64::from(block.start) <= position)
+    block.sequence < seq || (block.sequence == seq && u64::from(block.start) <= position)
 }
 
 /// Where the next block is, `None` after the last. One step.

@@ -71,6 +71,13 @@ impl<A: Allocator + Copy> BlockLedger<A> {
         }
     }
 
+    /// Whether results are kept.
+    pub(crate) fn has_results(&self) -> bool
+        ensures { result ≡ self.now.with_results }
+    {
+        matches!(&self.storage, Storage::WithResults(_))
+    }
+
     /// How many blocks there are. It is no step.
     pub(crate) fn len(&self) -> usize
         ensures len { result ≡ length self.now.entries }
@@ -162,6 +169,21 @@ impl<A: Allocator + Copy> BlockLedger<A> {
             Storage::WithResults(ledger) => {
                 ledger.take(key, meter);
             }
+        }
+    }
+
+    /// All blocks, in order. Beginning is one step, and each call of the walk's `next` another.
+    pub(crate) fn walk_all(&self, meter: &mut Meter) -> LedgerWalk<'_, A>
+        ensures entries { result ≡ self.now.entries }
+        ensures step { meter.new ≡ ticked meter.old }
+    {
+        match &self.storage {
+            Storage::Plain(ledger) => LedgerWalk {
+                rest: Rest::Plain(ledger.walk_all(meter)),
+            },
+            Storage::WithResults(ledger) => LedgerWalk {
+                rest: Rest::WithResults(ledger.walk_all(meter)),
+            },
         }
     }
 

@@ -74,8 +74,8 @@ impl<A: Allocator + Copy> Kept<A> for Blocks<A> {
             alloc,
             ledger: BlockLedger::new(alloc, !options.summaries.as_slice().is_empty()),
         };
-        for rank in 0..genome.count() {
-            blocks.insert_sequence(track, genome, rank, meter)?;
+        for seq in 0..genome.count() {
+            blocks.insert_sequence(track, genome, seq, meter)?;
         }
         Ok(blocks)
     }

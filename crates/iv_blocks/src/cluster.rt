@@ -52,17 +52,17 @@ impl<A: Allocator + Copy> Blocks<A> {
 /// Goes past the blocks that start at this position of the sequence of this rank, or before it, and counts them.
 pub(crate) fn count_until<A: Allocator + Copy>(
     ahead: &mut BlockCursor<'_, A>,
-    rank: u32,
+    seq: u32,
     position: u64,
     meter: &mut Meter,
 ) -> u64
     requires few { length ahead.old < 2 ^ 64 }
-    ensures count { result ≡ length (take_while (starts_until rank position) ahead.old) }
-    ensures past { ahead.new ≡ drop_while (starts_until rank position) ahead.old }
+    ensures count { result ≡ length (take_while (starts_until seq position) ahead.old) }
+    ensures past { ahead.new ≡ drop_while (starts_until seq position) ahead.old }
     ensures steps { TakesForEach meter.old meter.new ahead.old ahead.new }
 {
     let mut count: u64 = 0;
-    while ahead.next_until(rank, position, meter).is_some() {
+    while ahead.next_until(seq, position, meter).is_some() {
         count += 1;
     }
     count

@@ -56,10 +56,10 @@ pub(crate) fn put_gaps<B: BlocksAhead, A: Allocator + Copy, S: Sink>(
     ensures text { Puts (S.state sink.old) (S.state sink.new) result (texts (not limited) genome.now 0 (seq_count genome.now) (B.left blocks.old)) }
     ensures steps { TakesForEach (B.steps counter.old) (B.steps counter.new) (B.left blocks.old) (B.left blocks.new) }
 {
-    for rank in 0..genome.count() {
-        let name = genome.name_or_empty(rank);
-        let length = genome.length_or_zero(rank);
-        put_sequence(!limited, name, rank, length, blocks, counter, sink)?;
+    for seq in 0..genome.count() {
+        let name = genome.name_or_empty(seq);
+        let length = genome.length_or_zero(seq);
+        put_sequence(!limited, name, seq, length, blocks, counter, sink)?;
     }
     Ok(())
 }
@@ -68,19 +68,19 @@ pub(crate) fn put_gaps<B: BlocksAhead, A: Allocator + Copy, S: Sink>(
 fn put_sequence<B: BlocksAhead, S: Sink>(
     empty_wanted: bool,
     name: &[u8],
-    rank: u32,
+    seq: u32,
     length: u64,
     blocks: &mut B,
     counter: &mut B::Meter,
     sink: &mut S,
 ) -> Result<(), WriteFault>
-    ensures text { Puts (S.state sink.old) (S.state sink.new) result (flat_map (gap_row name.now) (gaps_between empty_wanted 0 length (take_while (starts_until rank length) (B.left blocks.old)))) }
-    ensures past { OnOk result (B.left blocks.new ≡ drop_while (starts_until rank length) (B.left blocks.old)) }
+    ensures text { Puts (S.state sink.old) (S.state sink.new) result (flat_map (gap_row name.now) (gaps_between empty_wanted 0 length (take_while (starts_until seq length) (B.left blocks.old)))) }
+    ensures past { OnOk result (B.left blocks.new ≡ drop_while (starts_until seq length) (B.left blocks.old)) }
     ensures steps { TakesForEach (B.steps counter.old) (B.steps counter.new) (B.left blocks.old) (B.left blocks.new) }
 {
     let mut shown = empty_wanted;
     let mut start: u64 = 0;
-    while let Some(block) = blocks.next_until(rank, length, counter) {
+    while let Some(block) = blocks.next_until(seq, length, counter) {
         put_gap(name, start, block.start as u64, sink)?;
         start = block.stop as u64;
         shown = true;

@@ -47,7 +47,7 @@ impl<A: Allocator + Copy> Blocks<A> {
         ensures steps { TakesUpTo meter.old meter.new (2 + length (gaps_in limited genome.now track.now.records seq start stop)) }
     {
         let group = Group {
-            rank: seq,
+            seq,
             side: Side::Both,
         };
         // No block starts past the end of its sequence.
@@ -88,7 +88,7 @@ impl<A: Allocator + Copy> Blocks<A> {
         ensures steps { TakesUpTo meter.old meter.new (1 + length (gaps_from limited genome.now track.now.records seq start stop low)) }
     {
         let group = Group {
-            rank: seq,
+            seq,
             side: Side::Both,
         };
         let name = genome.name_or_empty(seq);

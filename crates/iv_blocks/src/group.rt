@@ -17,9 +17,6 @@ use std::marker::Model;
 /// Where a block is kept: the rank of its sequence, whether its records are those on `-` if strands are apart, and its start.
 pub(crate) type Key = (u32, bool, u32);
 
-/// The first of all keys.
-pub(crate) const FIRST_KEY: Key = (0, false, 0);
-
 /// Which records of a sequence may be in one block with one another: all, or those of one strand.
 #[derive(Clone, Copy, PartialEq, Eq)]
 pub(crate) enum Side {
@@ -78,7 +75,7 @@ impl Side {
 #[derive(Clone, Copy, Drop)]
 pub(crate) struct Group {
     /// The rank of the sequence.
-    pub(crate) rank: u32,
+    pub(crate) seq: u32,
     pub(crate) side: Side,
 }
 
@@ -87,27 +84,27 @@ impl Group {
     pub(crate) fn of(stranded: bool, feature: &RecordRef<'_>) -> Option<Group>
         ensures { MatchOption result
             ((minus : Bool) → is_on_side stranded minus feature.now ≡ false)
-            (λ g. (is_apart g.side ≡ stranded) × (is_in_group stranded g.rank (is_minus_side g.side) feature.now ≡ true)) }
+            (λ g. (is_apart g.side ≡ stranded) × (is_in_group stranded g.seq (is_minus_side g.side) feature.now ≡ true)) }
     {
         let side = Side::of(stranded, feature.strand())?;
         Some(Group {
-            rank: feature.seq(),
+            seq: feature.seq(),
             side,
         })
     }
 
     /// Whether the record is in the group.
     pub(crate) fn has<A: Allocator + Copy>(self, feature: &TrackRecord<'_, A>) -> bool
-        ensures { result ≡ is_in_group (is_apart self.side) self.rank (is_minus_side self.side) feature.now }
+        ensures { result ≡ is_in_group (is_apart self.side) self.seq (is_minus_side self.side) feature.now }
     {
-        feature.seq() == self.rank && self.side.has_strand(feature.strand())
+        feature.seq() == self.seq && self.side.has_strand(feature.strand())
     }
 
     /// Where its block with this start is kept.
     pub(crate) fn key(self, start: u32) -> Key
         ensures { result ≡ key_of self start }
     {
-        (self.rank, self.side.is_minus(), start)
+        (self.seq, self.side.is_minus(), start)
     }
 }
 
@@ -128,9 +125,9 @@ impl<'a, A: Allocator + Copy> Model for Members<'a, A> {
 
     ghost Value = { MembersLeft };
 
-    ghost view = { λ m. record { members = members_between m.group 0 m.to m.records; passed_records = length (between_on m.group.rank 0 m.to m.records) } };
+    ghost view = { λ m. record { members = members_between m.group 0 m.to m.records; passed_records = length (between_on m.group.seq 0 m.to m.records) } };
 
-    ghost invariant = { λ m. IsAhead m.group.rank m.records };
+    ghost invariant = { λ m. IsAhead m.group.seq m.records };
 }
 
 impl<'a, A: Allocator + Copy> Members<'a, A> {
@@ -142,14 +139,14 @@ impl<'a, A: Allocator + Copy> Members<'a, A> {
         to: u32,
         meter: &mut Meter,
     ) -> Members<'a, A>
-        ensures members { result ≡ record { members = members_between group from to track.now.records; passed_records = length (between_on group.rank from to track.now.records) } }
+        ensures members { result ≡ record { members = members_between group from to track.now.records; passed_records = length (between_on group.seq from to track.now.records) } }
         ensures ordered { AreInOrder track.now.records }
         ensures steps { TakesUpTo meter.old meter.new 1 }
     {
         // If the range is empty, a walk may not be able to begin at its start.
         let (from, to) = if from < to { (from, to) } else { (0, 0) };
         Members {
-            records: track.walk(group.rank, u64::from(from), meter),
+            records: track.walk(group.seq, u64::from(from), meter),
             group,
             to,
         }
@@ -163,7 +160,7 @@ impl<'a, A: Allocator + Copy> Members<'a, A> {
         ensures steps { TakesForEach meter.old meter.new self.old self.new (end_step result) }
     {
         while let Some(feature) = self.records.next(meter) {
-            if feature.seq() != self.group.rank || feature.start() >= u64::from(self.to) {
+            if feature.seq() != self.group.seq || feature.start() >= u64::from(self.to) {
                 return None;
             }
             if self.group.has(&feature) {

@@ -13,10 +13,10 @@ ghost use Rattle.iv_blocks.specs.Inside.Texts.{block_number};
 ///
 /// Each position of a gap has depth 0, each position of depth 0 is in a gap, and no two gaps touch or overlap.
 pub fn gaps_are_maximal()
-    ensures bare { (records : List RecordValue) (rank length : ℕ) (gap : Run) → Contains (empty_runs (depth records rank) 0 length) gap → (gap.start < gap.stop) × (gap.stop ≤ length) × ((p : ℕ) → gap.start ≤ p → p < gap.stop → depth records rank p ≡ 0) }
-    ensures all { (records : List RecordValue) (rank length p : ℕ) → p < length → depth records rank p ≡ 0 → (gap : Run) × Contains (empty_runs (depth records rank) 0 length) gap × (gap.start ≤ p) × (p < gap.stop) }
-    ensures apart { (records : List RecordValue) (rank length : ℕ) (a b : Run) → Contains (empty_runs (depth records rank) 0 length) a → Contains (empty_runs (depth records rank) 0 length) b → a.start < b.start → a.stop < b.start }
-    ensures once { (records : List RecordValue) (rank length : ℕ) (a b : Run) → Contains (empty_runs (depth records rank) 0 length) a → Contains (empty_runs (depth records rank) 0 length) b → a.start ≡ b.start → a ≡ b }
+    ensures bare { (records : List RecordValue) (seq length : ℕ) (gap : Run) → Contains (empty_runs (depth records seq) 0 length) gap → (gap.start < gap.stop) × (gap.stop ≤ length) × ((p : ℕ) → gap.start ≤ p → p < gap.stop → depth records seq p ≡ 0) }
+    ensures all { (records : List RecordValue) (seq length p : ℕ) → p < length → depth records seq p ≡ 0 → (gap : Run) × Contains (empty_runs (depth records seq) 0 length) gap × (gap.start ≤ p) × (p < gap.stop) }
+    ensures apart { (records : List RecordValue) (seq length : ℕ) (a b : Run) → Contains (empty_runs (depth records seq) 0 length) a → Contains (empty_runs (depth records seq) 0 length) b → a.start < b.start → a.stop < b.start }
+    ensures once { (records : List RecordValue) (seq length : ℕ) (a b : Run) → Contains (empty_runs (depth records seq) 0 length) a → Contains (empty_runs (depth records seq) 0 length) b → a.start ≡ b.start → a ≡ b }
 {}
 
 /// Two records of a cluster have one number exactly if they are in one block.

@@ -10,7 +10,6 @@ ghost use Rattle.iv_blocks.specs.Inside.Texts.{merge_text};
 
 use crate::block_ledger::BlockEntry;
 use crate::blocks::Blocks;
-use crate::group::FIRST_KEY;
 use iv_bytes::{Sink, WriteFault, put_pieces};
 use iv_lines::{Genome, RowBuffer};
 use iv_track::{Meter, Track};
@@ -31,10 +30,10 @@ impl<A: Allocator + Copy> Blocks<A> {
         ensures text { Puts (S.state sink.old) (S.state sink.new) result (merge_text self.now.options genome.now track.now.records) }
         ensures steps { TakesUpTo meter.old meter.new (2 + length (all_blocks self.now.options genome.now track.now.records)) }
     {
-        let mut walk = self.ledger.walk(&FIRST_KEY, meter);
+        let mut walk = self.ledger.walk_all(meter);
         while let Some(block) = walk.next(meter) {
-            let (sequence, _, _) = block.key;
-            let name = genome.name_or_empty(sequence);
+            let (seq, _, _) = block.key;
+            let name = genome.name_or_empty(seq);
             put_block(name, block, sink)?;
         }
         Ok(())

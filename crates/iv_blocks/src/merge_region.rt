@@ -48,18 +48,18 @@ impl<A: Allocator + Copy> Blocks<A> {
     {
         if !self.options.stranded {
             let both = Group {
-                rank: seq,
+                seq,
                 side: Side::Both,
             };
             return self.print_side_in(both, start, stop, track, genome, meter, sink);
         }
         let plus = Group {
-            rank: seq,
+            seq,
             side: Side::Plus,
         };
         self.print_side_in(plus, start, stop, track, genome, meter, sink)?;
         let minus = Group {
-            rank: seq,
+            seq,
             side: Side::Minus,
         };
         self.print_side_in(minus, start, stop, track, genome, meter, sink)
@@ -78,11 +78,11 @@ impl<A: Allocator + Copy> Blocks<A> {
     ) -> Result<(), WriteFault>
         requires right { AreBlocksOf self.now.options (names_of genome.now) track.now.records self.now.entries }
         requires fit { All (Fits genome.now track.now.width) track.now.records }
-        ensures text { Puts (S.state sink.old) (S.state sink.new) result (flat_map (block_row (sequence_name genome.now group.rank) (listed self.now.options.summaries))
-            (side_blocks_in self.now.options genome.now track.now.records group.rank start stop (is_minus group.side))) }
-        ensures steps { TakesUpTo meter.old meter.new (3 + length (side_blocks_in self.now.options genome.now track.now.records group.rank start stop (is_minus group.side))) }
+        ensures text { Puts (S.state sink.old) (S.state sink.new) result (flat_map (block_row (sequence_name genome.now group.seq) (listed self.now.options.summaries))
+            (side_blocks_in self.now.options genome.now track.now.records group.seq start stop (is_minus group.side))) }
+        ensures steps { TakesUpTo meter.old meter.new (3 + length (side_blocks_in self.now.options genome.now track.now.records group.seq start stop (is_minus group.side))) }
     {
-        let name = genome.name_or_empty(group.rank);
+        let name = genome.name_or_empty(group.seq);
         let low = self.reaching_from(group, start, track, genome, meter);
         let mut walk = self.ledger.walk(&group.key(low), meter);
         while let Some(block) = walk.next(meter) {
@@ -113,7 +113,7 @@ impl<A: Allocator + Copy> Blocks<A> {
         ensures steps { TakesUpTo meter.old meter.new 1 }
     {
         // No block starts past the end of its sequence.
-        let end = genome.length_u32(group.rank).unwrap_or(0);
+        let end = genome.length_u32(group.seq).unwrap_or(0);
         let last = u64::from(end).min(position) as u32;
         match self.before(group, last, meter) {
             Some((start, stop)) => {

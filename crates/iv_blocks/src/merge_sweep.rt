@@ -76,9 +76,9 @@ impl<'t, A: Allocator + Copy> MergeSweep<'t, A> {
         ensures same { self.new ≡ self.old }
     {
         let mut left = self.records.again();
-        for rank in 0..genome.count() {
-            let name = genome.name_or_empty(rank);
-            let (here, later) = left.split_sequence(rank);
+        for seq in 0..genome.count() {
+            let name = genome.name_or_empty(seq);
+            let (here, later) = left.split_sequence(seq);
             put_sequence(&self.options, name, &here, &mut self.values, sink)?;
             left = later;
         }

@@ -124,9 +124,9 @@ impl<A: Allocator + Copy> Blocks<A> {
         meter: &mut Meter,
     ) -> bool
         ensures covered { result ≡ true → StaysCovered self.now.options group track.now.records start stop }
-        ensures steps { TakesUpTo meter.old meter.new (2 + length (between_on group.rank start stop track.now.records)) }
+        ensures steps { TakesUpTo meter.old meter.new (2 + length (between_on group.seq start stop track.now.records)) }
     {
-        if !self.options.summaries.as_slice().is_empty() {
+        if self.ledger.has_results() {
             return false;
         }
         let mut members = Members::of(track, group, start, stop, meter);
@@ -154,23 +154,23 @@ impl<A: Allocator + Copy> Blocks<A> {
         &mut self,
         track: &Track<A>,
         genome: &Genome<A>,
-        rank: u32,
+        seq: u32,
         meter: &mut Meter,
     ) -> Result<(), AllocError>
         requires apart { self.old.options.stranded ≡ true }
         requires fit { All (Fits genome.now track.now.width) track.now.records }
-        ensures { OnOk result (AreInsertedOn rank (names_of genome.now) track.now.records self.old self.new) }
+        ensures { OnOk result (AreInsertedOn seq (names_of genome.now) track.now.records self.old self.new) }
     {
-        let length = genome.length_u32(rank).unwrap_or(0);
+        let length = genome.length_u32(seq).unwrap_or(0);
         // As if a record over the whole sequence had been taken out of a block of its own.
         let whole = (0, length);
         let plus = Group {
-            rank,
+            seq,
             side: Side::Plus,
         };
         self.split_block(track, genome, plus, whole, whole, meter)?;
         let minus = Group {
-            rank,
+            seq,
             side: Side::Minus,
         };
         self.split_block(track, genome, minus, whole, whole, meter)
@@ -195,7 +195,7 @@ impl<A: Allocator + Copy> Blocks<A> {
         requires fit { All (Fits genome.now track.now.width) track.now.records }
         requires rest { AreOthers self.old.options.distance block gone (members_between group block.0 block.1 track.now.records) }
         ensures ok { OnOk result (AreInserted group (names_of genome.now) (between block.0 block.1 track.now.records) self.old self.new) }
-        ensures steps { TakesUpTo meter.old meter.new (2 + 5 * length (between_on group.rank block.0 block.1 track.now.records)) }
+        ensures steps { TakesUpTo meter.old meter.new (2 + 5 * length (between_on group.seq block.0 block.1 track.now.records)) }
     {
         // The keys of the ledger ascend, even if nothing is inserted.
         let _ordered = self.ledger.len();
@@ -255,7 +255,7 @@ impl<A: Allocator + Copy> Blocks<A> {
         ensures err { OnErr result (self.new ≡ self.old) }
         ensures was_ordered { OnOk result (IsLedger key_cmp self.old.entries) }
         ensures ordered { OnOk result (IsLedger key_cmp self.new.entries) }
-        ensures steps { TakesUpTo meter.old meter.new (3 + length (between_on group.rank start stop track.now.records)) }
+        ensures steps { TakesUpTo meter.old meter.new (3 + length (between_on group.seq start stop track.now.records)) }
     {
         let block = self.kept_block(track, genome, group, start, stop, meter)?;
         self.ledger.put(group.key(start), block, meter)
@@ -273,16 +273,16 @@ impl<A: Allocator + Copy> Blocks<A> {
         stop: u32,
         meter: &mut Meter,
     ) -> Result<KeptBlock<A>, AllocError>
-        ensures value { IfOk result (λ b. b ≡ record { stop = stop; results = results_over (sequence_name genome.now group.rank) (listed self.now.options.summaries) (members_between group start stop track.now.records) }) }
-        ensures steps { TakesUpTo meter.old meter.new (2 + length (between_on group.rank start stop track.now.records)) }
+        ensures value { IfOk result (λ b. b ≡ record { stop = stop; results = results_over (sequence_name genome.now group.seq) (listed self.now.options.summaries) (members_between group start stop track.now.records) }) }
+        ensures steps { TakesUpTo meter.old meter.new (2 + length (between_on group.seq start stop track.now.records)) }
     {
-        let summaries = self.options.summaries.as_slice();
-        if summaries.is_empty() {
+        if !self.ledger.has_results() {
             return Ok(KeptBlock::plain(stop));
         }
         let members = Members::of(track, group, start, stop, meter);
         let records = gather(self.alloc, members, meter)?;
-        let name = genome.name_or_empty(group.rank);
+        let name = genome.name_or_empty(group.seq);
+        let summaries = self.options.summaries.as_slice();
         let results = results(self.alloc, summaries, name, records.as_slice())?;
         Ok(KeptBlock::copy_of(self.alloc, stop, results.as_slice())?)
     }
@@ -290,11 +290,11 @@ impl<A: Allocator + Copy> Blocks<A> {
 
 /// Start and stop of a block that is kept at a key, if it is one of the group.
 pub(crate) fn of_group(group: Group, key: Key, stop: u32) -> Option<(u32, u32)>
-    ensures { MatchOption result (key.0 ≡ group.rank → key.1 ≢ is_minus group.side)
+    ensures { MatchOption result (key.0 ≡ group.seq → key.1 ≢ is_minus group.side)
         (λ b. (key ≡ key_of group b.0) × (b.1 ≡ stop)) }
 {
-    let (rank, minus, start) = key;
-    if rank == group.rank && minus == group.side.is_minus() {
+    let (seq, minus, start) = key;
+    if seq == group.seq && minus == group.side.is_minus() {
         Some((start, stop))
     } else {
         None

@@ -182,9 +182,9 @@ impl<'s> BlocksAhead for SpanBlocks<'s> {
 
     ghost steps = { λ _. 0 };
 
-    fn next_until(&mut self, rank: u32, position: u64, _counter: &mut ()) -> Option<Block> {
-        let (sequence, start) = self.next_start()?;
-        if sequence > rank || (sequence == rank && u64::from(start) > position) {
+    fn next_until(&mut self, seq: u32, position: u64, _counter: &mut ()) -> Option<Block> {
+        let (next_seq, start) = self.next_start()?;
+        if next_seq > seq || (next_seq == seq && u64::from(start) > position) {
             return None;
         }
         self.next()

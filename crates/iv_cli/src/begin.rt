@@ -9,7 +9,7 @@ ghost use Rattle.iv_cli.specs.Loading.{loaded};
 
 use iv_args::Plan;
 use iv_lines::Record;
-use iv_run::{CliFault, HeldRecords, Inputs, LoadedFiles, ParsedFile, RunFiles, sound_files};
+use iv_run::{CliFault, HeldRecords, Inputs, ParsedFile, RunFiles, SoundFiles, sound_files};
 use iv_text::BedBatches;
 use iv_workspace::Session;
 use std::alloc::Allocator;
@@ -29,12 +29,12 @@ fn into_bed<A: Allocator + Copy>(file: Option<ParsedFile<Record<A>, A>>) -> Opti
 /// # Errors
 ///
 /// An allocation failed.
-fn session_of<A: Allocator + Copy>(files: LoadedFiles<Record<A>, A>) -> Result<Session<A>, CliFault>
+fn session_of<A: Allocator + Copy>(files: SoundFiles<Record<A>, A>) -> Result<Session<A>, CliFault>
     requires { files.limit ≤ most_records }
     ensures ok { IfOk result (λ session. session ≡ begun files.genome files.first files.second files.bases files.limit) }
     ensures err { IfErr result (λ fault. fault ≡ CliFault.Memory) }
 {
-    let LoadedFiles {
+    let SoundFiles {
         alloc,
         genome,
         first,
@@ -50,17 +50,17 @@ fn session_of<A: Allocator + Copy>(files: LoadedFiles<Record<A>, A>) -> Result<S
 pub fn begin_session<A: Allocator + Copy>(
     files: RunFiles<HeldRecords<Record<A>, A>, A>,
 ) -> Result<Session<A>, CliFault>
-    requires { files.on.limit ≤ most_records }
+    requires { files.run_genome.limit ≤ most_records }
     ensures { (sizes first : List ℕ) (second fasta_text : Option (List ℕ)) → AreOf (IsParsed (λ r. r)) AreAllWanted sizes first second fasta_text files
-        → IsReport result (loaded files.on.width sizes first second fasta_text files.on.limit) }
+        → IsReport result (loaded files.run_genome.width sizes first second fasta_text files.run_genome.limit) }
 {
     let RunFiles {
-        on,
+        run_genome,
         first,
         second,
         fasta,
     } = files;
-    session_of(sound_files(on, first, second, fasta)?)
+    session_of(sound_files(run_genome, first, second, fasta)?)
 }
 
 /// The session that the files of a run begin, with no view open, or the fault of the first damaged file, given the bytes of the files.

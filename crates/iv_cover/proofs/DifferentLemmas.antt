@@ -9,6 +9,7 @@ use Rattle.std.specs.Cmp.{tied_itself}
 use Rattle.std.specs.Cmp.Lexicographic.{slice_cmp, nat_list_cmp_total}
 use Rattle.std.proofs.lemmas.Map.Lookups.{exact_bytes}
 use Rattle.std.proofs.lemmas.List.Elements.{All-from_recursion, All-contains}
+use Rattle.iv_lines.proofs.OrderedLemmas.{all-weaker}
 use Rattle.iv_cover.specs.Summaries.{with_value, different}
 
 -- ---- members
@@ -83,10 +84,6 @@ all-with P x (y ∷ xs) p all = elim (cmp x y) as (λ r. AllByRecursion P (elim 
   | Equal ↦ all
   | Greater ↦ (all.0, all-with P x xs p all.1)
 ]
-
-all-weaker : (P Q : List ℕ → Type 0) → ((x : List ℕ) → P x → Q x) → (xs : List (List ℕ)) → AllByRecursion P xs → AllByRecursion Q xs
-all-weaker P Q f [] all = tt
-all-weaker P Q f (x ∷ xs) all = (f x all.0, all-weaker P Q f xs all.1)
 
 ascends-with : (x : List ℕ) (xs : List (List ℕ)) → Ascends xs → Ascends (with_value x xs)
 unfolding IsStrictlySortedBy

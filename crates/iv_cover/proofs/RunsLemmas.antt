@@ -75,7 +75,7 @@ runs-run f from mid to value low high same ends =
     EndsAt-from (suc n) h = h (omega arith)
 
 -- what tiles [from, to) begins at most at its end
-Tiles-le : (f : ℕ → ℕ) (from to : ℕ) (xs : List Run) → Tiles f from to xs → from ≤ to
+pub Tiles-le : (f : ℕ → ℕ) (from to : ℕ) (xs : List Run) → Tiles f from to xs → from ≤ to
 Tiles-le f from to [] h = omega arith
 Tiles-le f from to (x ∷ xs) h = let rest : x.stop ≤ to = Tiles-le f x.stop to xs h.4 in omega arith
 

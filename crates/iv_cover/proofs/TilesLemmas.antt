@@ -3,6 +3,7 @@ use Rattle.std.proofs.Common.{◌≡◌, ℕ, ◌<◌, ◌≤◌, List, [], ◌�
 use Rattle.std.proofs.lemmas.Bool.{cases_lt}
 use Rattle.iv_cover.specs.Runs.{Run, BeginsOther, Tiles}
 use Rattle.iv_lines.proofs.ListLemmas.{Mem}
+use Rattle.iv_cover.proofs.RunsLemmas.{Tiles-le}
 
 -- each position is in a run
 pub tiles-position : (f : ℕ → ℕ) (from to p : ℕ) (xs : List Run) → Tiles f from to xs → from ≤ p → p < to
@@ -22,16 +23,12 @@ tiles-run f from to [] run t m = absurd m
 tiles-run f from to (x ∷ xs) run t (inl is) = subst (λ (r : Run). (p : ℕ) → r.start ≤ p → p < r.stop → f p ≡ r.value) is t.2
 tiles-run f from to (x ∷ xs) run t (inr m) = tiles-run f x.stop to xs run t.4 m
 
-tiles-end : (f : ℕ → ℕ) (from to : ℕ) (xs : List Run) → Tiles f from to xs → from ≤ to
-tiles-end f from to [] t = omega (arith, t)
-tiles-end f from to (x ∷ xs) t = omega (arith, t.0, t.1, tiles-end f x.stop to xs t.4)
-
 -- a run has a position, and is within what is tiled
 pub tiles-bounds : (f : ℕ → ℕ) (from to : ℕ) (xs : List Run) (run : Run) → Tiles f from to xs → Mem run xs
     → (from ≤ run.start) × (run.start < run.stop) × (run.stop ≤ to)
 tiles-bounds f from to [] run t m = absurd m
 tiles-bounds f from to (x ∷ xs) run t (inl is) =
-    let ends = tiles-end f x.stop to xs t.4 in
+    let ends = Tiles-le f x.stop to xs t.4 in
     subst (λ (r : Run). (from ≤ r.start) × (r.start < r.stop) × (r.stop ≤ to)) is (omega (arith, t.0), t.1, ends)
 tiles-bounds f from to (x ∷ xs) run t (inr m) =
     let rest = tiles-bounds f x.stop to xs run t.4 m in

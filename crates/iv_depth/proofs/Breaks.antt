@@ -85,12 +85,12 @@ Follows-end f from value follows q low =
 
 -- ---- the changes of one sequence are its breaks
 
-pub level-on : (rank : ℕ) (entries : Entries) (p : ℕ) → level (on rank entries) p ≡ total (reaches rank p) entries
-level-on rank [] p = refl
-level-on rank (e ∷ entries) p = go (eqb e.0.0 rank) refl (level-on rank entries p)
+pub level-on : (seq : ℕ) (entries : Entries) (p : ℕ) → level (on seq entries) p ≡ total (reaches seq p) entries
+level-on seq [] p = refl
+level-on seq (e ∷ entries) p = go (eqb e.0.0 seq) refl (level-on seq entries p)
   where
-    go : (b : Bool) → eqb e.0.0 rank ≡ b → level (on rank entries) p ≡ total (reaches rank p) entries
-        → level (on rank (e ∷ entries)) p ≡ total (reaches rank p) (e ∷ entries)
+    go : (b : Bool) → eqb e.0.0 seq ≡ b → level (on seq entries) p ≡ total (reaches seq p) entries
+        → level (on seq (e ∷ entries)) p ≡ total (reaches seq p) (e ∷ entries)
     go true is rest = rw is (ap (λ (z : ℤ). (if leb e.0.1 p then e.1 else pos 0) +ℤ z) rest)
     go false is rest = rw is (omega (arith, ints, rest))
 
@@ -126,54 +126,54 @@ AreBreaks-rising from to value (b ∷ breaks) h low same = go (cases_lt to b.0)
         let before : level (b ∷ breaks) q ≡ pos 0 = level-unrisen b.0 (b ∷ breaks) q (omega arith, h.1, h.2) (omega arith) in
         absurd (h.1 (omega (arith, ints, at, none, before, same q (omega arith))))
 
-above : (rank : ℕ) (key next : ChangeKey) → key.0 ≡ rank → next.0 ≡ rank → pair_cmp key next ≡ Less → key.1 < next.1
-above rank key next p n h =
-    let tied : nat_cmp rank rank ≡ Equal = tied_itself nat_cmp_total rank in
+above : (seq : ℕ) (key next : ChangeKey) → key.0 ≡ seq → next.0 ≡ seq → pair_cmp key next ≡ Less → key.1 < next.1
+above seq key next p n h =
+    let tied : nat_cmp seq seq ≡ Equal = tied_itself nat_cmp_total seq in
     let by_position : nat_cmp key.1 next.1 ≡ Less = rw (p, n, tied) at h in
     ranked key.1 next.1 Less (sym by_position)
 
-Rising-past : (rank : ℕ) (key : ChangeKey) (entries : Entries) → key.0 ≡ rank
+Rising-past : (seq : ℕ) (key : ChangeKey) (entries : Entries) → key.0 ≡ seq
     → AllByRecursion (λ next. pair_cmp key next ≡ Less) (keys_of entries) → IsLedger pair_cmp entries
-    → All (λ z. z ≢ pos 0) (values_of entries) → Rising (key.1 + 1) (on rank entries)
+    → All (λ z. z ≢ pos 0) (values_of entries) → Rising (key.1 + 1) (on seq entries)
 unfolding IsStrictlySortedBy
-Rising-past rank key [] at later sorted changes = tt
-Rising-past rank key (e ∷ entries) at later sorted changes =
+Rising-past seq key [] at later sorted changes = tt
+Rising-past seq key (e ∷ entries) at later sorted changes =
     let tail = All-tail (λ (z : ℤ). z ≢ pos 0) e.1 (values_of entries) changes in
-    let skip = Rising-past rank key entries at later.1 sorted.1 tail in
-    let cases = eqb_tells e.0.0 rank in
+    let skip = Rising-past seq key entries at later.1 sorted.1 tail in
+    let cases = eqb_tells e.0.0 seq in
     elim cases [
-      | inl here ↦ rw here.0 (let less = above rank key e.0 at here.1 later.0 in (
+      | inl here ↦ rw here.0 (let less = above seq key e.0 at here.1 later.0 in (
         omega (arith, less),
         All-head (λ (z : ℤ). z ≢ pos 0) e.1 (values_of entries) changes,
-        Rising-past rank e.0 entries here.1 sorted.0 sorted.1 tail,
+        Rising-past seq e.0 entries here.1 sorted.0 sorted.1 tail,
       ))
       | inr off ↦ rw off.0 skip
     ]
 
-Rising-on : (rank : ℕ) (entries : Entries) → IsLedger pair_cmp entries
-    → All (λ z. z ≢ pos 0) (values_of entries) → Rising 0 (on rank entries)
+Rising-on : (seq : ℕ) (entries : Entries) → IsLedger pair_cmp entries
+    → All (λ z. z ≢ pos 0) (values_of entries) → Rising 0 (on seq entries)
 unfolding IsStrictlySortedBy
-Rising-on rank [] sorted changes = tt
-Rising-on rank (e ∷ entries) sorted changes =
+Rising-on seq [] sorted changes = tt
+Rising-on seq (e ∷ entries) sorted changes =
     let tail = All-tail (λ (z : ℤ). z ≢ pos 0) e.1 (values_of entries) changes in
-    let skip = Rising-on rank entries sorted.1 tail in
-    let cases = eqb_tells e.0.0 rank in
+    let skip = Rising-on seq entries sorted.1 tail in
+    let cases = eqb_tells e.0.0 seq in
     elim cases [
       | inl here ↦ rw here.0 (
         omega arith,
         All-head (λ (z : ℤ). z ≢ pos 0) e.1 (values_of entries) changes,
-        Rising-past rank e.0 entries here.1 sorted.0 sorted.1 tail,
+        Rising-past seq e.0 entries here.1 sorted.0 sorted.1 tail,
       )
       | inr off ↦ rw off.0 skip
     ]
 
 -- they are breaks up to where the sum is 0 for good
-pub AreBreaks-on : (rank to : ℕ) (entries : Entries) → IsLedger pair_cmp entries → All (λ z. z ≢ pos 0) (values_of entries)
-    → ((p : ℕ) → to ≤ p → total (reaches rank p) entries ≡ pos 0) → AreBreaks 0 to (on rank entries)
-AreBreaks-on rank to entries sorted changes ends =
-    AreBreaks-rising 0 to (pos 0) (on rank entries) (Rising-on rank entries sorted changes) (omega arith)
-    (λ p past. level-on rank entries p ∙ ends p past)
+pub AreBreaks-on : (seq to : ℕ) (entries : Entries) → IsLedger pair_cmp entries → All (λ z. z ≢ pos 0) (values_of entries)
+    → ((p : ℕ) → to ≤ p → total (reaches seq p) entries ≡ pos 0) → AreBreaks 0 to (on seq entries)
+AreBreaks-on seq to entries sorted changes ends =
+    AreBreaks-rising 0 to (pos 0) (on seq entries) (Rising-on seq entries sorted changes) (omega arith)
+    (λ p past. level-on seq entries p ∙ ends p past)
 
-pub Follows-on : (rank : ℕ) (f : ℕ → ℕ) (entries : Entries) → ((p : ℕ) → total (reaches rank p) entries ≡ pos (f p))
-    → Follows f 0 (pos 0) (on rank entries)
-Follows-on rank f entries depths p low = omega (arith, ints, depths p, level-on rank entries p)
+pub Follows-on : (seq : ℕ) (f : ℕ → ℕ) (entries : Entries) → ((p : ℕ) → total (reaches seq p) entries ≡ pos (f p))
+    → Follows f 0 (pos 0) (on seq entries)
+Follows-on seq f entries depths p low = omega (arith, ints, depths p, level-on seq entries p)

@@ -75,10 +75,10 @@ module _ {K : Type 0} (passes : K → Bool) where
           rw is (omega (arith, ints, rest))
 
 -- a change at a record's start and the opposite one at its stop change the sums at the positions that it covers
-shifted : (r : RecordValue) (rank p : ℕ) (by back : ℤ) → r.start < r.stop → back +ℤ by ≡ pos 0
-    → (if reaches rank p (r.seq, r.start) then by else pos 0) +ℤ (if reaches rank p (r.seq, r.stop) then back else pos 0)
-    ≡ (if covers rank p r then by else pos 0)
-shifted r rank p by back h none = go (eqb r.seq rank) (cases_lt p r.start) (cases_lt p r.stop)
+shifted : (r : RecordValue) (seq p : ℕ) (by back : ℤ) → r.start < r.stop → back +ℤ by ≡ pos 0
+    → (if reaches seq p (r.seq, r.start) then by else pos 0) +ℤ (if reaches seq p (r.seq, r.stop) then back else pos 0)
+    ≡ (if covers seq p r then by else pos 0)
+shifted r seq p by back h none = go (eqb r.seq seq) (cases_lt p r.start) (cases_lt p r.stop)
   where
     go : (on_s : Bool) → (p < r.start) ⊎ (r.start ≤ p) → (p < r.stop) ⊎ (r.stop ≤ p)
         → (if on_s && leb r.start p then by else pos 0) +ℤ (if on_s && leb r.stop p then back else pos 0)
@@ -89,16 +89,16 @@ shifted r rank p by back h none = go (eqb r.seq rank) (cases_lt p r.start) (case
     go true (inr since) (inr past) = rw (le-leb r.start p since, le-leb r.stop p past, le-ltb p r.stop past) (omega (arith, ints, none))
 
 -- such two changes
-pub Shifts-of : (r : RecordValue) (by back : ℤ) (entries between after : Entries) (rank stop : ℕ) → r.start < r.stop
-    → Bumps entries between (r.seq, r.start) by → Bumps between after (rank, stop) back → rank ≡ r.seq → stop ≡ r.stop → back +ℤ by ≡ pos 0
+pub Shifts-of : (r : RecordValue) (by back : ℤ) (entries between after : Entries) (seq stop : ℕ) → r.start < r.stop
+    → Bumps entries between (r.seq, r.start) by → Bumps between after (seq, stop) back → seq ≡ r.seq → stop ≡ r.stop → back +ℤ by ≡ pos 0
     → Shifts r by entries after
-Shifts-of r by back entries between after rank stop h first last same_rank same_stop none =
+Shifts-of r by back entries between after seq stop h first last same_rank same_stop none =
     let second : Bumps between after (r.seq, r.stop) back = rw (← same_rank, ← same_stop) last in record {
       ordered = second.ordered;
       changes = λ all. second.changes (first.changes all);
-      sums = λ rank p.
-          let e = shifted r rank p by back h none in
-          omega (arith, ints, first.sums (reaches rank p), second.sums (reaches rank p), e);
+      sums = λ seq p.
+          let e = shifted r seq p by back h none in
+          omega (arith, ints, first.sums (reaches seq p), second.sums (reaches seq p), e);
     }
 
 -- one more at each position that a record covers is one more record
@@ -107,7 +107,7 @@ pub AreChangesOf-added : (r : RecordValue) (records : List RecordValue) (entries
 AreChangesOf-added r records entries after shift old = record {
   ordered = shift.ordered;
   changes = shift.changes old.changes;
-  depths = λ rank p. more (covers rank p r) _ _ _ _ (old.depths rank p) (shift.sums rank p) (depth-cons r records rank p);
+  depths = λ seq p. more (covers seq p r) _ _ _ _ (old.depths seq p) (shift.sums seq p) (depth-cons r records seq p);
 }
   where
     more : (here : Bool) (a b : ℤ) (n m : ℕ) → a ≡ pos n → b ≡ a +ℤ (if here then pos 1 else pos 0) → m ≡ cond here 1 0 + n → b ≡ pos m
@@ -120,7 +120,7 @@ pub AreChangesOf-removed : (r : RecordValue) (records : List RecordValue) (entri
 AreChangesOf-removed r records entries after shift old = record {
   ordered = shift.ordered;
   changes = shift.changes old.changes;
-  depths = λ rank p. less (covers rank p r) _ _ _ _ (old.depths rank p) (shift.sums rank p) (depth-cons r records rank p);
+  depths = λ seq p. less (covers seq p r) _ _ _ _ (old.depths seq p) (shift.sums seq p) (depth-cons r records seq p);
 }
   where
     less : (here : Bool) (a b : ℤ) (n m : ℕ) → a ≡ pos m → b ≡ a +ℤ (if here then negsuc 0 else pos 0) → m ≡ cond here 1 0 + n → b ≡ pos n

@@ -92,22 +92,22 @@ breaks-few f to breaks h follows past = omega (arith, breaks-le f 0 to (pos 0) b
 
 -- how many entries are on so many sequences from this rank on
 abbrev counted : Entries → ℕ → ℕ → ℕ
-counted entries rank zero = 0
-counted entries rank (suc n) = length (on rank entries) + counted entries (rank + 1) n
+counted entries seq zero = 0
+counted entries seq (suc n) = length (on seq entries) + counted entries (seq + 1) n
 
-counted-off : (e : ChangeKey × ℤ) (entries : Entries) (rank n : ℕ) → e.0.0 < rank → counted (e ∷ entries) rank n ≡ counted entries rank n
-counted-off e entries rank zero low = refl
-counted-off e entries rank (suc n) low =
-    let off : eqb e.0.0 rank ≡ false = ne_eqb e.0.0 rank (λ is. absurd (omega (arith, is))) in
-    rw (off, counted-off e entries (rank + 1) n (omega arith)) refl
+counted-off : (e : ChangeKey × ℤ) (entries : Entries) (seq n : ℕ) → e.0.0 < seq → counted (e ∷ entries) seq n ≡ counted entries seq n
+counted-off e entries seq zero low = refl
+counted-off e entries seq (suc n) low =
+    let off : eqb e.0.0 seq ≡ false = ne_eqb e.0.0 seq (λ is. absurd (omega (arith, is))) in
+    rw (off, counted-off e entries (seq + 1) n (omega arith)) refl
 
-counted-one : (e : ChangeKey × ℤ) (entries : Entries) (rank n : ℕ) → rank ≤ e.0.0 → e.0.0 < rank + n → counted (e ∷ entries) rank n ≡ 1 + counted entries rank n
-counted-one e entries rank zero low high = absurd (omega arith)
-counted-one e entries rank (suc n) low high =
-    let cases = eqb_tells e.0.0 rank in
+counted-one : (e : ChangeKey × ℤ) (entries : Entries) (seq n : ℕ) → seq ≤ e.0.0 → e.0.0 < seq + n → counted (e ∷ entries) seq n ≡ 1 + counted entries seq n
+counted-one e entries seq zero low high = absurd (omega arith)
+counted-one e entries seq (suc n) low high =
+    let cases = eqb_tells e.0.0 seq in
     elim cases [
-      | inl here ↦ rw (here.0, counted-off e entries (rank + 1) n (omega (arith, here.1))) (omega arith)
-      | inr off ↦ rw (off.0, counted-one e entries (rank + 1) n (omega (arith, off.1)) (omega arith)) (omega arith)
+      | inl here ↦ rw (here.0, counted-off e entries (seq + 1) n (omega (arith, here.1))) (omega arith)
+      | inr off ↦ rw (off.0, counted-one e entries (seq + 1) n (omega (arith, off.1)) (omega arith)) (omega arith)
     ]
 
 counted-all : (entries : Entries) (n : ℕ) → AllByRecursion (λ e. e.0.0 < n) entries → length entries ≤ counted entries 0 n
@@ -117,14 +117,14 @@ counted-all (e ∷ entries) n h =
     let rest = counted-all entries n h.1 in
     omega (arith, one, rest)
 
-counted-few : (entries : Entries) (found : ℕ → List Run) (rank n : ℕ) → ((s : ℕ) → length (on s entries) ≤ 2 * length (found s))
-    → counted entries rank n ≤ 2 * length (flat_map found (range_with_len rank n))
-counted-few entries found rank zero few = omega arith
-counted-few entries found rank (suc n) few =
-    let rest = counted-few entries found (rank + 1) n few in
-    let long : length (found rank ++ flat_map found (range_with_len (rank + 1) n)) ≡ length (found rank) + length (flat_map found (range_with_len (rank + 1) n))
-    = length-append (found rank) (flat_map found (range_with_len (rank + 1) n)) in
-    omega (arith, rest, few rank, long)
+counted-few : (entries : Entries) (found : ℕ → List Run) (seq n : ℕ) → ((s : ℕ) → length (on s entries) ≤ 2 * length (found s))
+    → counted entries seq n ≤ 2 * length (flat_map found (range_with_len seq n))
+counted-few entries found seq zero few = omega arith
+counted-few entries found seq (suc n) few =
+    let rest = counted-few entries found (seq + 1) n few in
+    let long : length (found seq ++ flat_map found (range_with_len (seq + 1) n)) ≡ length (found seq) + length (flat_map found (range_with_len (seq + 1) n))
+    = length-append (found seq) (flat_map found (range_with_len (seq + 1) n)) in
+    omega (arith, rest, few seq, long)
 
 -- entries of no later sequence are all of these
 ranks-low : (entries : Entries) (n : ℕ) → ((s : ℕ) → n ≤ s → length (on s entries) ≡ 0) → AllByRecursion (λ e. e.0.0 < n) entries

@@ -32,27 +32,27 @@ use Rattle.iv_depth.proofs.Counts.{breaks-few, entries-few}
 -- ---- the depth is the same whatever the order of the records
 
 -- the changes of records are those of others of the same depth
-AreChangesOf-same : (xs ys : List RecordValue) (entries : Entries) → ((rank p : ℕ) → depth ys rank p ≡ depth xs rank p) → AreChangesOf xs entries → AreChangesOf ys entries
+AreChangesOf-same : (xs ys : List RecordValue) (entries : Entries) → ((seq p : ℕ) → depth ys seq p ≡ depth xs seq p) → AreChangesOf xs entries → AreChangesOf ys entries
 AreChangesOf-same xs ys entries same h = record {
   ordered = h.ordered;
   changes = h.changes;
-  depths = λ rank p. h.depths rank p ∙ ap pos (sym (same rank p));
+  depths = λ seq p. h.depths seq p ∙ ap pos (sym (same seq p));
 }
 
-depth-with : (records : List RecordValue) (r : RecordValue) (rank p : ℕ) → depth (added records r) rank p ≡ depth (r ∷ records) rank p
-depth-with [] r rank p = refl
-depth-with (q ∷ records) r rank p = go (is_le (record_cmp r q)) refl (depth-with records r rank p)
+depth-with : (records : List RecordValue) (r : RecordValue) (seq p : ℕ) → depth (added records r) seq p ≡ depth (r ∷ records) seq p
+depth-with [] r seq p = refl
+depth-with (q ∷ records) r seq p = go (is_le (record_cmp r q)) refl (depth-with records r seq p)
   where
-    go : (b : Bool) → is_le (record_cmp r q) ≡ b → depth (added records r) rank p ≡ depth (r ∷ records) rank p → depth (added (q ∷ records) r) rank p ≡ depth (r ∷ q ∷ records) rank p
+    go : (b : Bool) → is_le (record_cmp r q) ≡ b → depth (added records r) seq p ≡ depth (r ∷ records) seq p → depth (added (q ∷ records) r) seq p ≡ depth (r ∷ q ∷ records) seq p
     go true is rest = rw is refl
     go false is rest =
-        let kept : depth (q ∷ added records r) rank p ≡ depth (r ∷ q ∷ records) rank p = omega (
+        let kept : depth (q ∷ added records r) seq p ≡ depth (r ∷ q ∷ records) seq p = omega (
           arith,
           rest,
-          depth-cons q (added records r) rank p,
-          depth-cons r records rank p,
-          depth-cons r (q ∷ records) rank p,
-          depth-cons q records rank p,
+          depth-cons q (added records r) seq p,
+          depth-cons r records seq p,
+          depth-cons r (q ∷ records) seq p,
+          depth-cons q records seq p,
         ) in
         rw is kept
 
@@ -61,85 +61,85 @@ pub AreChangesOf-placed : (records : List RecordValue) (r : RecordValue) (entrie
 AreChangesOf-placed records r entries h = AreChangesOf-same (r ∷ records) (added records r) entries (depth-with records r) h
 
 pub AreChangesOf-in_front : (records : List RecordValue) (r : RecordValue) (entries : Entries) → AreChangesOf (added records r) entries → AreChangesOf (r ∷ records) entries
-AreChangesOf-in_front records r entries h = AreChangesOf-same (added records r) (r ∷ records) entries (λ rank p. sym (depth-with records r rank p)) h
+AreChangesOf-in_front records r entries h = AreChangesOf-same (added records r) (r ∷ records) entries (λ seq p. sym (depth-with records r seq p)) h
 
 -- ---- the depth of records on a genome
 
 -- past the stops there is no depth
-depth-past : (records : List RecordValue) (rank to p : ℕ) → All (λ r. r.seq ≡ rank → r.stop ≤ to) records → to ≤ p → depth records rank p ≡ 0
-depth-past [] rank to p fit past = refl
-depth-past (r ∷ records) rank to p fit past =
-    let rest : depth records rank p ≡ 0 = depth-past records rank to p (All-tail (λ (r : RecordValue). r.seq ≡ rank → r.stop ≤ to) r records fit) past in
-    let first : r.seq ≡ rank → r.stop ≤ to = All-head (λ (r : RecordValue). r.seq ≡ rank → r.stop ≤ to) r records fit in
-    let cases = eqb_tells r.seq rank in
-    let none : cond {A = ℕ} (covers rank p r) 1 0 ≡ 0 = elim cases [
+depth-past : (records : List RecordValue) (seq to p : ℕ) → All (λ r. r.seq ≡ seq → r.stop ≤ to) records → to ≤ p → depth records seq p ≡ 0
+depth-past [] seq to p fit past = refl
+depth-past (r ∷ records) seq to p fit past =
+    let rest : depth records seq p ≡ 0 = depth-past records seq to p (All-tail (λ (r : RecordValue). r.seq ≡ seq → r.stop ≤ to) r records fit) past in
+    let first : r.seq ≡ seq → r.stop ≤ to = All-head (λ (r : RecordValue). r.seq ≡ seq → r.stop ≤ to) r records fit in
+    let cases = eqb_tells r.seq seq in
+    let none : cond {A = ℕ} (covers seq p r) 1 0 ≡ 0 = elim cases [
       | inl here ↦ let stops : r.stop ≤ to = first here.1 in
           rw (here.0, le-ltb p r.stop (omega arith)) (cond-and_false (leb r.start p))
       | inr off ↦ rw off.0 refl
     ] in
-    omega (arith, depth-cons r records rank p)
+    omega (arith, depth-cons r records seq p)
   where
     cond-and_false : (b : Bool) → cond {A = ℕ} (b && false) 1 0 ≡ 0
     cond-and_false true = refl
     cond-and_false false = refl
 
-pub depth-ends : (g : Sequences) (records : List RecordValue) → All (IsOnGenome g) records → (rank p : ℕ) → sequence_length g rank ≤ p → depth records rank p ≡ 0
-depth-ends g records on_genome rank p past = depth-past records rank (sequence_length g rank) p
+pub depth-ends : (g : Sequences) (records : List RecordValue) → All (IsOnGenome g) records → (seq p : ℕ) → sequence_length g seq ≤ p → depth records seq p ≡ 0
+depth-ends g records on_genome seq p past = depth-past records seq (sequence_length g seq) p
     (λ k d within is. subst (λ (s : ℕ). (get_or records k d).stop ≤ sequence_length g s) is (on_genome k d within).within.1) past
 
-any-rank : (entries : Entries) → AllByRecursion (λ e. 0 ≤ e.0.0) entries
-any-rank [] = tt
-any-rank (e ∷ entries) = (omega arith, any-rank entries)
+any-seq : (entries : Entries) → AllByRecursion (λ e. 0 ≤ e.0.0) entries
+any-seq [] = tt
+any-seq (e ∷ entries) = (omega arith, any-seq entries)
 
 module _ (g : Sequences) (width : ℕ) (records : List RecordValue) (entries : Entries) (fit : All (Fits g width) records) (h : AreChangesOf records entries) where
-  pub depth-by : (rank p : ℕ) → depth_by entries rank p ≡ depth records rank p
-  depth-by rank p = ap nat_abs (h.depths rank p)
+  pub depth-by : (seq p : ℕ) → depth_by entries seq p ≡ depth records seq p
+  depth-by seq p = ap nat_abs (h.depths seq p)
 
-  ends : (rank p : ℕ) → sequence_length g rank ≤ p → depth records rank p ≡ 0
+  ends : (seq p : ℕ) → sequence_length g seq ≤ p → depth records seq p ≡ 0
   ends = depth-ends g records (λ k d within. (fit k d within).is_placed)
 
   -- all of them are ahead of a print
   pub AreAhead-of : length records < 2 ^ 32 → AreAhead g (depth_by entries) 0 0 0 entries
-  AreAhead-of few = AreAhead-begin g (depth_by entries) 0 entries h.ordered h.changes (any-rank entries)
-      (λ rank p low. h.depths rank p ∙ ap pos (sym (depth-by rank p)))
-      (λ rank p. let low : depth records rank p ≤ length records = count_by-le-length (covers rank p) records in omega (arith, depth-by rank p, low))
-      (λ rank p past. depth-by rank p ∙ ends rank p past)
+  AreAhead-of few = AreAhead-begin g (depth_by entries) 0 entries h.ordered h.changes (any-seq entries)
+      (λ seq p low. h.depths seq p ∙ ap pos (sym (depth-by seq p)))
+      (λ seq p. let low : depth records seq p ≤ length records = count_by-le-length (covers seq p) records in omega (arith, depth-by seq p, low))
+      (λ seq p past. depth-by seq p ∙ ends seq p past)
 
   -- the text by changes is that of the definition
   pub text-of : (output : DepthOutput) → text_by output g (depth_by entries) ≡ depth_text output g records
-  text-of output = ap (text_by output g) (λ k rank p. depth-by rank p k)
+  text-of output = ap (text_by output g) (λ k seq p. depth-by seq p k)
 
   -- those of one sequence
-  pub AreChangesOn-of : length records < 2 ^ 32 → (rank : ℕ) → AreChangesOn (depth_by entries rank) rank (sequence_length g rank) entries
-  AreChangesOn-of few rank = record {
+  pub AreChangesOn-of : length records < 2 ^ 32 → (seq : ℕ) → AreChangesOn (depth_by entries seq) seq (sequence_length g seq) entries
+  AreChangesOn-of few seq = record {
     ordered = h.ordered;
     changes = h.changes;
-    depths = λ p. h.depths rank p ∙ ap pos (sym (depth-by rank p));
-    small = λ p. let low : depth records rank p ≤ length records = count_by-le-length (covers rank p) records in omega (arith, depth-by rank p, low);
-    ends = λ p past. depth-by rank p ∙ ends rank p past;
+    depths = λ p. h.depths seq p ∙ ap pos (sym (depth-by seq p));
+    small = λ p. let low : depth records seq p ≤ length records = count_by-le-length (covers seq p) records in omega (arith, depth-by seq p, low);
+    ends = λ p past. depth-by seq p ∙ ends seq p past;
   }
 
-  pub text_in-of : (output : DepthOutput) (rank start stop : ℕ)
-      → rows_in output (sequence_name g rank) (depth_by entries rank) (sequence_length g rank) start stop ≡ depth_text_in output g records rank start stop
-  text_in-of output rank start stop = ap (λ (f : ℕ → ℕ). rows_in output (sequence_name g rank) f (sequence_length g rank) start stop) (λ k p. depth-by rank p k)
+  pub text_in-of : (output : DepthOutput) (seq start stop : ℕ)
+      → rows_in output (sequence_name g seq) (depth_by entries seq) (sequence_length g seq) start stop ≡ depth_text_in output g records seq start stop
+  text_in-of output seq start stop = ap (λ (f : ℕ → ℕ). rows_in output (sequence_name g seq) f (sequence_length g seq) start stop) (λ k p. depth-by seq p k)
 
-  pub covered_in-of : (rank start stop : ℕ)
-      → length (covered_runs_in (depth_by entries rank) (sequence_length g rank) start stop) ≡ length (covered_runs_in (depth records rank) (sequence_length g rank) start stop)
-  covered_in-of rank start stop = ap (λ (f : ℕ → ℕ). length (covered_runs_in f (sequence_length g rank) start stop)) (λ k p. depth-by rank p k)
+  pub covered_in-of : (seq start stop : ℕ)
+      → length (covered_runs_in (depth_by entries seq) (sequence_length g seq) start stop) ≡ length (covered_runs_in (depth records seq) (sequence_length g seq) start stop)
+  covered_in-of seq start stop = ap (λ (f : ℕ → ℕ). length (covered_runs_in f (sequence_length g seq) start stop)) (λ k p. depth-by seq p k)
 
   -- two changes for each row of a depth above 0
   pub entries-of : length entries ≤ 2 * length (all_covered_runs g records)
-  entries-of = entries-few entries (λ rank. covered_runs (depth records rank) 0 (sequence_length g rank)) (seq_count g)
-      (λ rank. breaks-few (depth records rank) (sequence_length g rank) (on rank entries)
-      (AreBreaks-on rank (sequence_length g rank) entries h.ordered h.changes (λ p past. h.depths rank p ∙ ap pos (ends rank p past)))
-      (Follows-on rank (depth records rank) entries (h.depths rank)) (ends rank))
-      (λ rank high.
-      let none : (p : ℕ) → 0 ≤ p → depth records rank p ≡ 0 = λ p past. depth-past records rank 0 p
+  entries-of = entries-few entries (λ seq. covered_runs (depth records seq) 0 (sequence_length g seq)) (seq_count g)
+      (λ seq. breaks-few (depth records seq) (sequence_length g seq) (on seq entries)
+      (AreBreaks-on seq (sequence_length g seq) entries h.ordered h.changes (λ p past. h.depths seq p ∙ ap pos (ends seq p past)))
+      (Follows-on seq (depth records seq) entries (h.depths seq)) (ends seq))
+      (λ seq high.
+      let none : (p : ℕ) → 0 ≤ p → depth records seq p ≡ 0 = λ p past. depth-past records seq 0 p
       (λ k d within is. let low : (get_or records k d).seq < length g = (fit k d within).is_placed.within.0 in absurd (omega (arith, low, is))) past in
-      let few : length (on rank entries) ≤ 2 * length (covered_runs (depth records rank) 0 0) = breaks-few (depth records rank) 0 (on rank entries)
-      (AreBreaks-on rank 0 entries h.ordered h.changes (λ p past. h.depths rank p ∙ ap pos (none p past)))
-      (Follows-on rank (depth records rank) entries (h.depths rank)) none in
-      let empty : length (covered_runs (depth records rank) 0 0) ≡ 0 = rw (runs-none (depth records rank) 0 0 (omega arith)) refl in
+      let few : length (on seq entries) ≤ 2 * length (covered_runs (depth records seq) 0 0) = breaks-few (depth records seq) 0 (on seq entries)
+      (AreBreaks-on seq 0 entries h.ordered h.changes (λ p past. h.depths seq p ∙ ap pos (none p past)))
+      (Follows-on seq (depth records seq) entries (h.depths seq)) none in
+      let empty : length (covered_runs (depth records seq) 0 0) ≡ 0 = rw (runs-none (depth records seq) 0 0 (omega arith)) refl in
       omega (arith, few, empty))
 
 -- ---- before an edit

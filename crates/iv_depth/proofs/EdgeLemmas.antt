@@ -180,14 +180,14 @@ module _ (f : ℕ → ℕ) (from limit depth : ℕ) (edges : Remaining) (ahead :
   IsAhead-end none q low = omega (arith, ints, ahead.depths q low, none (λ n. nat_le n q))
 
 -- so the next change of numbers is that of the depth
-pub Gives-next : (rank : ℕ) (old : Remaining) (o : Option (ℕ × ℤ)) (new : Remaining) → GivesChange old o new
-    → Gives (λ edges g f rank from d. IsAhead (f rank) from (sequence_length g rank) d edges) (λ _ _ _ _. Unit {0}) rank old o new
-Gives-next rank old (Some c) new gives = λ g f from d ahead.
+pub Gives-next : (seq : ℕ) (old : Remaining) (o : Option (ℕ × ℤ)) (new : Remaining) → GivesChange old o new
+    → Gives (λ edges g f seq from d. IsAhead (f seq) from (sequence_length g seq) d edges) (λ _ _ _ _. Unit {0}) seq old o new
+Gives-next seq old (Some c) new gives = λ g f from d ahead.
     let takes = gives from ahead.rise in (
-      IsChange-next (f rank) from (sequence_length g rank) d old ahead c.0 c.1 new takes,
-      IsAhead-next (f rank) from (sequence_length g rank) d old ahead c.0 c.1 new takes,
+      IsChange-next (f seq) from (sequence_length g seq) d old ahead c.0 c.1 new takes,
+      IsAhead-next (f seq) from (sequence_length g seq) d old ahead c.0 c.1 new takes,
     )
-Gives-next rank old None new gives = λ g f from d ahead. (IsAhead-end (f rank) from (sequence_length g rank) d old ahead (gives from ahead.rise), tt)
+Gives-next seq old None new gives = λ g f from d ahead. (IsAhead-end (f seq) from (sequence_length g seq) d old ahead (gives from ahead.rise), tt)
 
 -- ---- the records of one sequence
 
@@ -198,45 +198,45 @@ starts-are places records same = sym (map-map start_of record_of_span places) �
 stops-are : (places : List Span) (records : List RecordValue) → span_records places ≡ records → stops_of places ≡ map stop_of records
 stops-are places records same = sym (map-map stop_of record_of_span places) ∙ ap (map stop_of) same
 
-module _ (g : Sequences) (rank : ℕ) where
+module _ (g : Sequences) (seq : ℕ) where
   -- as many records cover p as start up to it, less those that stop up to it
   edges-depth : (p : ℕ) (records : List RecordValue) → All (IsOnGenome g) records
-      → depth records rank p + up_to p (map stop_of (on rank records)) ≡ up_to p (map start_of (on rank records))
+      → depth records seq p + up_to p (map stop_of (on seq records)) ≡ up_to p (map start_of (on seq records))
   edges-depth p [] h = refl
   edges-depth p (r ∷ records) h =
       let lies = All-head (IsOnGenome g) r records h in
       let rest = edges-depth p records (All-tail (IsOnGenome g) r records h) in
-      elim (cases_Bool (r.seq == rank)) [
+      elim (cases_Bool (r.seq == seq)) [
         | inl here ↦ go here lies.some (cases_lt p r.start) (cases_lt p r.stop) rest
-        | inr off ↦ rw (depth-cons r records rank p, off) (omega (arith, rest))
+        | inr off ↦ rw (depth-cons r records seq p, off) (omega (arith, rest))
       ]
     where
-      go : (r.seq == rank) ≡ true → r.start < r.stop → (p < r.start) ⊎ (r.start ≤ p) → (p < r.stop) ⊎ (r.stop ≤ p)
-          → depth records rank p + up_to p (map stop_of (on rank records)) ≡ up_to p (map start_of (on rank records))
-          → depth (r ∷ records) rank p + up_to p (map stop_of (on rank (r ∷ records))) ≡ up_to p (map start_of (on rank (r ∷ records)))
+      go : (r.seq == seq) ≡ true → r.start < r.stop → (p < r.start) ⊎ (r.start ≤ p) → (p < r.stop) ⊎ (r.stop ≤ p)
+          → depth records seq p + up_to p (map stop_of (on seq records)) ≡ up_to p (map start_of (on seq records))
+          → depth (r ∷ records) seq p + up_to p (map stop_of (on seq (r ∷ records))) ≡ up_to p (map start_of (on seq (r ∷ records)))
       go here some (inl before) (inl low) rest =
-          rw (depth-cons r records rank p, here, lt-leb r.start p before, lt-leb r.stop p low) (omega (arith, rest))
+          rw (depth-cons r records seq p, here, lt-leb r.start p before, lt-leb r.stop p low) (omega (arith, rest))
       go here some (inl before) (inr past) rest = absurd (omega (arith, some))
       go here some (inr begun) (inl low) rest =
-          rw (depth-cons r records rank p, here, le-leb r.start p begun, lt-leb r.stop p low, lt-ltb p r.stop low) (omega (arith, rest))
+          rw (depth-cons r records seq p, here, le-leb r.start p begun, lt-leb r.stop p low, lt-ltb p r.stop low) (omega (arith, rest))
       go here some (inr begun) (inr past) rest =
-          rw (depth-cons r records rank p, here, le-leb r.start p begun, le-leb r.stop p past, le-ltb p r.stop past) (omega (arith, rest))
+          rw (depth-cons r records seq p, here, le-leb r.start p begun, le-leb r.stop p past, le-ltb p r.stop past) (omega (arith, rest))
 
   -- starts rise with the records
-  starts-rise : (from : ℕ) (records : List RecordValue) → AreInOrder records → ((r : RecordValue) → Mem r records → r.seq ≡ rank → from ≤ r.start) → Rise from (map start_of (on rank records))
+  starts-rise : (from : ℕ) (records : List RecordValue) → AreInOrder records → ((r : RecordValue) → Mem r records → r.seq ≡ seq → from ≤ r.start) → Rise from (map start_of (on seq records))
   starts-rise from [] order low = tt
-  starts-rise from (r ∷ records) order low = elim (cases_Bool (r.seq == rank)) [
+  starts-rise from (r ∷ records) order low = elim (cases_Bool (r.seq == seq)) [
     | inl here ↦
-        let at : r.seq ≡ rank = eqb-true r.seq rank here in
+        let at : r.seq ≡ seq = eqb-true r.seq seq here in
         rw here (low r (inl refl) at, starts-rise r.start records order.1 (λ q m on_it. after q at on_it (precedes-from r q (all-recursion (λ y. is_le (record_cmp r y) ≡ true) records order.0 q m))))
     | inr off ↦ rw off (starts-rise from records order.1 (λ q m on_it. low q (inr m) on_it))
   ]
     where
-      after : (q : RecordValue) → r.seq ≡ rank → q.seq ≡ rank → Precedes r q → r.start ≤ q.start
+      after : (q : RecordValue) → r.seq ≡ seq → q.seq ≡ seq → Precedes r q → r.start ≤ q.start
       after q at on_it (inl lower) = absurd (omega (arith, at, on_it))
       after q at on_it (inr same) = same.1
 
-  module _ (records left here : List RecordValue) (places : List Span) (left_is : left ≡ filter (is_from rank) records) (here_is : here ≡ on rank left)
+  module _ (records left here : List RecordValue) (places : List Span) (left_is : left ≡ filter (is_from seq) records) (here_is : here ≡ on seq left)
       (same : span_records places ≡ here) where
     pub places-few : length places ≤ length records
     places-few =
@@ -245,25 +245,25 @@ module _ (g : Sequences) (rank : ℕ) where
           length-map places record_of_span,
           ap (λ (l : List RecordValue). length l) same,
           ap (λ (l : List RecordValue). length l) here_is,
-          length-filter (λ (r : RecordValue). r.seq == rank) left,
-          count_by-le-length (λ (r : RecordValue). r.seq == rank) left,
+          length-filter (λ (r : RecordValue). r.seq == seq) left,
+          count_by-le-length (λ (r : RecordValue). r.seq == seq) left,
           ap (λ (l : List RecordValue). length l) left_is,
-          length-filter (is_from rank) records,
-          count_by-le-length (is_from rank) records,
+          length-filter (is_from seq) records,
+          count_by-le-length (is_from seq) records,
         )
 
     -- so the intervals of the records on a sequence, and their stops in order, give the depth
     pub IsAhead-begin : (stops : List ℕ) → AreInOrder records → All (IsOnGenome g) records → length records < 2 ^ 63 → AreStopsOf places stops
-        → IsAhead (depth records rank) 0 (sequence_length g rank) 0 (record { starts = starts_of places; stops = map (λ n. n) stops })
+        → IsAhead (depth records seq) 0 (sequence_length g seq) 0 (record { starts = starts_of places; stops = map (λ n. n) stops })
     IsAhead-begin stops order lie few are =
-        let on_it : here ≡ on rank records = here_is ∙ ap (on rank) left_is ∙ from-here rank records in
-        let starts : starts_of places ≡ map start_of (on rank records) = starts-are places here same ∙ ap (map start_of) on_it in
-        let ends : stops_of places ≡ map stop_of (on rank records) = stops-are places here same ∙ ap (map stop_of) on_it in
+        let on_it : here ≡ on seq records = here_is ∙ ap (on seq) left_is ∙ from-here seq records in
+        let starts : starts_of places ≡ map start_of (on seq records) = starts-are places here same ∙ ap (map start_of) on_it in
+        let ends : stops_of places ≡ map stop_of (on seq records) = stops-are places here same ∙ ap (map stop_of) on_it in
         rw (map-id stops) (record {
           rise = record { starts = rw starts (starts-rise 0 records order (λ r m at. omega arith)); stops = are.rise };
           low = omega arith;
           depths = λ p low.
               omega (arith, ints, up_to-sum p (starts_of places), up_to-sum p stops, are.sums p, ap (up_to p) starts, ap (up_to p) ends, edges-depth p records lie);
-          small = λ p. omega (arith, few, count_by-le-length (covers rank p) records);
-          ends = depth-ends g records lie rank;
+          small = λ p. omega (arith, few, count_by-le-length (covers seq p) records);
+          ends = depth-ends g records lie seq;
         })

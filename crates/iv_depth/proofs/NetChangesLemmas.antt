@@ -45,18 +45,18 @@ key-order a b h = go (nat_cmp (a / 2 ^ 32) (b / 2 ^ 32)) refl
         let more : b / 2 ^ 32 < a / 2 ^ 32 = ranked (a / 2 ^ 32) (b / 2 ^ 32) Greater is in
         absurd (omega (arith, h, more))
 
-place-key : (rank p : ℕ) → p < 2 ^ 32 → change_key_of (key_of rank p) ≡ (rank, p)
-place-key rank p low =
-    let first : key_of rank p / 2 ^ 32 ≡ rank = omega (arith, low) in
-    let second : key_of rank p % 2 ^ 32 ≡ p = omega (arith, low) in
+place-key : (seq p : ℕ) → p < 2 ^ 32 → change_key_of (key_of seq p) ≡ (seq, p)
+place-key seq p low =
+    let first : key_of seq p / 2 ^ 32 ≡ seq = omega (arith, low) in
+    let second : key_of seq p % 2 ^ 32 ≡ p = omega (arith, low) in
     λ i. (first i, second i)
 
 -- ---- the starts and stops of a list of records, one after another
 
 -- a record covers from its start up to its stop
-record-reaches : (r : RecordValue) (rank p : ℕ) → r.start < r.stop
-    → cond {A = ℕ} (covers rank p r) 1 0 + cond {A = ℕ} (reaches rank p (r.seq, r.stop)) 1 0 ≡ cond {A = ℕ} (reaches rank p (r.seq, r.start)) 1 0
-record-reaches r rank p h = go (eqb r.seq rank) (cases_lt p r.start) (cases_lt p r.stop)
+record-reaches : (r : RecordValue) (seq p : ℕ) → r.start < r.stop
+    → cond {A = ℕ} (covers seq p r) 1 0 + cond {A = ℕ} (reaches seq p (r.seq, r.stop)) 1 0 ≡ cond {A = ℕ} (reaches seq p (r.seq, r.start)) 1 0
+record-reaches r seq p h = go (eqb r.seq seq) (cases_lt p r.start) (cases_lt p r.stop)
   where
     go : (on_it : Bool) → (p < r.start) ⊎ (r.start ≤ p) → (p < r.stop) ⊎ (r.stop ≤ p)
         → cond {A = ℕ} (on_it && (leb r.start p && ltb p r.stop)) 1 0 + cond {A = ℕ} (on_it && leb r.stop p) 1 0 ≡ cond {A = ℕ} (on_it && leb r.start p) 1 0
@@ -70,10 +70,10 @@ record-reaches r rank p h = go (eqb r.seq rank) (cases_lt p r.start) (cases_lt p
 pub record IsGathered (records left : List RecordValue) (starts stops : List ℕ) : Type 0 where
   pub done : List RecordValue
   pub all : records ≡ done ++ left
-  pub depths : (rank p : ℕ) → depth done rank p + reached rank p stops ≡ reached rank p starts
+  pub depths : (seq p : ℕ) → depth done seq p + reached seq p stops ≡ reached seq p starts
 
 pub gathered-begin : (records left : List RecordValue) (starts stops : List ℕ) → left ≡ records → starts ≡ [] → stops ≡ [] → IsGathered records left starts stops
-gathered-begin records left starts stops all no_starts no_stops = record { done = []; all = sym all; depths = λ rank p. rw (no_starts, no_stops) refl }
+gathered-begin records left starts stops all no_starts no_stops = record { done = []; all = sym all; depths = λ seq p. rw (no_starts, no_stops) refl }
 
 pub gathered-next : (records left after : List RecordValue) (r : RecordValue) (starts stops more_starts more_stops : List ℕ) (start stop : ℕ) → IsPlaced r → left ≡ r ∷ after
     → start ≡ key_of r.seq r.start → stop ≡ key_of r.seq r.stop → more_starts ≡ starts ++ start ∷ [] → more_stops ≡ stops ++ stop ∷ []
@@ -81,17 +81,17 @@ pub gathered-next : (records left after : List RecordValue) (r : RecordValue) (s
 gathered-next records left after r starts stops more_starts more_stops start stop placed is start_is stop_is starts_are stops_are g = record {
   done = g.done ++ r ∷ [];
   all = g.all ∙ ap (λ (l : List RecordValue). g.done ++ l) is ∙ sym (append_assoc g.done (r ∷ []) after);
-  depths = λ rank p.
-      let one : ℕ → ℕ = λ key. cond {A = ℕ} (reaches rank p (change_key_of key)) 1 0 in
-      let records : depth (g.done ++ r ∷ []) rank p ≡ depth g.done rank p + cond {A = ℕ} (covers rank p r) 1 0
-      = sum_by_push (λ x. cond {A = ℕ} (covers rank p x) 1 0) g.done r in
-      let begun : reached rank p more_starts ≡ reached rank p starts + cond {A = ℕ} (reaches rank p (r.seq, r.start)) 1 0
-      = ap (λ (l : List ℕ). reached rank p l) starts_are ∙ sum_by_push one starts start
-      ∙ ap (λ (k : ChangeKey). reached rank p starts + cond {A = ℕ} (reaches rank p k) 1 0) (ap change_key_of start_is ∙ place-key r.seq r.start (omega (arith, placed.some, placed.stop))) in
-      let ended : reached rank p more_stops ≡ reached rank p stops + cond {A = ℕ} (reaches rank p (r.seq, r.stop)) 1 0
-      = ap (λ (l : List ℕ). reached rank p l) stops_are ∙ sum_by_push one stops stop
-      ∙ ap (λ (k : ChangeKey). reached rank p stops + cond {A = ℕ} (reaches rank p k) 1 0) (ap change_key_of stop_is ∙ place-key r.seq r.stop placed.stop) in
-      sum _ _ _ _ _ _ _ _ _ (g.depths rank p) records begun ended (record-reaches r rank p placed.some);
+  depths = λ seq p.
+      let one : ℕ → ℕ = λ key. cond {A = ℕ} (reaches seq p (change_key_of key)) 1 0 in
+      let records : depth (g.done ++ r ∷ []) seq p ≡ depth g.done seq p + cond {A = ℕ} (covers seq p r) 1 0
+      = sum_by_push (λ x. cond {A = ℕ} (covers seq p x) 1 0) g.done r in
+      let begun : reached seq p more_starts ≡ reached seq p starts + cond {A = ℕ} (reaches seq p (r.seq, r.start)) 1 0
+      = ap (λ (l : List ℕ). reached seq p l) starts_are ∙ sum_by_push one starts start
+      ∙ ap (λ (k : ChangeKey). reached seq p starts + cond {A = ℕ} (reaches seq p k) 1 0) (ap change_key_of start_is ∙ place-key r.seq r.start (omega (arith, placed.some, placed.stop))) in
+      let ended : reached seq p more_stops ≡ reached seq p stops + cond {A = ℕ} (reaches seq p (r.seq, r.stop)) 1 0
+      = ap (λ (l : List ℕ). reached seq p l) stops_are ∙ sum_by_push one stops stop
+      ∙ ap (λ (k : ChangeKey). reached seq p stops + cond {A = ℕ} (reaches seq p k) 1 0) (ap change_key_of stop_is ∙ place-key r.seq r.stop placed.stop) in
+      sum _ _ _ _ _ _ _ _ _ (g.depths seq p) records begun ended (record-reaches r seq p placed.some);
 }
   where
     sum : (d s t d' s' t' c a b : ℕ) → d + t ≡ s → d' ≡ d + c → s' ≡ s + a → t' ≡ t + b → c + b ≡ a → d' + t' ≡ s'
@@ -103,13 +103,13 @@ pub gathered-all : (records left : List RecordValue) (some_starts some_stops sta
 gathered-all records left some_starts some_stops starts stops none g starts_moved starts_sorted stops_moved stops_sorted = record {
   starts_rise = rise-sorted starts (IsNonDecreasingBy-from_sort (λ x. x) starts starts_sorted);
   stops_rise = rise-sorted stops (IsNonDecreasingBy-from_sort (λ x. x) stops stops_sorted);
-  depths = λ rank p.
+  depths = λ seq p.
       let all : records ≡ g.done = g.all ∙ ap (λ (l : List RecordValue). g.done ++ l) none ∙ append-nil g.done in
-      let records : depth records rank p ≡ depth g.done rank p = ap (λ (l : List RecordValue). depth l rank p) all in
-      let one : ℕ → ℕ = λ key. cond {A = ℕ} (reaches rank p (change_key_of key)) 1 0 in
-      let begun : reached rank p starts ≡ reached rank p some_starts = sum_by-IsPermutation one some_starts starts starts_moved in
-      let ended : reached rank p stops ≡ reached rank p some_stops = sum_by-IsPermutation one some_stops stops stops_moved in
-      sum _ _ _ _ _ _ (g.depths rank p) records begun ended;
+      let records : depth records seq p ≡ depth g.done seq p = ap (λ (l : List RecordValue). depth l seq p) all in
+      let one : ℕ → ℕ = λ key. cond {A = ℕ} (reaches seq p (change_key_of key)) 1 0 in
+      let begun : reached seq p starts ≡ reached seq p some_starts = sum_by-IsPermutation one some_starts starts starts_moved in
+      let ended : reached seq p stops ≡ reached seq p some_stops = sum_by-IsPermutation one some_stops stops stops_moved in
+      sum _ _ _ _ _ _ (g.depths seq p) records begun ended;
 }
   where
     sum : (d s t d' s' t' : ℕ) → d + t ≡ s → d' ≡ d → s' ≡ s → t' ≡ t → d' + t' ≡ s'
@@ -210,9 +210,9 @@ edges-changes records starts stops es entries h run ordered same =
     subst (AreChangesOf records) (sym (one-ledger entries es ordered up same)) (record {
       ordered = up;
       changes = All-from_recursion (λ z. z ≢ pos 0) (values_of es) (given-others keys 0 es run.1.0 rise run.1.1);
-      depths = λ rank p.
-          given-sums (reaches rank p) keys 0 es run.1.0 rise run.1.1 (λ low past. run.1.2 low past (λ key. reaches rank p (change_key_of key)))
-          ∙ rw (map-id starts, map-id stops) (difference _ _ _ (h.depths rank p));
+      depths = λ seq p.
+          given-sums (reaches seq p) keys 0 es run.1.0 rise run.1.1 (λ low past. run.1.2 low past (λ key. reaches seq p (change_key_of key)))
+          ∙ rw (map-id starts, map-id stops) (difference _ _ _ (h.depths seq p));
     })
   where
     difference : (d t s : ℕ) → d + t ≡ s → pos s -ℤ pos t ≡ pos d

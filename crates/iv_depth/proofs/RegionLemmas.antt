@@ -3,6 +3,7 @@ use Rattle.std.proofs.Common.{◌≡◌, ◌≢◌, ℕ, zero, suc, ◌+◌, ◌
 use Rattle.std.specs.Prelude.{ℤ, pos}
 use Rattle.std.specs.List.{flat_map, range_with_len}
 use Rattle.std.proofs.lemmas.Bool.{cases_lt, lt-ltb, le-ltb}
+use Rattle.std.proofs.Math.Bool.{and-false}
 use Rattle.iv_cover.specs.Runs.{Run, runs, Tiles}
 use Rattle.iv_cover.proofs.RunsLemmas.{runs-run, runs-none, Tiles-runs, Tiles-only}
 use Rattle.iv_depth.specs.Changes.{Entries}
@@ -24,10 +25,6 @@ filter-both p q (x ∷ xs) = go (q x) refl (filter-both p q xs)
     go : (b : Bool) → q x ≡ b → filter p (filter q xs) ≡ filter (λ x. q x && p x) xs → filter p (filter q (x ∷ xs)) ≡ filter (λ x. q x && p x) (x ∷ xs)
     go true is rest = rw is (ap (λ (l : List Run). cond (p x) (x ∷ l) l) rest)
     go false is rest = rw is rest
-
-and-false : (b : Bool) → (b && false) ≡ false
-and-false true = refl
-and-false false = refl
 
 module _ (t : Run → Bool) (start stop : ℕ) (before : (x : Run) → x.stop ≤ start → t x ≡ false) (after : (x : Run) → stop ≤ x.start → t x ≡ false) (f : ℕ → ℕ) where
   none-after : (from to : ℕ) (xs : List Run) → Tiles f from to xs → stop ≤ from → filter t xs ≡ []
@@ -128,9 +125,9 @@ row-kept feature t x xs is = rw is refl
 kept-length : (t : Run → Bool) (x : Run) (xs : List Run) → t x ≡ true → length (filter t (x ∷ xs)) ≡ length (filter t xs) + 1
 kept-length t x xs is = rw is (omega arith)
 
-module _ (f : ℕ → ℕ) (rank long start stop here value to : ℕ) (change : ℤ) (entries : Entries)
+module _ (f : ℕ → ℕ) (seq long start stop here value to : ℕ) (change : ℤ) (entries : Entries)
     (some : start < stop) (within : stop ≤ long) (near : here < stop)
-    (same : (q : ℕ) → here ≤ q → q ≤ start → f q ≡ value) (e : EndsRun f rank here long value to change entries) where
+    (same : (q : ℕ) → here ≤ q → q ≤ start → f q ≡ value) (e : EndsRun f seq here long value to change entries) where
   abbrev run : Run
   run = record { start = here; stop = to; value = value }
 
@@ -210,10 +207,10 @@ module _ (f : ℕ → ℕ) (rank long start stop here value to : ℕ) (change : 
 
 -- ---- the walk
 
-pub IsWalking-begin : (f : ℕ → ℕ) (rank long start stop allowed s : ℕ) (depth : ℤ) (entries : Entries) (old now : ℕ)
-    → s < long → IsRunStart f start s → AreLeft f rank s long (f start) entries → depth ≡ pos (f start) → old ≤ now → now ≤ old + 2
-    → allowed ≡ old + (3 + 2 * length (covered_runs_in f long start stop)) → IsWalking f rank long start stop allowed s depth entries old now
-IsWalking-begin f rank long start stop allowed s depth entries old now high begins left is no_less at_most all =
+pub IsWalking-begin : (f : ℕ → ℕ) (seq long start stop allowed s : ℕ) (depth : ℤ) (entries : Entries) (old now : ℕ)
+    → s < long → IsRunStart f start s → AreLeft f seq s long (f start) entries → depth ≡ pos (f start) → old ≤ now → now ≤ old + 2
+    → allowed ≡ old + (3 + 2 * length (covered_runs_in f long start stop)) → IsWalking f seq long start stop allowed s depth entries old now
+IsWalking-begin f seq long start stop allowed s depth entries old now high begins left is no_less at_most all =
     let count : length (covered_runs_in f long start stop) ≡ length (covered_from f long start stop s) = ap (λ (l : List Run). length l) (covered-skip f long start stop s high begins) in
     record {
       value = f start;
@@ -226,12 +223,12 @@ IsWalking-begin f rank long start stop allowed s depth entries old now high begi
       bare = λ _ _. omega (arith, count, at_most, all);
     }
 
-pub IsWalking-next : (f : ℕ → ℕ) (rank long start stop allowed from : ℕ) (depth : ℤ) (entries : Entries) (old now to : ℕ) (change : ℤ) (rest : Entries) (new : ℕ)
-    → start < stop → stop ≤ long → from < stop → (w : IsWalking f rank long start stop allowed from depth entries old now)
-    → (e : EndsRun f rank from long w.value to change rest) → now ≤ new → new ≤ now + 1
-    → IsWalking f rank long start stop allowed to (pos e.next) rest old new
-IsWalking-next f rank long start stop allowed from depth entries old now to change rest new some within near w e no_less one =
-    let past : start < to = crosses f rank long start stop from w.value to change rest some within near w.same e in
+pub IsWalking-next : (f : ℕ → ℕ) (seq long start stop allowed from : ℕ) (depth : ℤ) (entries : Entries) (old now to : ℕ) (change : ℤ) (rest : Entries) (new : ℕ)
+    → start < stop → stop ≤ long → from < stop → (w : IsWalking f seq long start stop allowed from depth entries old now)
+    → (e : EndsRun f seq from long w.value to change rest) → now ≤ new → new ≤ now + 1
+    → IsWalking f seq long start stop allowed to (pos e.next) rest old new
+IsWalking-next f seq long start stop allowed from depth entries old now to change rest new some within near w e no_less one =
+    let past : start < to = crosses f seq long start stop from w.value to change rest some within near w.same e in
     record {
       value = e.next;
       is = refl;
@@ -247,9 +244,9 @@ IsWalking-next f rank long start stop allowed from depth entries old now to chan
         → (new + 2 * length (covered_from f long start stop to) ≤ allowed)
         × (w.value ≢ e.next → e.next ≡ 0 → new + 2 * length (covered_from f long start stop to) + 1 ≤ allowed)
     paid zero none =
-        let count = count-bare f rank long start stop from w.value to change rest some within near w.same e none in
+        let count = count-bare f seq long start stop from w.value to change rest some within near w.same e none in
         let room = w.bare near none in
         (omega (arith, count, room, one), λ other next. absurd (other (none ∙ sym next)))
     paid (suc v) is =
-        let count = count-here f rank long start stop from w.value to change rest some within near w.same e (omega (arith, is)) in
+        let count = count-here f seq long start stop from w.value to change rest some within near w.same e (omega (arith, is)) in
         (omega (arith, count, w.at_most, one), λ other next. omega (arith, count, w.at_most, one))

@@ -20,10 +20,10 @@ total passes (e ∷ entries) = (if passes e.0 then e.1 else pos 0) +ℤ total pa
 
 -- the key is on the sequence of this rank, at p or before
 abbrev pub reaches : ℕ → ℕ → ChangeKey → Bool
-reaches rank p key = (key.0 == rank) && nat_le key.1 p
+reaches seq p key = (key.0 == seq) && nat_le key.1 p
 
 -- these are the net changes of the records' depth: keys ascend, no change is 0, and up to each position they sum to its depth
 pub record AreChangesOf (records : List RecordValue) (entries : Entries) : Type 0 where
   pub ordered : IsLedger pair_cmp entries
   pub changes : All (λ z. z ≢ pos 0) (values_of entries)
-  pub depths : (rank p : ℕ) → total (reaches rank p) entries ≡ pos (depth records rank p)
+  pub depths : (seq p : ℕ) → total (reaches seq p) entries ≡ pos (depth records seq p)

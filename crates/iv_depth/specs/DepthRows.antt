@@ -36,4 +36,4 @@ depth_rows part EachPosition name f length = flat_map (λ p. position_row name p
 
 -- the maximal runs of a depth above 0 on all sequences
 abbrev pub all_covered_runs : Sequences → List RecordValue → List Run
-all_covered_runs g records = flat_map (λ rank. covered_runs (depth records rank) 0 (sequence_length g rank)) (range_with_len 0 (seq_count g))
+all_covered_runs g records = flat_map (λ seq. covered_runs (depth records seq) 0 (sequence_length g seq)) (range_with_len 0 (seq_count g))

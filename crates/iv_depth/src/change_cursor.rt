@@ -32,8 +32,8 @@ pub(crate) trait DepthChanges {
     /// The next position of the sequence of this rank at which the depth changes, and by how much. `None` if there is none.
     ///
     /// At most one step for a change, and none if there is no change.
-    fn next_on(&mut self, rank: u32, meter: &mut Self::Meter) -> Option<(u64, i64)>
-        ensures change { Gives are_of are_past rank self.old result self.new }
+    fn next_on(&mut self, seq: u32, meter: &mut Self::Meter) -> Option<(u64, i64)>
+        ensures change { Gives are_of are_past seq self.old result self.new }
         ensures fewer { OnSome result (left self.new < left self.old) }
         ensures steps { TakesForEach (reading meter.old) (reading meter.new) (left self.old) (left self.new) };
 }
@@ -66,7 +66,7 @@ impl<'a, A: Allocator + Copy> ChangeCursor<'a, A> {
         ensures all { result ≡ changes.now }
         ensures steps { TakesUpTo meter.old meter.new 2 }
     {
-        let mut walk = changes.walk(&(0, 0), meter);
+        let mut walk = changes.walk_all(meter);
         let ahead = read(&mut walk, meter);
         ChangeCursor { walk, ahead }
     }
@@ -82,13 +82,13 @@ impl<'a, A: Allocator + Copy> DepthChanges for ChangeCursor<'a, A> {
 
     ghost left = { λ entries. length entries };
 
-    ghost are_of = { λ entries g f rank from d. AreAhead g f rank from d entries };
+    ghost are_of = { λ entries g f seq from d. AreAhead g f seq from d entries };
 
-    ghost are_past = { λ entries g f rank. AreAhead g f rank 0 0 entries };
+    ghost are_past = { λ entries g f seq. AreAhead g f seq 0 0 entries };
 
-    fn next_on(&mut self, rank: u32, meter: &mut Meter) -> Option<(u64, i64)> {
-        let ((sequence, position), change) = self.ahead?;
-        if sequence != rank {
+    fn next_on(&mut self, seq: u32, meter: &mut Meter) -> Option<(u64, i64)> {
+        let ((change_seq, position), change) = self.ahead?;
+        if change_seq != seq {
             return None;
         }
         self.ahead = read(&mut self.walk, meter);

@@ -107,21 +107,21 @@ fn put_position<S: Sink>(
 pub(crate) fn put_sequence<A: Allocator + Copy, C: DepthChanges, S: Sink>(
     output: DepthOutput,
     genome: &Genome<A>,
-    rank: u32,
+    seq: u32,
     changes: &mut C,
     meter: &mut C::Meter,
     sink: &mut S,
 ) -> Result<(), WriteFault>
-    requires { (f : ℕ → ℕ → ℕ) × C.are_of changes.old genome.now f rank 0 0 }
-    ensures text { (f : ℕ → ℕ → ℕ) → C.are_of changes.old genome.now f rank 0 0 → Puts (S.state sink.old) (S.state sink.new) result (sequence_text output genome.now f rank) }
-    ensures past { (f : ℕ → ℕ → ℕ) → C.are_of changes.old genome.now f rank 0 0 → OnOk result (C.are_past changes.new genome.now f (rank + 1)) }
+    requires { (f : ℕ → ℕ → ℕ) × C.are_of changes.old genome.now f seq 0 0 }
+    ensures text { (f : ℕ → ℕ → ℕ) → C.are_of changes.old genome.now f seq 0 0 → Puts (S.state sink.old) (S.state sink.new) result (sequence_text output genome.now f seq) }
+    ensures past { (f : ℕ → ℕ → ℕ) → C.are_of changes.old genome.now f seq 0 0 → OnOk result (C.are_past changes.new genome.now f (seq + 1)) }
     ensures steps { TakesForEach (C.reading meter.old) (C.reading meter.new) (C.left changes.old) (C.left changes.new) }
 {
-    let name = genome.name_or_empty(rank);
-    let length = genome.length_or_zero(rank);
+    let name = genome.name_or_empty(seq);
+    let length = genome.length_or_zero(seq);
     let mut start: u64 = 0;
     let mut depth: i64 = 0;
-    while let Some((stop, change)) = changes.next_on(rank, meter) {
+    while let Some((stop, change)) = changes.next_on(seq, meter) {
         put_stretch(output, name, start, stop, depth.unsigned_abs(), sink)?;
         start = stop;
         depth += change;
@@ -142,8 +142,8 @@ pub(crate) fn put_genome<A: Allocator + Copy, S: Sink>(
     ensures steps { TakesUpTo meter.old meter.new (2 + length changes.now) }
 {
     let mut changes_left = ChangeCursor::of(changes, meter);
-    for rank in 0..genome.count() {
-        put_sequence(output, genome, rank, &mut changes_left, meter, sink)?;
+    for seq in 0..genome.count() {
+        put_sequence(output, genome, seq, &mut changes_left, meter, sink)?;
     }
     Ok(())
 }

@@ -12,7 +12,7 @@ use crate::depth_rows::{DepthOutput, put_sequence};
 use crate::edges::Edges;
 use iv_bytes::{Sink, WriteFault};
 use iv_lines::Genome;
-use iv_locators::{Span, order_nearly, split_sequence};
+use iv_locators::{Span, order_neighbors, split_sequence};
 use std::alloc::{AllocError, Allocator, Global};
 use std::marker::Model;
 
@@ -26,11 +26,11 @@ impl<'a> DepthChanges for Edges<'a, Span, u32> {
 
     ghost left = { edge_count };
 
-    ghost are_of = { λ edges g f rank from d. IsAhead (f rank) from (sequence_length g rank) d edges };
+    ghost are_of = { λ edges g f seq from d. IsAhead (f seq) from (sequence_length g seq) d edges };
 
     ghost are_past = { λ _ _ _ _. Unit {0} };
 
-    fn next_on(&mut self, _rank: u32, _meter: &mut ()) -> Option<(u64, i64)> {
+    fn next_on(&mut self, _seq: u32, _meter: &mut ()) -> Option<(u64, i64)> {
         self.next_change()
     }
 }
@@ -99,15 +99,15 @@ fn put_genome<A: Allocator + Copy, S: Sink>(
     ensures room { length stops.new ≡ length stops.old }
 {
     let mut left = spans;
-    for rank in 0..genome.count() {
-        let (starts, later) = split_sequence(left, rank);
+    for seq in 0..genome.count() {
+        let (starts, later) = split_sequence(left, seq);
         let room = &mut stops[..starts.len()];
         write_stops(starts, room);
         let mut edges = Edges {
             starts,
             stops: room,
         };
-        put_sequence(output, genome, rank, &mut edges, &mut (), sink)?;
+        put_sequence(output, genome, seq, &mut edges, &mut (), sink)?;
         left = later;
     }
     Ok(())
@@ -122,6 +122,6 @@ fn write_stops(spans: &[Span], stops: &mut [u32])
     for index in 0..spans.len() {
         stops[index] = spans[index].stop;
     }
-    order_nearly(stops, |before, here| *before > *here);
+    order_neighbors(stops, |before, here| *before > *here);
     stops.sort_unstable();
 }

@@ -32,16 +32,16 @@ pub(crate) fn edges_of<A: Allocator + Copy>(
         stops.push(packed(feature.seq(), feature.stop() as u32))?;
     }
     starts.sort_unstable();
-    order_neighbors(&mut stops, |before, here| *before > *here);
+    order_neighbors(stops.as_mut_slice(), |before, here| *before > *here);
     stops.sort_unstable();
     Ok((starts, stops))
 }
 
 /// A rank and a position as one number, a key: keys ascend as they do, and sort faster.
-fn packed(rank: u32, position: u32) -> u64
-    ensures { result ≡ key_of rank position }
+fn packed(seq: u32, position: u32) -> u64
+    ensures { result ≡ key_of seq position }
 {
-    rank as u64 * POSITIONS + position as u64
+    seq as u64 * POSITIONS + position as u64
 }
 
 /// The rank and the position of a key.

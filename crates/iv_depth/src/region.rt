@@ -17,27 +17,27 @@ use iv_track::{Meter, Walk};
 use std::alloc::Allocator;
 
 /// The length of a sequence, which fits in 32 bits.
-pub(crate) fn length_of<A: Allocator + Copy>(genome: &Genome<A>, rank: u32) -> u32
-    ensures { result ≡ sequence_length genome.now rank }
+pub(crate) fn length_of<A: Allocator + Copy>(genome: &Genome<A>, seq: u32) -> u32
+    ensures { result ≡ sequence_length genome.now seq }
 {
-    genome.length_u32(rank).unwrap_or(0)
+    genome.length_u32(seq).unwrap_or(0)
 }
 
 /// Where the run that holds the position starts: at the last change up to there, or at 0. One step.
 fn run_start<A: Allocator + Copy>(
     changes: &Changes<A>,
-    rank: u32,
+    seq: u32,
     position: u32,
     meter: &mut Meter,
 ) -> u32
-    requires { (long : ℕ) × AreChangesOn (depth_by changes.now rank) rank long changes.now }
-    ensures start { IsRunStart (depth_by changes.now rank) position result }
+    requires { (long : ℕ) × AreChangesOn (depth_by changes.now seq) seq long changes.now }
+    ensures start { IsRunStart (depth_by changes.now seq) position result }
     ensures step { TakesUpTo meter.old meter.new 1 }
 {
-    let Some(((sequence, start), _)) = changes.at_or_before(&(rank, position), meter) else {
+    let Some(((change_seq, start), _)) = changes.at_or_before(&(seq, position), meter) else {
         return 0;
     };
-    if *sequence != rank {
+    if *change_seq != seq {
         return 0;
     }
     *start
@@ -46,17 +46,17 @@ fn run_start<A: Allocator + Copy>(
 /// Where a run of this sequence stops, and by how much the depth changes there. One step.
 fn run_stop<A: Allocator + Copy>(
     left: &mut Walk<'_, (u32, u32), i64, A>,
-    rank: u32,
+    seq: u32,
     length: u32,
     meter: &mut Meter,
 ) -> (u32, i64)
-    ensures stop { (f : ℕ → ℕ) (here d : ℕ) → AreLeft f rank here length d left.old → here < length → EndsRun f rank here length d result.0 result.1 left.new }
+    ensures stop { (f : ℕ → ℕ) (here d : ℕ) → AreLeft f seq here length d left.old → here < length → EndsRun f seq here length d result.0 result.1 left.new }
     ensures step { TakesUpTo meter.old meter.new 1 }
 {
-    let Some(((sequence, position), change)) = left.next(meter) else {
+    let Some(((change_seq, position), change)) = left.next(meter) else {
         return (length, 0);
     };
-    if *sequence != rank {
+    if *change_seq != seq {
         return (length, 0);
     }
     (*position, *change)
@@ -90,27 +90,27 @@ pub(crate) fn put_region<A: Allocator + Copy, S: Sink>(
     output: DepthOutput,
     changes: &Changes<A>,
     genome: &Genome<A>,
-    rank: u32,
+    seq: u32,
     start: u32,
     stop: u32,
     at: i64,
     meter: &mut Meter,
     sink: &mut S,
 ) -> Result<(), WriteFault>
-    requires right { AreChangesOn (depth_by changes.now rank) rank (sequence_length genome.now rank) changes.now }
+    requires right { AreChangesOn (depth_by changes.now seq) seq (sequence_length genome.now seq) changes.now }
     requires some { start < stop }
-    requires within { stop ≤ sequence_length genome.now rank }
-    requires at { at ≡ pos (depth_by changes.now rank start) }
-    ensures text { Puts (S.state sink.old) (S.state sink.new) result (rows_in output (sequence_name genome.now rank) (depth_by changes.now rank) (sequence_length genome.now rank) start stop) }
-    ensures steps { TakesUpTo meter.old meter.new (3 + 2 * length (covered_runs_in (depth_by changes.now rank) (sequence_length genome.now rank) start stop)) }
+    requires within { stop ≤ sequence_length genome.now seq }
+    requires at { at ≡ pos (depth_by changes.now seq start) }
+    ensures text { Puts (S.state sink.old) (S.state sink.new) result (rows_in output (sequence_name genome.now seq) (depth_by changes.now seq) (sequence_length genome.now seq) start stop) }
+    ensures steps { TakesUpTo meter.old meter.new (3 + 2 * length (covered_runs_in (depth_by changes.now seq) (sequence_length genome.now seq) start stop)) }
 {
-    let name = genome.name_or_empty(rank);
-    let length = length_of(genome, rank);
-    let mut from = run_start(changes, rank, start, meter);
+    let name = genome.name_or_empty(seq);
+    let length = length_of(genome, seq);
+    let mut from = run_start(changes, seq, start, meter);
     let mut depth = at;
-    let mut left = changes.walk(&(rank, start + 1), meter);
+    let mut left = changes.walk(&(seq, start + 1), meter);
     while from < stop {
-        let (to, change) = run_stop(&mut left, rank, length, meter);
+        let (to, change) = run_stop(&mut left, seq, length, meter);
         put_run_in(
             output,
             name,

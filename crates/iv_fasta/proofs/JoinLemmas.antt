@@ -7,6 +7,7 @@ use Rattle.std.proofs.lemmas.List.{length_push}
 use Rattle.std.proofs.lemmas.List.Elements.{All-head, All-tail}
 use Rattle.iv_lines.specs.declared.fault.LoadCause.{LoadCause}
 use Rattle.iv_lines.proofs.FileMeaningLemmas.{all-step}
+use Rattle.iv_lines.proofs.ListLemmas.{some-cons}
 use Rattle.iv_fasta.specs.Fasta.{Stretch, Found, header_name, with_bases, after_fasta_line}
 use Rattle.iv_fasta.specs.Inside.Drafts.{after_fasta_lines}
 use Rattle.iv_fasta.specs.Inside.Fasta.{IsNewHeader, IsBaseLine, with_joined}
@@ -22,9 +23,6 @@ some-pushed : (found : Found) (s : List ℕ × Stretch) → (length (found ++ s 
 some-pushed found s =
     let some : length (found ++ s ∷ []) ≢ 0 = omega (arith, length_push found s) in
     ne_eqb (length (found ++ s ∷ [])) 0 some
-
-some-cons : (b : ℕ) (line : List ℕ) → (length (b ∷ line) == 0) ≡ false
-some-cons b line = let some : length (b ∷ line) ≢ 0 = omega arith in ne_eqb (length (b ∷ line)) 0 some
 
 -- a line of bases is put after the last sequence's
 line-joined : (n m : ℕ) (found : Found) (name bases line : List ℕ) → IsBaseLine line

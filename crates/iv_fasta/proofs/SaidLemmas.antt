@@ -16,6 +16,7 @@ use Rattle.iv_lines.proofs.PieceLemmas.{lines-fed, lines-ended, ended-rest}
 use Rattle.iv_lines.specs.declared.fault.LoadCause.{LoadCause}
 use Rattle.iv_lines.specs.declared.fault.LoadCause.TheVariants as cause
 use Rattle.iv_lines.specs.declared.fault.LoadFault.{LoadFault}
+use Rattle.iv_lines.proofs.ListLemmas.{some-cons}
 use Rattle.iv_fasta.specs.Fasta.{header_name}
 use Rattle.iv_fasta.specs.FastaReading.{Draft, Progress, Summaries, Wanted, is_held, with_part, with_rest, with_header, after_line, after_lines, after_rest, said}
 use Rattle.iv_fasta.specs.Inside.Fasta.{is_no_base}
@@ -169,20 +170,17 @@ module _ (g : Sequences) (wanted : Wanted) where
   unfolding after_line
   line-empty n d = refl
 
-  cons-some : (b : ℕ) (line : List ℕ) → (length (b ∷ line) == 0) ≡ false
-  cons-some b line = let some : length (b ∷ line) ≢ 0 = omega arith in ne_eqb (length (b ∷ line)) 0 some
-
   line-header : (n : ℕ) (d : Draft) (line : List ℕ) → after_line g wanted n d (62 ∷ line) ≡ with_header g wanted n d (header_name (62 ∷ line))
   unfolding after_line
-  line-header n d line = cond-false _ _ _ (cons-some 62 line)
+  line-header n d line = cond-false _ _ _ (some-cons 62 line)
 
   line-first : (n : ℕ) (d : Draft) (b : ℕ) (line : List ℕ) → (b == 62) ≡ false → (length d.sequences == 0) ≡ true → after_line g wanted n d (b ∷ line) ≡ Err cause.BasesFirst
   unfolding after_line
-  line-first n d b line is none = cond-false _ _ _ (cons-some b line) ∙ cond-false _ _ _ is ∙ cond-true _ _ _ none
+  line-first n d b line is none = cond-false _ _ _ (some-cons b line) ∙ cond-false _ _ _ is ∙ cond-true _ _ _ none
 
   line-bases : (n : ℕ) (d : Draft) (b : ℕ) (line : List ℕ) → (b == 62) ≡ false → (length d.sequences == 0) ≡ false → after_line g wanted n d (b ∷ line) ≡ with_rest d (b ∷ line)
   unfolding after_line
-  line-bases n d b line is some = cond-false _ _ _ (cons-some b line) ∙ cond-false _ _ _ is ∙ cond-false _ _ _ some
+  line-bases n d b line is some = cond-false _ _ _ (some-cons b line) ∙ cond-false _ _ _ is ∙ cond-false _ _ _ some
 
   -- a line of bases is the rest of one
   closed-rest : (n : ℕ) (d : Draft) (b : ℕ) (line : List ℕ) (others : List (List ℕ)) → (b == 62) ≡ false → (length d.sequences == 0) ≡ false
@@ -340,16 +338,8 @@ more-bases (b ∷ bs) n some first rest =
 
 -- the fault of a line is that of its number and cause, unless memory ran out
 pub fault-is : (n : ℕ) (c : LoadCause) → (fault_at n c ≡ record { line = 0; cause = cause.Memory }) ⊎ (fault_at n c ≡ record { line = n; cause = c })
-fault-is n cause.Columns = inr refl
-fault-is n cause.Name = inr refl
-fault-is n cause.Length = inr refl
-fault-is n cause.Repeated = inr refl
-fault-is n cause.BasesFirst = inr refl
-fault-is n cause.Base = inr refl
-fault-is n cause.WrongLength = inr refl
-fault-is n cause.TooMany = inr refl
 fault-is n cause.Memory = inl refl
-fault-is n (cause.Record f) = inr refl
+fault-is n c = inr refl
 
 pub line-fault : (n : ℕ) (c : LoadCause) (f : LoadFault) (P : LoadFault → Type 0) → f ≡ fault_at n c → (c ≡ cause.Memory) ⊎ P (record { line = n; cause = c }) → (f ≡ record { line = 0; cause = cause.Memory }) ⊎ P f
 line-fault n c f P is (inl memory) = inl (is ∙ ap (fault_at n) memory)

@@ -72,7 +72,7 @@ impl<A: Allocator + Copy> FastaDraft<A> {
         ensures { result ≡ is_held genome.now self.now.wanted name.now }
     {
         match genome.rank(name) {
-            Some(rank) => wants(&self.wanted, rank),
+            Some(seq) => wants(&self.wanted, seq),
             None => false,
         }
     }

@@ -75,18 +75,18 @@ fn differs<A: Allocator + Copy>(genome: &Genome<A>, name: &[u8], count: u64) -> 
     ensures { result ≡ differs_in genome.now name.now count }
 {
     match genome.rank(name) {
-        Some(rank) => count != genome.length_or_zero(rank),
+        Some(seq) => count != genome.length_or_zero(seq),
         None => false,
     }
 }
 
 /// Whether the sequence of this rank is wanted: by a list, or without one.
-pub(crate) fn wants<A: Allocator>(wanted: &Option<Vec<bool, A>>, rank: u32) -> bool
-    ensures { result ≡ is_wanted (option_map (λ ranks. ranks.items) wanted.now) rank }
+pub(crate) fn wants<A: Allocator>(wanted: &Option<Vec<bool, A>>, seq: u32) -> bool
+    ensures { result ≡ is_wanted (option_map (λ ranks. ranks.items) wanted.now) seq }
 {
     match wanted {
         None => true,
-        Some(ranks) => match ranks.get(rank as usize) {
+        Some(ranks) => match ranks.get(seq as usize) {
             Some(is_wanted) => *is_wanted,
             None => false,
         },
@@ -216,11 +216,11 @@ impl<A: Allocator + Copy> HeldSequences<A> {
     }
 
     /// Where the bases that are held of the sequence of this rank lie, if there is one.
-    fn range_at(&self, genome: &Genome<A>, rank: u32) -> Option<BaseRange>
-        ensures value { option_map (bases_at self.now.bases.items) result ≡ bases_of (held_by_rank genome.now (cut self.now.headers self.now.bases.items self.now.count)) rank }
+    fn range_at(&self, genome: &Genome<A>, seq: u32) -> Option<BaseRange>
+        ensures value { option_map (bases_at self.now.bases.items) result ≡ bases_of (held_by_rank genome.now (cut self.now.headers self.now.bases.items self.now.count)) seq }
         ensures within { IsPlacedWithin (length self.now.bases.items) result }
     {
-        match genome.name(rank) {
+        match genome.name(seq) {
             Some(name) => self.range_of(name),
             None => None,
         }
@@ -231,14 +231,14 @@ impl<A: Allocator + Copy> HeldSequences<A> {
         &self,
         genome: &Genome<A>,
         wanted: &Option<Vec<bool, A>>,
-        rank: u32,
+        seq: u32,
     ) -> Option<BaseRange>
         ensures value { option_map (bases_at self.now.bases.items) result
-            ≡ bases_of (only (option_map (λ ranks. ranks.items) wanted.now) (held_by_rank genome.now (cut self.now.headers self.now.bases.items self.now.count))) rank }
+            ≡ bases_of (only (option_map (λ ranks. ranks.items) wanted.now) (held_by_rank genome.now (cut self.now.headers self.now.bases.items self.now.count))) seq }
         ensures within { IsPlacedWithin (length self.now.bases.items) result }
     {
-        if wants(wanted, rank) {
-            self.range_at(genome, rank)
+        if wants(wanted, seq) {
+            self.range_at(genome, seq)
         } else {
             None
         }
@@ -256,8 +256,8 @@ impl<A: Allocator + Copy> HeldSequences<A> {
         ensures within { IfOk result (λ ranges. All (IsPlacedWithin (length self.now.bases.items)) ranges.items) }
     {
         let mut ranges = Vec::new(alloc);
-        for rank in 0..genome.count() {
-            ranges.push(self.wanted_range_at(genome, wanted, rank))?;
+        for seq in 0..genome.count() {
+            ranges.push(self.wanted_range_at(genome, wanted, seq))?;
         }
         Ok(ranges)
     }

@@ -5,13 +5,13 @@
 
 mod bedtools;
 mod damage;
-mod exit_reason;
+mod endings;
 mod file_kinds;
-mod files;
 mod hint;
 mod losses;
 mod nearest;
 mod options;
+mod plan_files;
 mod records;
 mod refusals;
 mod script;
@@ -20,8 +20,8 @@ mod values;
 mod vocabulary;
 mod words;
 
-pub use exit_reason::{hint_of, hint_of_no_words, hint_of_session};
-pub use files::{HintFiles, NoFile};
+pub use endings::{hint_of, hint_of_no_words, hint_of_session};
 pub use hint::Hint;
+pub use plan_files::{HintFiles, NoFile};
 pub use refusals::hint_of_refusal;
 pub use script::{Refusal, SeenScript};

@@ -1,7 +1,7 @@
 //! What a run that ended well has lost in silence.
-use crate::files::{FRONT_BYTES, Front, HintFiles, RunFiles};
 use crate::hint::{Escaped, Hint, say, shown};
 use crate::options::{is_comma, value_after};
+use crate::plan_files::{FRONT_BYTES, Front, HintFiles, PlanFiles};
 use crate::records::{alike_in, column, is_digits, is_record, length_in};
 use iv_args::{Slot, Subcommand};
 use iv_lines::{lines_of, split_first_column};
@@ -17,7 +17,7 @@ const NAMES: usize = 20;
 
 /// Puts a loss of a run that ended well, if its files show one.
 pub(crate) fn put_loss<F: HintFiles>(
-    files: &mut RunFiles<'_, '_, F>,
+    files: &mut PlanFiles<'_, '_, F>,
     hint: &mut Hint,
 ) -> Result<(), AllocError> {
     let genome = files.front(Slot::Sizes, BYTES)?;
@@ -180,7 +180,7 @@ fn renaming_text(name: &[u8], header: &[u8]) -> &'static str {
 /// Puts that the FASTA file has no sequence of the records. Of a long file only the front is known: then its first name decides.
 fn put_no_bases<F: HintFiles>(
     records: &[u8],
-    files: &mut RunFiles<'_, '_, F>,
+    files: &mut PlanFiles<'_, '_, F>,
     hint: &mut Hint,
 ) -> Result<(), AllocError> {
     let fasta = files.front(Slot::Bases, FRONT_BYTES)?;

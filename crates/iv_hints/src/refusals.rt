@@ -1,8 +1,8 @@
 //! The hint on a refused line of a script.
-use crate::exit_reason::put_missing_column;
+use crate::endings::put_missing_column;
 use crate::file_kinds::BYTE_ORDER_MARK;
-use crate::files::{HintFiles, RunFiles};
 use crate::hint::{Escaped, Hint, said, say, shown};
+use crate::plan_files::{HintFiles, PlanFiles};
 use crate::records::{
     alike_in, column, count_columns, field, first_record, has_name, is_record, length_in,
 };
@@ -34,7 +34,7 @@ pub fn hint_of_refusal<F: HintFiles>(
 ) -> Result<Hint, AllocError> {
     let mut hint = Hint::new(alloc, if is_below { 0 } else { refusal.number });
     if let Ok(plan) = Plan::read(alloc, words) {
-        let files = &mut RunFiles { alloc, plan, files };
+        let files = &mut PlanFiles { alloc, plan, files };
         put_refusal(refusal.fault, line, files, &mut hint)?;
     }
     Ok(hint)
@@ -44,7 +44,7 @@ pub fn hint_of_refusal<F: HintFiles>(
 fn put_refusal<F: HintFiles>(
     fault: Option<Fault>,
     line: &[u8],
-    files: &mut RunFiles<'_, '_, F>,
+    files: &mut PlanFiles<'_, '_, F>,
     hint: &mut Hint,
 ) -> Result<(), AllocError> {
     let name = said(field(line, 1));
@@ -109,7 +109,7 @@ fn slot_of(line: &[u8]) -> (Slot, &'static str) {
 fn put_edit<F: HintFiles>(
     fault: Fault,
     line: &[u8],
-    files: &mut RunFiles<'_, '_, F>,
+    files: &mut PlanFiles<'_, '_, F>,
     hint: &mut Hint,
 ) -> Result<(), AllocError> {
     let (slot, _) = slot_of(line);

@@ -38,6 +38,6 @@ column-more column rest plain = slice_split_at (is_separator 9) column 9 rest pl
 pub column-last : (column : List ℕ) → HasNoTab column → columns (column ++ []) ≡ column ∷ []
 column-last column plain = ap columns (append-nil column) ∙ slice_split_none (is_separator 9) column plain
 
-pub empty-is : (xs : List ℕ) → length xs ≤ 0 → xs ≡ []
+pub empty-is : {X : Type 0} (xs : List X) → length xs ≤ 0 → xs ≡ []
 empty-is [] none = refl
 empty-is (x ∷ xs) none = absurd (omega arith)

@@ -53,14 +53,10 @@ abbrev pub printed : ℕ → List (List ℕ) → List ℕ
 printed w cs = tabbed w (cond (nat_le 4 w) (column cs 3) [] ∷ cond (nat_le 5 w) (column cs 4) [] ∷ strand_text (cond (nat_le 6 w) (strand_of (column cs 5)) None) ∷ [])
 
 all-printed : (cs : List (List ℕ)) → 4 ≤ length cs → length cs ≤ 6 → (6 ≤ length cs → IsSome (strand_of (column cs 5))) → printed (length cs) cs ≡ with_tabs (drop 3 cs)
-all-printed [] some few strand = absurd (omega arith)
-all-printed (a ∷ []) some few strand = absurd (omega arith)
-all-printed (a ∷ b ∷ []) some few strand = absurd (omega arith)
-all-printed (a ∷ b ∷ c ∷ []) some few strand = absurd (omega arith)
 all-printed (a ∷ b ∷ c ∷ d ∷ []) some few strand = refl
 all-printed (a ∷ b ∷ c ∷ d ∷ e ∷ []) some few strand = refl
 all-printed (a ∷ b ∷ c ∷ d ∷ e ∷ f ∷ []) some few strand = ap (λ (x : List ℕ). with_tabs (d ∷ e ∷ x ∷ [])) (strand-byte f (strand (omega arith)))
-all-printed (a ∷ b ∷ c ∷ d ∷ e ∷ f ∷ h ∷ cs) some few strand = absurd (omega arith)
+all-printed cs some few strand = absurd (omega arith)
 
 -- if a line has as many columns as the width, and the sixth is a strand, then all after the third are printed
 pub whole-printed : (w : ℕ) (cs : List (List ℕ)) → length cs ≡ w → w ≤ 6 → (6 ≤ w → IsSome (strand_of (column cs 5))) → 4 ≤ w → printed w cs ≡ with_tabs (drop 3 cs)

@@ -21,11 +21,9 @@ names-with_length (s ∷ g) (suc rank) n = ap (λ (names : List (List ℕ)). s.0
 
 -- so does the name at each rank
 pub name_at-with_length : (g : Sequences) (rank n k : ℕ) → name_at (with_length g rank n) k ≡ name_at g k
-name_at-with_length [] rank n k = refl
-name_at-with_length (s ∷ g) zero n zero = refl
-name_at-with_length (s ∷ g) zero n (suc k) = refl
-name_at-with_length (s ∷ g) (suc rank) n zero = refl
 name_at-with_length (s ∷ g) (suc rank) n (suc k) = name_at-with_length g rank n k
+name_at-with_length (s ∷ g) zero n zero = refl
+name_at-with_length g rank n k = refl
 
 -- and the rank of each name
 pub rank_of-with_length : (g : Sequences) (rank n : ℕ) (name : List ℕ) → name_index (with_length g rank n) name ≡ name_index g name

@@ -1,5 +1,5 @@
 -- The lines that `bstr` gives are those of the definition.
-use Rattle.std.proofs.Common.{◌≢◌, ◌≡◌, ℕ, suc, ◌-◌, ◌<◌, Bool, true, false, ◌==◌, ◌&&◌, cond, nat_lt, List, [], ◌∷◌, ◌++◌, length, take, drop, map, slice_index, refl, sym, ◌∙◌, ap, arith}
+use Rattle.std.proofs.Common.{◌≢◌, ◌≡◌, ℕ, suc, ◌-◌, ◌<◌, Bool, true, false, ◌==◌, ◌&&◌, cond, nat_lt, List, [], ◌∷◌, ◌++◌, length, take, drop, map, slice_index, refl, sym, ◌∙◌, ap, arith, All}
 use Rattle.std.proofs.lemmas.Bool.{and_parts, and_right, false≢true, cond-true, cond-false}
 use Rattle.std.proofs.lemmas.Bool.{lt-ltb, ne_eqb}
 use Rattle.std.proofs.lemmas.List.Elements.{All-head, All-tail}
@@ -128,10 +128,10 @@ lines-is (b ∷ bs) = step b bs (lines-is bs) (b == 10) refl ((b == 13) && begin
 
 -- ---- the lines of a text, one after another
 
-not_feed : (b : ℕ) (bs : List ℕ) → HasNoFeed (b ∷ bs) → (b == 10) ≡ false
+pub not_feed : (b : ℕ) (bs : List ℕ) → HasNoFeed (b ∷ bs) → (b == 10) ≡ false
 not_feed b bs plain = ne_eqb b 10 (All-head (λ x. x ≢ 10) b bs plain)
 
-plain_rest : (b : ℕ) (bs : List ℕ) → HasNoFeed (b ∷ bs) → HasNoFeed bs
+pub plain_rest : (b : ℕ) (bs : List ℕ) → HasNoFeed (b ∷ bs) → HasNoFeed bs
 plain_rest b bs plain = All-tail (λ x. x ≢ 10) b bs plain
 
 pub strip-is : (x : ℕ) (xs : List ℕ) → strip_last 13 (x ∷ xs) ≡ cond (slice_index (x ∷ xs) (length xs) == 13) (take (length xs) (x ∷ xs)) (x ∷ xs)
@@ -139,6 +139,18 @@ strip-is x xs = no_cr-is x xs
 
 pub strip-more : (b c : ℕ) (bs : List ℕ) → strip_last 13 (b ∷ c ∷ bs) ≡ b ∷ strip_last 13 (c ∷ bs)
 strip-more b c bs = no_cr-onto b c bs
+
+-- bytes before the last aren't looked at
+pub strip-front : (xs : List ℕ) (b : ℕ) (bs : List ℕ) → strip_last 13 (xs ++ b ∷ bs) ≡ xs ++ strip_last 13 (b ∷ bs)
+strip-front [] b bs = refl
+strip-front (x ∷ []) b bs = strip-more x b bs
+strip-front (x ∷ y ∷ xs) b bs = strip-more x y (xs ++ b ∷ bs) ∙ ap (λ t. x ∷ t) (strip-front (y ∷ xs) b bs)
+
+-- a line without a carriage return is kept
+pub strip-kept : (xs : List ℕ) → All (λ b. b ≢ 13) xs → strip_last 13 xs ≡ xs
+strip-kept [] none = refl
+strip-kept (x ∷ []) none = strip-is x [] ∙ cond-false _ _ _ (ne_eqb x 13 (All-head (λ b. b ≢ 13) x [] none))
+strip-kept (x ∷ y ∷ xs) none = strip-more x y xs ∙ ap (λ t. x ∷ t) (strip-kept (y ∷ xs) (All-tail (λ b. b ≢ 13) x (y ∷ xs) none))
 
 -- a byte before a line feed is the line, unless it is a carriage return
 line-one : (b : ℕ) (t : Bool) (rest : List (List ℕ)) → cond (t && true) ([] ∷ rest) (onto_first b ([] ∷ rest)) ≡ cond t [] (b ∷ []) ∷ rest

@@ -1,5 +1,5 @@
 -- Lists in order: their copies, one more, and that the copies determine the list.
-use Rattle.std.proofs.Common.{◌≡◌, ℕ, ◌+◌, ◌<◌, ◌≤◌, Bool, true, false, cond, List, [], ◌∷◌, zero, suc, length, refl, sym, ap, ◌∙◌, subst, arith}
+use Rattle.std.proofs.Common.{◌≡◌, ℕ, ◌+◌, ◌<◌, ◌≤◌, Bool, true, false, cond, List, [], ◌∷◌, zero, suc, length, refl, sym, ap, ◌∙◌, subst, arith, All}
 use Rattle.std.specs.Prelude.{fold, insert}
 use Rattle.std.specs.List.{AllByRecursion, AllWithin, slice_index_or}
 use Rattle.std.specs.List.Sorted.{IsSorted, IsPermutation, IsPartitionedBy}
@@ -11,6 +11,7 @@ use Rattle.std.specs.Ordering.{is_eq, is_le, is_lt, is_gt, ordering_reverse}
 use Rattle.std.specs.Cmp.{IsTotalOrder, tied_itself, Equal-is, upto}
 use Rattle.std.proofs.lemmas.Map.Lookups.{CmpEqualImpliesEq}
 use Rattle.std.proofs.lemmas.List.Sums.{sum_by-cons}
+use Rattle.std.proofs.lemmas.List.Elements.{All-from_recursion, recursion_from_All}
 use Rattle.iv_lines.specs.Ordered.{added_by, InOrder, copies, ordered, AreInOrder}
 use Rattle.iv_lines.specs.Inside.Ordered.{copies_by}
 use Rattle.iv_lines.specs.RecordValue.{RecordValue, record_cmp, records_total}
@@ -38,19 +39,18 @@ module _ {K : Type 0} (cmp : K → K → Ordering) where
   copies-added [] x y = sum_by-cons (λ k. cond (is_eq (cmp y k)) 1 0) x []
   copies-added (q ∷ xs) x y = copies_step (is_le (cmp x q)) (is_eq (cmp y x)) x q y xs (added_by cmp xs x) (copies-added xs x y) refl
 
-all-weaker : {X : Type 0} (P Q : X → Type 0) → ((x : X) → P x → Q x) → (xs : List X) → AllByRecursion P xs → AllByRecursion Q xs
+-- what is implied by what holds of each holds of each
+pub all-weaker : {X : Type 0} (P Q : X → Type 0) → ((x : X) → P x → Q x) → (xs : List X) → AllByRecursion P xs → AllByRecursion Q xs
 all-weaker P Q f [] h = tt
 all-weaker P Q f (x ∷ xs) h = (f x h.0, all-weaker P Q f xs h.1)
 
 le_both : (a b : Ordering) → a ≡ ordering_reverse b → is_le a ≡ true → is_le b ≡ true → a ≡ Equal
-le_both Less Less e g h = cc
-le_both Less Equal e g h = cc
-le_both Less Greater e g h = cc
 le_both Equal b e g h = refl
-le_both Greater b e g h = cc
+le_both Less Less e g h = cc
+le_both a b e g h = cc
 
 module _ {K : Type 0} (cmp : K → K → Ordering) where
-  copies-cons : (x k : K) (xs : List K) → copies_by cmp (x ∷ xs) k ≡ cond (is_eq (cmp k x)) 1 0 + copies_by cmp xs k
+  pub copies-cons : (x k : K) (xs : List K) → copies_by cmp (x ∷ xs) k ≡ cond (is_eq (cmp k x)) 1 0 + copies_by cmp xs k
   copies-cons x k xs = sum_by-cons (λ y. cond (is_eq (cmp k y)) 1 0) x xs
 
   copies-own : IsTotalOrder cmp → (x : K) (xs : List K) → 0 < copies_by cmp (x ∷ xs) x
@@ -125,6 +125,10 @@ module _ {K : Type 0} (cmp : K → K → Ordering) where
   pub in_order-all_added : IsTotalOrder cmp → (xs start : List K) → InOrder cmp start → InOrder cmp (fold (added_by cmp) start xs)
   in_order-all_added o [] start h = h
   in_order-all_added o (x ∷ xs) start h = in_order-all_added o xs (added_by cmp start x) (in_order-added o start x h)
+
+-- what all records of a list have, those of the list in order have
+pub ordered-all : (P : RecordValue → Type 0) (records : List RecordValue) → All P records → All P (ordered records)
+ordered-all P records all = All-from_recursion P (ordered records) (all-all_added record_cmp P records [] (recursion_from_All P records all) tt)
 
 -- ---- sorts and inserts
 

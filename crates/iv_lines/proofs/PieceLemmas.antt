@@ -66,5 +66,6 @@ pub handed-on : {T E : Type 0} (r : Result T E) (f : E) (P : E → Type 0) → I
 handed-on (Ok x) f P is holds = absurd is
 handed-on (Err e) f P is holds = subst P (sym is) holds
 
-pub rest-whole : (text : List ℕ) (at : ℕ) → take (length text - at) (drop at text) ≡ drop at text
-rest-whole text at = grind (arith, common_steps)
+-- what is left from an index on
+pub rest-whole : {X : Type 0} (xs : List X) (at : ℕ) → take (length xs - at) (drop at xs) ≡ drop at xs
+rest-whole xs at = grind (arith, common_steps)

@@ -11,20 +11,20 @@ use Rattle.iv_lines.specs.RecordValue.{RecordValue, record_cmp}
 abbrev pub Precedes : RecordValue → RecordValue → Type 0
 Precedes q r = (q.seq < r.seq) ⊎ ((q.seq ≡ r.seq) × (q.start ≤ r.start))
 
-then-le : (o p : Ordering) → is_le (ordering_then o p) ≡ true → (o ≡ Less) ⊎ ((o ≡ Equal) × (is_le p ≡ true))
+pub then-le : (o p : Ordering) → is_le (ordering_then o p) ≡ true → (o ≡ Less) ⊎ ((o ≡ Equal) × (is_le p ≡ true))
 then-le Less p e = inl refl
 then-le Equal p e = inr (refl, e)
 then-le Greater p e = cc
 
-then-is_le : (o p : Ordering) → is_le (ordering_then o p) ≡ true → is_le o ≡ true
+pub then-is_le : (o p : Ordering) → is_le (ordering_then o p) ≡ true → is_le o ≡ true
 then-is_le Less p e = refl
 then-is_le Equal p e = refl
 then-is_le Greater p e = e
 
-less-from : (a b : ℕ) → nat_cmp a b ≡ Less → a < b
+pub less-from : (a b : ℕ) → nat_cmp a b ≡ Less → a < b
 less-from a b e = by_ranked (a < b) (a ≡ b) (b < a) (nat_cmp a b) (ranked a b _ refl) (λ _ l. l) (λ f _. cc) (λ f _. cc)
 
-equal-from : (a b : ℕ) → nat_cmp a b ≡ Equal → a ≡ b
+pub equal-from : (a b : ℕ) → nat_cmp a b ≡ Equal → a ≡ b
 equal-from a b e = by_ranked (a < b) (a ≡ b) (b < a) (nat_cmp a b) (ranked a b _ refl) (λ f _. cc) (λ _ l. l) (λ f _. cc)
 
 pub precedes-from : (q r : RecordValue) → is_le (record_cmp q r) ≡ true → Precedes q r

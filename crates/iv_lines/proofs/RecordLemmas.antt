@@ -14,14 +14,9 @@ use Rattle.iv_lines.specs.Inside.RecordValue.{strand_cmp}
 
 exact_strands : CmpEqualImpliesEq strand_cmp
 exact_strands Plus Plus h = refl
-exact_strands Plus Minus h = cc
-exact_strands Plus Dot h = cc
-exact_strands Minus Plus h = cc
 exact_strands Minus Minus h = refl
-exact_strands Minus Dot h = cc
-exact_strands Dot Plus h = cc
-exact_strands Dot Minus h = cc
 exact_strands Dot Dot h = refl
+exact_strands a b h = cc
 
 exact_options : CmpEqualImpliesEq (option_cmp strand_cmp)
 exact_options None None h = refl

@@ -16,7 +16,7 @@ use std::marker::Model;
 /// Its value is that of a record of width 3, and its order the order of a track among such records.
 #[derive(Drop)]
 pub struct Bed3Record {
-    rank: u32,
+    seq: u32,
     start: u32,
     stop: u32,
 }
@@ -27,7 +27,7 @@ impl Model for Bed3Record {
 
     ghost Value = { RecordValue };
 
-    ghost view = { λ r. record { seq = r.rank; start = r.start; stop = r.stop; name = []; score = []; strand = None; width = 3 } };
+    ghost view = { λ r. record { seq = r.seq; start = r.start; stop = r.stop; name = []; score = []; strand = None; width = 3 } };
 
     ghost invariant = { λ r. r.start < r.stop };
 }
@@ -38,18 +38,14 @@ impl Bed3Record {
         requires { start < stop }
         ensures { result ≡ record { seq = seq; start = start; stop = stop; name = []; score = []; strand = None; width = 3 } }
     {
-        Bed3Record {
-            rank: seq,
-            start,
-            stop,
-        }
+        Bed3Record { seq, start, stop }
     }
 
     /// The rank of its sequence in the genome.
     pub fn seq(&self) -> u32
         ensures { result ≡ self.now.seq }
     {
-        self.rank
+        self.seq
     }
 
     /// The start, from 0.
@@ -74,7 +70,7 @@ impl Bed3Record {
         ensures three { self.now ≡ record { seq = self.now.seq; start = self.now.start; stop = self.now.stop; name = []; score = []; strand = None; width = 3 } }
     {
         // After this read the type's bounds are known.
-        let _seq = self.rank;
+        let _seq = self.seq;
         let _stop = self.stop;
     }
 
@@ -82,14 +78,14 @@ impl Bed3Record {
     pub fn as_ref<'a>(&self) -> RecordRef<'a>
         ensures { result ≡ self.now }
     {
-        RecordRef::of_columns(self.rank, self.start, self.stop, &[], &[], None, 3)
+        RecordRef::of_columns(self.seq, self.start, self.stop, &[], &[], None, 3)
     }
 
     /// The same record, as one that may own texts. It takes no memory.
     pub(crate) fn into_record<A: Allocator>(self, alloc: A) -> Record<A>
         ensures { result ≡ self }
     {
-        Record::of_interval(alloc, self.rank, self.start, self.stop)
+        Record::of_interval(alloc, self.seq, self.start, self.stop)
     }
 }
 
@@ -129,8 +125,8 @@ impl Ord for Bed3Record {
 
     #[inline]
     fn cmp(&self, other: &Bed3Record) -> Ordering {
-        if self.rank != other.rank {
-            return self.rank.cmp(&other.rank);
+        if self.seq != other.seq {
+            return self.seq.cmp(&other.seq);
         }
         if self.start != other.start {
             return self.start.cmp(&other.start);

@@ -8,7 +8,6 @@ mod fault;
 mod genome;
 mod lemmas;
 mod lines;
-mod name_and_score;
 mod name_map;
 mod number;
 mod record;

@@ -57,15 +57,15 @@ impl<A: Allocator> Record<A> {
 
     /// The record of this width and interval, which has a base, without other columns. It takes no memory.
     #[inline(always)]
-    fn without_texts(_alloc: A, width: u8, rank: u32, start: u32, stop: u32) -> Self
+    fn without_texts(_alloc: A, width: u8, seq: u32, start: u32, stop: u32) -> Self
         requires { start < stop }
-        ensures { result ≡ record { seq = rank; start = start; stop = stop; name = []; score = []; strand = None; width = width } }
+        ensures { result ≡ record { seq = seq; start = start; stop = stop; name = []; score = []; strand = None; width = width } }
     {
         let beside = StrandAndWidth {
             strand: None,
             width,
         };
-        let interval = Interval { rank, start, stop };
+        let interval = Interval { seq, start, stop };
         Record {
             columns: RecordColumns::Empty(beside, interval),
         }
@@ -78,7 +78,7 @@ impl<A: Allocator> Record<A> {
         let interval = self.columns.interval();
         let beside = self.columns.strand_and_width();
         RecordRef::of_columns(
-            interval.rank,
+            interval.seq,
             interval.start,
             interval.stop,
             self.columns.name(),
@@ -92,7 +92,7 @@ impl<A: Allocator> Record<A> {
     pub fn seq(&self) -> u32
         ensures { result ≡ self.now.seq }
     {
-        self.columns.interval().rank
+        self.columns.interval().seq
     }
 
     /// The start, from 0.
@@ -149,7 +149,7 @@ impl<A: Allocator> Record<A> {
 
     /// The same record in 12 bytes, if it has three columns.
     #[inline(always)]
-    pub(crate) fn to_bed3(&self) -> Option<Bed3Record>
+    pub fn to_bed3(&self) -> Option<Bed3Record>
         ensures same { IfSome result (λ bed3. bed3 ≡ self.now) }
         ensures three { IsSome result ↔ (self.now.width ≡ 3) }
     {
@@ -157,7 +157,7 @@ impl<A: Allocator> Record<A> {
             return None;
         }
         let interval = self.columns.interval();
-        Some(Bed3Record::new(interval.rank, interval.start, interval.stop))
+        Some(Bed3Record::new(interval.seq, interval.start, interval.stop))
     }
 
     /// Whether it is a record of this width on this genome.
@@ -196,7 +196,7 @@ impl<A: Allocator + Copy> Record<A> {
             width: feature.width,
         };
         let interval = Interval {
-            rank: feature.rank,
+            seq: feature.seq,
             start: feature.start,
             stop: feature.stop,
         };
@@ -242,8 +242,8 @@ impl<A: Allocator> Ord for Record<A> {
     #[inline]
     fn cmp(&self, other: &Record<A>) -> Ordering {
         let (this, that) = (self.columns.interval(), other.columns.interval());
-        if this.rank != that.rank {
-            return this.rank.cmp(&that.rank);
+        if this.seq != that.seq {
+            return this.seq.cmp(&that.seq);
         }
         if this.start != that.start {
             return this.start.cmp(&that.start);

@@ -59,7 +59,7 @@ pub(crate) enum OtherColumns<'a> {
 /// Columns beyond the width are empty.
 #[derive(Debug, Drop)]
 pub struct RecordRef<'a> {
-    pub(crate) rank: u32,
+    pub(crate) seq: u32,
     pub(crate) start: u32,
     pub(crate) stop: u32,
     others: OtherColumns<'a>,
@@ -72,15 +72,15 @@ impl<'a> Model for RecordRef<'a> {
 
     ghost Value = { RecordValue };
 
-    ghost view = { λ r. record_held r.rank r.start r.stop r.others r.width };
+    ghost view = { λ r. record_held r.seq r.start r.stop r.others r.width };
 
-    ghost invariant = { λ r. IsHeld r.rank r.start r.stop r.others r.width };
+    ghost invariant = { λ r. IsHeld r.seq r.start r.stop r.others r.width };
 }
 
 impl<'a> RecordRef<'a> {
     /// The record of these columns, which has a base. Columns beyond the width are empty.
     pub fn of_columns(
-        rank: u32,
+        seq: u32,
         start: u32,
         stop: u32,
         name: &'a [u8],
@@ -88,11 +88,11 @@ impl<'a> RecordRef<'a> {
         strand: Option<Strand>,
         width: u8,
     ) -> RecordRef<'a>
-        requires { IsRecord (record { seq = rank; start = start; stop = stop; name = name.now; score = score.now; strand = strand; width = width }) }
-        ensures { result ≡ record { seq = rank; start = start; stop = stop; name = name.now; score = score.now; strand = strand; width = width } }
+        requires { IsRecord (record { seq = seq; start = start; stop = stop; name = name.now; score = score.now; strand = strand; width = width }) }
+        ensures { result ≡ record { seq = seq; start = start; stop = stop; name = name.now; score = score.now; strand = strand; width = width } }
     {
         RecordRef {
-            rank,
+            seq,
             start,
             stop,
             others: OtherColumns::Cut(CutColumns {
@@ -107,13 +107,13 @@ impl<'a> RecordRef<'a> {
     /// The record whose columns after the third are these of a line, with a TAB between two of them: as many as the width has.
     ///
     /// They are cut when they are asked for, and put as they are.
-    pub fn of_joined(rank: u32, start: u32, stop: u32, joined: &'a [u8], width: u8) -> RecordRef<'a>
+    pub fn of_joined(seq: u32, start: u32, stop: u32, joined: &'a [u8], width: u8) -> RecordRef<'a>
         requires some { start < stop }
-        requires whole { codes "\t" ++ joined.now ≡ rest_text (joined_record rank start stop joined.now width) }
-        ensures { result ≡ joined_record rank start stop joined.now width }
+        requires whole { codes "\t" ++ joined.now ≡ rest_text (joined_record seq start stop joined.now width) }
+        ensures { result ≡ joined_record seq start stop joined.now width }
     {
         RecordRef {
-            rank,
+            seq,
             start,
             stop,
             others: OtherColumns::Joined(joined),
@@ -149,7 +149,7 @@ impl<'a> RecordRef<'a> {
     pub fn seq(&self) -> u32
         ensures { result ≡ self.now.seq }
     {
-        self.rank
+        self.seq
     }
 
     /// The start, from 0.
@@ -173,7 +173,7 @@ impl<'a> RecordRef<'a> {
         ensures { IsPlaced self.now }
     {
         // After this read the type's bounds are known.
-        let _seq = self.rank;
+        let _seq = self.seq;
         let _stop = self.stop;
     }
 
@@ -233,7 +233,7 @@ impl<'a> RecordRef<'a> {
     {
         self.lemma_of_interval();
         RecordRef {
-            rank: self.rank,
+            seq: self.seq,
             start: start as u32,
             stop: stop as u32,
             others: self.others,
@@ -305,10 +305,10 @@ pub fn are_sound(width: u8, name: &[u8], score: &[u8], strand: Option<Strand>) -
 }
 
 /// Whether the genome has the rank, and the stop is within its sequence.
-pub(crate) fn is_within<A: Allocator + Copy>(genome: &Genome<A>, rank: u32, stop: u64) -> bool
-    ensures { IsTrue result ↔ IsWithin genome.now rank stop }
+pub(crate) fn is_within<A: Allocator + Copy>(genome: &Genome<A>, seq: u32, stop: u64) -> bool
+    ensures { IsTrue result ↔ IsWithin genome.now seq stop }
 {
-    match genome.length(rank) {
+    match genome.length(seq) {
         Some(length) => stop <= length,
         None => false,
     }
@@ -392,7 +392,7 @@ pub fn read_record<'a, A: Allocator + Copy>(
     let Some(cells) = cells_of(line, width) else {
         return Err(RecordFault::Columns);
     };
-    let Some((rank, length)) = genome.find(cells.seq) else {
+    let Some((seq, length)) = genome.find(cells.seq) else {
         return Err(RecordFault::UnknownSeq);
     };
     let Some(start) = read_number(cells.start) else {
@@ -418,7 +418,7 @@ pub fn read_record<'a, A: Allocator + Copy>(
         return Err(RecordFault::Strand);
     }
     Ok(RecordRef::of_columns(
-        rank,
+        seq,
         start as u32,
         stop as u32,
         cells.others.name,

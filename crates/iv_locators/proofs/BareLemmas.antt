@@ -4,8 +4,7 @@ use Rattle.std.specs.Prelude.{All, count_by, fold}
 use Rattle.std.specs.List.{AllByRecursion}
 use Rattle.std.specs.Ordering.{is_eq, is_le, nat_cmp, ordering_then}
 use Rattle.std.specs.declared.cmp.Ordering.{Ordering}
-use Rattle.std.specs.declared.cmp.Ordering.TheVariants.{Less, Equal, Greater}
-use Rattle.std.proofs.lemmas.List.Elements.{All-from_recursion, recursion_from_All}
+use Rattle.std.specs.declared.cmp.Ordering.TheVariants.{Equal, Greater}
 use Rattle.std.proofs.lemmas.List.Sums.{sum_by-cons}
 use Rattle.iv_lines.specs.Genome.{Sequences}
 use Rattle.iv_text.specs.BedReading.{IsProjected}
@@ -37,13 +36,10 @@ kept-on_genome g w records kept k e within =
 
 -- what is no more by interval and columns is no more by interval
 le_first : (a b c d : Ordering) → is_le (ordering_then a (ordering_then b (ordering_then c d))) ≡ true → is_le (ordering_then a (ordering_then b (ordering_then c Equal))) ≡ true
-le_first Less b c d h = refl
 le_first Greater b c d h = cc
-le_first Equal Less c d h = refl
 le_first Equal Greater c d h = cc
-le_first Equal Equal Less d h = refl
 le_first Equal Equal Greater d h = cc
-le_first Equal Equal Equal d h = refl
+le_first a b c d h = refl
 
 bare-le : (x y : RecordValue) → is_le (record_cmp x y) ≡ true → is_le (record_cmp (bare x) (bare y)) ≡ true
 bare-le x y h = le_first (nat_cmp x.seq y.seq) (nat_cmp x.start y.start) (nat_cmp x.stop y.stop) (beside_cmp x y) h

@@ -8,6 +8,7 @@ use Rattle.std.proofs.lemmas.Bool.{and_cases, and_parts, eqb-true, eqb-false, le
 use Rattle.std.proofs.lemmas.Bool.Decides.{nat_tests}
 use Rattle.std.proofs.lemmas.List.Elements.{All-from_recursion, recursion_from_All, All-map}
 use Rattle.std.proofs.lemmas.List.Kept.{AllPairs-cons}
+use Rattle.std.proofs.Math.Bool.{or_assoc}
 use Rattle.iv_lines.specs.Ordered.{AreInOrder}
 use Rattle.iv_lines.specs.RecordValue.{RecordValue, record_cmp}
 use Rattle.iv_lines.proofs.PrecedesLemmas.{precedes-from}
@@ -36,10 +37,6 @@ InTurn R [] = Unit {0}
 InTurn R (x ∷ xs) = AllByRecursion (R x) xs × InTurn R xs
 
 -- ---- what they cover
-
-or_assoc : (a b c : Bool) → ((a || b) || c) ≡ (a || (b || c))
-or_assoc true b c = refl
-or_assoc false b c = refl
 
 -- two locators that touch, as one locator
 on-grown : (seq p : ℕ) (k x : Locator) → touches k x ≡ true → Before k x → on seq p (grown k x) ≡ (on seq p k || on seq p x)

@@ -1,9 +1,10 @@
 -- The line at a byte of a text, and the columns of its record.
-use Rattle.std.proofs.Common.{◌≡◌, ℕ, ◌+◌, ◌-◌, ◌<◌, ◌≤◌, ◌⊎◌, inl, inr, Bool, true, false, nat_le, cond, List, [], ◌∷◌, ◌++◌, None, codes, length, take, drop, refl, sym, ap, ◌∙◌, arith, All}
+use Rattle.std.proofs.Common.{◌≡◌, ℕ, ◌+◌, ◌-◌, ◌<◌, ◌≤◌, ◌⊎◌, inl, inr, Bool, false, nat_le, cond, List, [], ◌∷◌, ◌++◌, None, codes, length, take, drop, refl, sym, ap, ◌∙◌, arith, All}
 use Rattle.std.specs.Prelude.{IsSome}
 use Rattle.std.proofs.lemmas.Bool.Decides.{nat_tests}
 use Rattle.std.proofs.lemmas.List.{drop_all, drop-drop}
 use Rattle.std.proofs.lemmas.List.Elements.{All-nil, All-cons}
+use Rattle.std.proofs.lemmas.Bool.{cond_both}
 use Rattle.iv_lines.proofs.PieceLemmas.{rest-whole}
 use Rattle.iv_lines.proofs.JoinedLemmas.{tabs-columns, whole-printed, with_tabs}
 use Rattle.iv_lines.specs.Fields.{columns}
@@ -84,14 +85,10 @@ none_after w p = record { seq = p.span.seq; start = p.span.start; stop = p.span.
 
 -- the tests of the width don't matter if each column is empty
 untested : (w : ℕ) (p : Locator) (a b c : Bool) → none_after w p ≡ record { seq = p.span.seq; start = p.span.start; stop = p.span.stop; name = cond a [] []; score = cond b [] []; strand = cond c None None; width = w }
-untested w p true true true = refl
-untested w p true true false = refl
-untested w p true false true = refl
-untested w p true false false = refl
-untested w p false true true = refl
-untested w p false true false = refl
-untested w p false false true = refl
-untested w p false false false = refl
+untested w p a b c = λ i. record { seq = p.span.seq; start = p.span.start; stop = p.span.stop; name = same a [] i; score = same b [] i; strand = same c None i; width = w }
+  where
+    same : {X : Type 0} (t : Bool) (x : X) → x ≡ cond t x x
+    same t x = cond_both t x x (λ y. x ≡ y) (λ _. refl) (λ _. refl)
 
 -- at width 3, or on a line without a fourth column, the record has no column after the third
 pub none-after-third : (w : ℕ) (text : List ℕ) (p : Locator) → (w < 4) ⊎ (drop 3 (columns (line_at text p.line_start)) ≡ []) → none_after w p ≡ record_at w text p

@@ -32,23 +32,13 @@ nat_tied x y e = subst (λ (z : ℕ). nat_cmp x z ≡ Equal) e (tied_itself nat_
 
 -- if three comparisons aren't tied, what follows doesn't count
 pub decided : (s t p o : Ordering) → is_ne (ordering_then s (ordering_then t (ordering_then p Equal))) ≡ true → ordering_then s (ordering_then t (ordering_then p Equal)) ≡ ordering_then s (ordering_then t (ordering_then p o))
-decided Less t p o h = refl
-decided Greater t p o h = refl
-decided Equal Less p o h = refl
-decided Equal Greater p o h = refl
-decided Equal Equal Less o h = refl
-decided Equal Equal Greater o h = refl
 decided Equal Equal Equal o h = cc
+decided s t p o h = refl
 
 -- and if they are, it decides
 pub tied : (s t p o : Ordering) → is_ne (ordering_then s (ordering_then t (ordering_then p Equal))) ≡ false → o ≡ ordering_then s (ordering_then t (ordering_then p o))
-tied Less t p o h = cc
-tied Greater t p o h = cc
-tied Equal Less p o h = cc
-tied Equal Greater p o h = cc
-tied Equal Equal Less o h = cc
-tied Equal Equal Greater o h = cc
 tied Equal Equal Equal o h = refl
+tied s t p o h = cc
 
 -- name, score and strand decide among records of one width
 pub columns-cmp : (a b : RecordValue) (name_a score_a : List ℕ) (strand_a : Option Strand) (name_b score_b : List ℕ) (strand_b : Option Strand) → a.width ≡ b.width

@@ -1,52 +1,27 @@
 -- The reading of a text: the record of a line, and the whole.
-use Rattle.std.proofs.Common.{◌≡◌, ℕ, ◌<◌, ◌≤◌, ◌%◌, ◌^◌, Bool, true, false, cond, not, ◌==◌, nat_le, List, [], ◌∷◌, ◌++◌, Option, Some, None, Result, Ok, Err, length, map, drop, find, refl, sym, ap, subst, ◌∙◌, arith, All, unwrap_or, append-nil}
+use Rattle.std.proofs.Common.{◌≡◌, ℕ, ◌<◌, ◌≤◌, ◌%◌, ◌^◌, Bool, true, false, cond, nat_le, List, [], ◌∷◌, ◌++◌, None, Result, Ok, Err, length, map, drop, refl, sym, ap, subst, ◌∙◌, arith, All, unwrap_or, append-nil}
 use Rattle.std.specs.Prelude.{IsSome}
 use Rattle.std.proofs.Math.Nat.{mod-eq_of_lt}
-use Rattle.std.proofs.lemmas.Bool.{eqb-true}
 use Rattle.std.proofs.lemmas.Bool.Decides.{nat_tests}
 use Rattle.std.proofs.lemmas.List.{drop_all, get_or_past}
 use Rattle.std.proofs.lemmas.List.Elements.{All-nil, All-cons, All-head, All-tail}
-use Rattle.iv_lines.proofs.ReadLemmas.{hit}
 use Rattle.iv_text.proofs.BedReadingLemmas.{begun-sound, fit-all, kept-all, rows-all, sound-kept, whole-file}
 use Rattle.iv_lines.specs.Fields.{columns}
 use Rattle.iv_lines.specs.Genome.{Sequences}
 use Rattle.iv_text.specs.BedReading.{AreSoundLines, Held, RefusesLines, Shows, TakesLines, after, begun, byte_after, none_held, shown, finished}
 use Rattle.iv_lines.specs.Lines.{lines}
-use Rattle.iv_lines.specs.Read.{read, feature, has_fault, faults, column, Fits}
-use Rattle.iv_lines.specs.Chains.{unless_fault}
+use Rattle.iv_lines.specs.Read.{read, feature, column, Fits}
 use Rattle.iv_lines.specs.RecordValue.{RecordValue, strand_of}
 use Rattle.iv_text.specs.BedFile.{Draft, bed_of}
-use Rattle.iv_lines.specs.declared.fault.Fault.{Fault}
 use Rattle.iv_lines.specs.declared.fault.Fault.TheVariants as fault
 use Rattle.iv_lines.specs.declared.fault.LoadFault.{LoadFault}
+use Rattle.iv_lines.proofs.ReadLemmas.{count-sound, read-parts}
 use Rattle.iv_locators.proofs.LocatorLemmas.{line-is, line-whole}
 use Rattle.iv_locators.specs.Inside.Locators.{HasAllColumns, HasBase, line_at, locator_at, row_of, record_at, records_at}
 use Rattle.iv_locators.specs.Inside.Drafts.{AreLocators}
 use Rattle.iv_locators.specs.declared.locator.Locator.{Locator}
 
 -- ---- the record of a line
-
-or_fault-ok : (o : Option Fault) (q r : RecordValue) → unless_fault o (Ok q) ≡ Ok r → q ≡ r
-or_fault-ok None q r h = cc
-or_fault-ok (Some f) q r h = cc
-
-row-is : (g : Sequences) (w : ℕ) (line : List ℕ) (r : RecordValue) → read g w line ≡ Ok r → feature g w (columns line) ≡ r
-row-is g w line r says = or_fault-ok (find (has_fault g w (columns line)) faults) (feature g w (columns line)) r says
-
-or_fault-hit : (o : Option Fault) (f : Fault) (q r : RecordValue) → o ≡ Some f → unless_fault o (Ok q) ≡ Ok r → ⊥
-or_fault-hit None f q r is h = cc
-or_fault-hit (Some e) f q r is h = cc
-
-other_faults : List Fault
-other_faults = fault.UnknownSeq ∷ fault.StartNumber ∷ fault.StopNumber ∷ fault.Order ∷ fault.PastEnd ∷ fault.Name ∷ fault.Score ∷ fault.Strand ∷ []
-
-count-is : (g : Sequences) (w : ℕ) (line : List ℕ) (r : RecordValue) → read g w line ≡ Ok r → length (columns line) ≡ w
-unfolding other_faults
-count-is g w line r says = by (length (columns line) == w) refl
-  where
-    by : (t : Bool) → (length (columns line) == w) ≡ t → length (columns line) ≡ w
-    by true e = eqb-true (length (columns line)) w e
-    by false e = absurd (or_fault-hit (find (has_fault g w (columns line)) faults) fault.Columns (feature g w (columns line)) r (hit (has_fault g w (columns line)) fault.Columns other_faults (ap not e)) says)
 
 column-past : (cs : List (List ℕ)) (k : ℕ) → length cs ≤ k → column cs k ≡ []
 column-past cs k past = get_or_past cs k [] past
@@ -60,15 +35,16 @@ wanted {X} k w x d beyond = by (nat_le k w) refl
 
 -- the record of a line is that of its locator
 pub locator-row : (g : Sequences) (w : ℕ) (line : List ℕ) (r : RecordValue) (p : Locator) → read g w line ≡ Ok r → p.span.seq ≡ r.seq → p.span.start ≡ r.start → p.span.stop ≡ r.stop → r ≡ row_of w line p
-locator-row g w line r p says rank start stop =
+locator-row g w line r p says seq start stop =
     let cs = columns line in
-    let is : feature g w cs ≡ r = row-is g w line r says in
-    let count : length cs ≡ w = count-is g w line r says in
+    let parts = read-parts g w line r says in
+    let is : feature g w cs ≡ r = parts.1 in
+    let count : length cs ≡ w = count-sound g w cs parts.0 in
     let name : r.name ≡ cond (nat_le 4 w) (column cs 3) [] = ap (λ (q : RecordValue). q.name) (sym is) ∙ sym (wanted 4 w (column cs 3) [] (λ low. column-past cs 3 (omega arith))) in
     let score : r.score ≡ cond (nat_le 5 w) (column cs 4) [] = ap (λ (q : RecordValue). q.score) (sym is) ∙ sym (wanted 5 w (column cs 4) [] (λ low. column-past cs 4 (omega arith))) in
     let strand : r.strand ≡ cond (nat_le 6 w) (strand_of (column cs 5)) None = ap (λ (q : RecordValue). q.strand) (sym is) ∙ sym (wanted 6 w (strand_of (column cs 5)) None (λ low. ap strand_of (column-past cs 5 (omega arith)))) in
     let width : r.width ≡ w = ap (λ (q : RecordValue). q.width) (sym is) in
-    λ i. record { seq = sym rank i; start = sym start i; stop = sym stop i; name = name i; score = score i; strand = strand i; width = width i }
+    λ i. record { seq = sym seq i; start = sym start i; stop = sym stop i; name = name i; score = score i; strand = strand i; width = width i }
 
 -- ---- a whole file
 
@@ -130,7 +106,7 @@ module _ (g : Sequences) (limit empty : ℕ) (text : List ℕ) (small : length t
         let at : byte_after 0 skipped ≡ skipped = ap (λ (n : ℕ). n % 2 ^ 32) (omega arith) ∙ mod-eq_of_lt (omega (arith, within, small)) in
         let line_is : line_at text p.line_start ≡ line = ap (line_at text) at ∙ line-is text skipped line others are in
         ap (λ (l : List ℕ). row_of (length (columns l)) l p) line_is
-        ∙ ap (λ (n : ℕ). row_of n line p) (count-is g w line r reads)
+        ∙ ap (λ (n : ℕ). row_of n line p) (count-sound g w (columns line) (read-parts g w line r reads).0)
         ∙ sym (locator-row g w line r p reads refl refl refl);
   }
 

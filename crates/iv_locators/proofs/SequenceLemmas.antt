@@ -12,7 +12,7 @@ use Rattle.iv_lines.proofs.ListLemmas.{same_tests, mem-all, mem-filter, filter-f
 use Rattle.iv_lines.proofs.InOrderLemmas.{in_order-filter}
 use Rattle.iv_lines.proofs.PrecedesLemmas.{precedes-from}
 
-module _ {X : Type 0} (feature : X → RecordValue) (rank : ℕ) where
+module _ {X : Type 0} (feature : X → RecordValue) (seq : ℕ) where
   -- each of these records is on this sequence or a later one
   low-at : (r : RecordValue) (locators : List X) → AllByRecursion (λ y. is_le (record_cmp r y) ≡ true) (map feature locators)
       → (j : ℕ) (d : X) → j < length locators → r.seq ≤ (feature (get_or locators j d)).seq
@@ -24,73 +24,73 @@ module _ {X : Type 0} (feature : X → RecordValue) (rank : ℕ) where
   low-at r (p ∷ locators) all (suc j) d lt = low-at r locators all.1 j d (omega arith)
 
   -- those up to a rank come first
-  parted : (locators : List X) → AreInOrder (map feature locators) → IsPartitionedBy (λ locator. nat_le (feature locator).seq rank) locators
+  parted : (locators : List X) → AreInOrder (map feature locators) → IsPartitionedBy (λ locator. nat_le (feature locator).seq seq) locators
   parted [] order i j d le lt e = absurd (omega arith)
   parted (p ∷ locators) order zero zero d le lt e = e
   parted (p ∷ locators) order zero (suc j) d le lt e =
       let low : (feature p).seq ≤ (feature (get_or locators j d)).seq = low-at (feature p) locators order.0 j d (omega arith) in
-      le-leb (feature p).seq rank (omega (arith, leb-true (feature (get_or locators j d)).seq rank e))
+      le-leb (feature p).seq seq (omega (arith, leb-true (feature (get_or locators j d)).seq seq e))
   parted (p ∷ locators) order (suc i) zero d le lt e = absurd (omega arith)
   parted (p ∷ locators) order (suc i) (suc j) d le lt e = parted locators order.1 i j d (omega arith) (omega arith) e
 
   -- if none is below the rank, they are the records on it, and those after them are on later ones
   split-here : (locators : List X) (n : ℕ) → n ≤ length locators
-      → IsPartitionPoint (λ locator. nat_le (feature locator).seq rank ≡ true) (λ locator. nat_le (feature locator).seq rank ≡ false) locators n
-      → All (λ r. rank ≤ r.seq) (map feature locators)
-      → (take n (map feature locators) ≡ on rank (map feature locators))
-      × (drop n (map feature locators) ≡ filter (λ r. nat_lt rank r.seq) (map feature locators))
+      → IsPartitionPoint (λ locator. nat_le (feature locator).seq seq ≡ true) (λ locator. nat_le (feature locator).seq seq ≡ false) locators n
+      → All (λ r. seq ≤ r.seq) (map feature locators)
+      → (take n (map feature locators) ≡ on seq (map feature locators))
+      × (drop n (map feature locators) ≡ filter (λ r. nat_lt seq r.seq) (map feature locators))
   split-here [] zero within point from = (refl, refl)
   split-here [] (suc n) within point from = absurd (omega arith)
   split-here (p ∷ locators) zero within point from =
       let rest = split-here locators zero (omega arith) ((λ k d low high. absurd (omega arith)), (λ k d low high. point.1 (suc k) d (omega arith) (omega arith)))
-      (All-tail (λ (r : RecordValue). rank ≤ r.seq) (feature p) (map feature locators) from) in
-      let past : rank < (feature p).seq = leb-false (feature p).seq rank (point.1 0 p (omega arith) (omega arith)) in
-      let off : ((feature p).seq == rank) ≡ false = ne_eqb (feature p).seq rank (λ at. omega (arith, past, at)) in
-      let later : nat_lt rank (feature p).seq ≡ true = lt-ltb rank (feature p).seq past in
+      (All-tail (λ (r : RecordValue). seq ≤ r.seq) (feature p) (map feature locators) from) in
+      let past : seq < (feature p).seq = leb-false (feature p).seq seq (point.1 0 p (omega arith) (omega arith)) in
+      let off : ((feature p).seq == seq) ≡ false = ne_eqb (feature p).seq seq (λ at. omega (arith, past, at)) in
+      let later : nat_lt seq (feature p).seq ≡ true = lt-ltb seq (feature p).seq past in
       (rw off rest.0, rw later (ap (λ (l : List RecordValue). feature p ∷ l) rest.1))
   split-here (p ∷ locators) (suc n) within point from =
       let rest = split-here locators n (omega arith) ((λ k d low high. point.0 (suc k) d (omega arith) (omega arith)), (λ k d low high. point.1 (suc k) d (omega arith) (omega arith)))
-      (All-tail (λ (r : RecordValue). rank ≤ r.seq) (feature p) (map feature locators) from) in
-      let first : rank ≤ (feature p).seq = All-head (λ (r : RecordValue). rank ≤ r.seq) (feature p) (map feature locators) from in
-      let low : (feature p).seq ≤ rank = leb-true (feature p).seq rank (point.0 0 p (omega arith) (omega arith)) in
-      let on_it : ((feature p).seq == rank) ≡ true = eq-eqb (feature p).seq rank (omega (arith, first, low)) in
-      let not_later : nat_lt rank (feature p).seq ≡ false = le-ltb rank (feature p).seq low in
+      (All-tail (λ (r : RecordValue). seq ≤ r.seq) (feature p) (map feature locators) from) in
+      let first : seq ≤ (feature p).seq = All-head (λ (r : RecordValue). seq ≤ r.seq) (feature p) (map feature locators) from in
+      let low : (feature p).seq ≤ seq = leb-true (feature p).seq seq (point.0 0 p (omega arith) (omega arith)) in
+      let on_it : ((feature p).seq == seq) ≡ true = eq-eqb (feature p).seq seq (omega (arith, first, low)) in
+      let not_later : nat_lt seq (feature p).seq ≡ false = le-ltb seq (feature p).seq low in
       (rw on_it (ap (λ (l : List RecordValue). feature p ∷ l) rest.0), rw not_later rest.1)
 
   -- so a search among the intervals of records in order finds how many there are
-  pub split-rows : (locators : List X) (records : List RecordValue) (n : ℕ) → map feature locators ≡ records → AreInOrder records → All (λ r. rank ≤ r.seq) records
+  pub split-rows : (locators : List X) (records : List RecordValue) (n : ℕ) → map feature locators ≡ records → AreInOrder records → All (λ r. seq ≤ r.seq) records
       → n ≤ length locators
-      → (IsPartitionedBy (λ locator. nat_le (feature locator).seq rank) locators → IsPartitionPoint (λ locator. nat_le (feature locator).seq rank ≡ true) (λ locator. nat_le (feature locator).seq rank ≡ false) locators n)
-      → (take n records ≡ on rank records) × (drop n records ≡ filter (λ r. nat_lt rank r.seq) records)
+      → (IsPartitionedBy (λ locator. nat_le (feature locator).seq seq) locators → IsPartitionPoint (λ locator. nat_le (feature locator).seq seq ≡ true) (λ locator. nat_le (feature locator).seq seq ≡ false) locators n)
+      → (take n records ≡ on seq records) × (drop n records ≡ filter (λ r. nat_lt seq r.seq) records)
   split-rows locators records n is order from within found =
-      subst (λ (l : List RecordValue). (take n l ≡ on rank l) × (drop n l ≡ filter (λ r. nat_lt rank r.seq) l)) is
-      (split-here locators n within (found (parted locators (subst AreInOrder (sym is) order))) (subst (All (λ (r : RecordValue). rank ≤ r.seq)) (sym is) from))
+      subst (λ (l : List RecordValue). (take n l ≡ on seq l) × (drop n l ≡ filter (λ r. nat_lt seq r.seq) l)) is
+      (split-here locators n within (found (parted locators (subst AreInOrder (sym is) order))) (subst (All (λ (r : RecordValue). seq ≤ r.seq)) (sym is) from))
 
 -- ---- the records from a sequence on
 
 -- the record is on the sequence of this rank or a later one
 abbrev pub is_from : ℕ → RecordValue → Bool
-is_from rank r = nat_le rank r.seq
+is_from seq r = nat_le seq r.seq
 
 pub all-from : (records : List RecordValue) → filter (is_from 0) records ≡ records
 all-from records = filter-all (is_from 0) records (λ q m. le-leb 0 q.seq (omega arith))
 
-pub from-in : (rank : ℕ) (records : List RecordValue) → All (λ r. rank ≤ r.seq) (filter (is_from rank) records)
-from-in rank records = mem-all (λ r. rank ≤ r.seq) (filter (is_from rank) records) (λ q m. leb-true rank q.seq (mem-filter (is_from rank) records q m).1)
+pub from-in : (seq : ℕ) (records : List RecordValue) → All (λ r. seq ≤ r.seq) (filter (is_from seq) records)
+from-in seq records = mem-all (λ r. seq ≤ r.seq) (filter (is_from seq) records) (λ q m. leb-true seq q.seq (mem-filter (is_from seq) records q m).1)
 
-pub from-order : (rank : ℕ) (records : List RecordValue) → AreInOrder records → AreInOrder (filter (is_from rank) records)
-from-order rank records order = in_order-filter record_cmp (is_from rank) records order
+pub from-order : (seq : ℕ) (records : List RecordValue) → AreInOrder records → AreInOrder (filter (is_from seq) records)
+from-order seq records order = in_order-filter record_cmp (is_from seq) records order
 
-pub from-here : (rank : ℕ) (records : List RecordValue) → on rank (filter (is_from rank) records) ≡ on rank records
-from-here rank records =
-    filter-filter (λ r. r.seq == rank) (is_from rank) records
+pub from-here : (seq : ℕ) (records : List RecordValue) → on seq (filter (is_from seq) records) ≡ on seq records
+from-here seq records =
+    filter-filter (λ r. r.seq == seq) (is_from seq) records
     ∙ filter-agree _ _ records (λ q m. same_tests _ _
-    (λ e. (and_parts (is_from rank q) (q.seq == rank) e).1)
-    (λ e. and_from _ _ (le-leb rank q.seq (omega (arith, eqb-true q.seq rank e))) e))
+    (λ e. (and_parts (is_from seq q) (q.seq == seq) e).1)
+    (λ e. and_from _ _ (le-leb seq q.seq (omega (arith, eqb-true q.seq seq e))) e))
 
-pub from-later : (rank : ℕ) (records : List RecordValue) → filter (λ r. nat_lt rank r.seq) (filter (is_from rank) records) ≡ filter (is_from (rank + 1)) records
-from-later rank records =
-    filter-filter (λ r. nat_lt rank r.seq) (is_from rank) records
+pub from-later : (seq : ℕ) (records : List RecordValue) → filter (λ r. nat_lt seq r.seq) (filter (is_from seq) records) ≡ filter (is_from (seq + 1)) records
+from-later seq records =
+    filter-filter (λ r. nat_lt seq r.seq) (is_from seq) records
     ∙ filter-agree _ _ records (λ q m. same_tests _ _
-    (λ e. le-leb (rank + 1) q.seq (omega (arith, ltb-true rank q.seq (and_parts (is_from rank q) (nat_lt rank q.seq) e).1)))
-    (λ e. let low : rank + 1 ≤ q.seq = leb-true (rank + 1) q.seq e in and_from _ _ (le-leb rank q.seq (omega (arith, low))) (lt-ltb rank q.seq (omega (arith, low)))))
+    (λ e. le-leb (seq + 1) q.seq (omega (arith, ltb-true seq q.seq (and_parts (is_from seq q) (nat_lt seq q.seq) e).1)))
+    (λ e. let low : seq + 1 ≤ q.seq = leb-true (seq + 1) q.seq e in and_from _ _ (le-leb seq q.seq (omega (arith, low))) (lt-ltb seq q.seq (omega (arith, low)))))

@@ -1,5 +1,7 @@
 //! The records of a BED file as locators into its text.
 ghost use Rattle.std.specs.Prelude.{◌≡◌, [], cond, ◌<◌, ◌≤◌, ◌^◌, ◌⊎◌, ℕ, All, length, map, Ok, Err, IfOk, IfErr, OnOk};
+ghost use Rattle.std.specs.Cow.{cow_slice_items};
+ghost use Rattle.std.specs.List.{list_any};
 ghost use Rattle.iv_text.specs.BedFile.{bed_of};
 ghost use Rattle.iv_lines.specs.Ordered.{AreInOrder, ordered};
 ghost use Rattle.iv_lines.specs.Read.{Fits};
@@ -9,15 +11,18 @@ ghost use Rattle.iv_locators.specs.Cover.{is_covered};
 ghost use Rattle.iv_locators.specs.Inside.Cover.{AreApart};
 ghost use Rattle.iv_locators.specs.Inside.Drafts.{AreLocators};
 ghost use Rattle.iv_locators.specs.Inside.Locators.{HasBase, records_at};
+ghost use Rattle.iv_locators.specs.Inside.Ranks.{has_rank, is_marked};
 ghost use Rattle.iv_locators.specs.Locators.{bare};
 ghost use Rattle.iv_lines.specs.Widths.{IsWidth};
 
 use crate::locator::Locator;
 use crate::order::{are_in_order, compare, order_locators};
+use crate::ranks::marked;
 use crate::text_records::TextRecords;
 use iv_lines::{Genome, LoadFault};
 use iv_text::BedLines;
 use std::alloc::{AllocError, Allocator, Global};
+use std::borrow::CowSlice;
 use std::marker::Model;
 
 /// Joins a locator to one that doesn't start past it, if the two overlap or are book-ended, and answers whether they do.
@@ -41,7 +46,7 @@ pub(crate) fn join_locators<A: Allocator>(locators: &mut Vec<Locator, A>)
 }
 
 /// The width of the records of a BED file, and their locators into its text; or the file's first fault.
-pub(crate) fn locate<A: Allocator + Copy>(
+fn locate<A: Allocator + Copy>(
     alloc: A,
     genome: &Genome<A>,
     empty_width: u8,
@@ -65,25 +70,26 @@ pub(crate) fn locate<A: Allocator + Copy>(
 
 /// The records of a BED file, in the order of the file or of a track, all of one width.
 ///
-/// A record takes 16 bytes. Its columns after the third stay in the text, and are cut from it if they
-/// are asked for.
+/// A record takes 16 bytes beside the text, which is borrowed or owned. Its columns after the third stay in the text, and are cut
+/// from it if they are asked for.
 #[derive(Drop)]
 pub struct BedText<'t, A: Allocator = Global> {
-    text: &'t [u8],
+    text: CowSlice<'t, u8, A>,
     locators: Vec<Locator, A>,
     width: u8,
 }
 
 impl<'t, A: Allocator> Model for BedText<'t, A> {
+    ghost use Rattle.std.specs.Cow.{cow_slice_items};
     ghost use Rattle.iv_text.specs.BedFile.{Bed};
     ghost use Rattle.iv_locators.specs.Inside.Drafts.{AreLocators};
     ghost use Rattle.iv_locators.specs.Inside.Locators.{records_at};
 
     ghost Value = { Bed };
 
-    ghost view = { λ b. record { width = b.width; records = records_at b.width b.text.now b.locators.items } };
+    ghost view = { λ b. record { width = b.width; records = records_at b.width (cow_slice_items b.text) b.locators.items } };
 
-    ghost invariant = { λ b. AreLocators b.width b.text.now b.locators.items };
+    ghost invariant = { λ b. AreLocators b.width (cow_slice_items b.text) b.locators.items };
 }
 
 impl<'t, A: Allocator + Copy> BedText<'t, A> {
@@ -98,29 +104,21 @@ impl<'t, A: Allocator + Copy> BedText<'t, A> {
         genome: &Genome<A>,
         empty_width: u8,
         limit: u32,
-        text: &'t [u8],
+        text: CowSlice<'t, u8, A>,
     ) -> Result<BedText<'t, A>, LoadFault>
         requires width { IsWidth empty_width }
-        requires small { length text.now < 2 ^ 32 }
-        ensures ok { IfOk result (λ b. bed_of genome.now empty_width limit text.now ≡ Ok b) }
+        requires small { length (cow_slice_items text) < 2 ^ 32 }
+        ensures ok { IfOk result (λ b. bed_of genome.now empty_width limit (cow_slice_items text.entry) ≡ Ok b) }
         ensures fit { IfOk result (λ b. All (Fits genome.now b.width) b.records) }
         ensures few { IfOk result (λ b. length b.records ≤ limit) }
-        ensures err { IfErr result (λ f. (f ≡ record { line = 0; cause = cause.Memory }) ⊎ (bed_of genome.now empty_width limit text.now ≡ Err f)) }
+        ensures err { IfErr result (λ f. (f ≡ record { line = 0; cause = cause.Memory }) ⊎ (bed_of genome.now empty_width limit (cow_slice_items text.entry) ≡ Err f)) }
     {
-        let (width, locators) = locate(alloc, genome, empty_width, limit, text)?;
-        Ok(BedText::of(text, width, locators))
-    }
-
-    /// The records of these locators into a text, each of so many columns.
-    pub(crate) fn of(text: &'t [u8], width: u8, locators: Vec<Locator, A>) -> BedText<'t, A>
-        requires { AreLocators width text.now locators.items }
-        ensures { result ≡ record { width = width; records = records_at width text.now locators.items } }
-    {
-        BedText {
+        let (width, locators) = locate(alloc, genome, empty_width, limit, text.as_slice())?;
+        Ok(BedText {
             text,
             locators,
             width,
-        }
+        })
     }
 
     /// Records of which only the intervals are known, in the order of these locators.
@@ -131,7 +129,7 @@ impl<'t, A: Allocator + Copy> BedText<'t, A> {
         ensures { result ≡ record { width = 3; records = records_at 3 [] locators.items } }
     {
         BedText {
-            text: b"",
+            text: CowSlice::Borrowed(b""),
             locators,
             width: 3,
         }
@@ -149,7 +147,18 @@ impl<'t, A: Allocator + Copy> BedText<'t, A> {
     pub fn records(&self) -> TextRecords<'_>
         ensures { result ≡ self.now.records }
     {
-        TextRecords::of_locators(self.text, self.locators.as_slice(), self.width)
+        TextRecords::of_locators(self.text.as_slice(), self.locators.as_slice(), self.width)
+    }
+
+    /// Which sequences have a record, by rank. The list ends with the last one that has.
+    ///
+    /// # Errors
+    ///
+    /// An allocation failed.
+    pub fn ranks(&self, alloc: A) -> Result<Vec<bool, A>, AllocError>
+        ensures { IfOk result (λ ranks. (seq : ℕ) → is_marked ranks.items seq ≡ list_any (has_rank seq) self.now.records) }
+    {
+        marked(alloc, self.locators.as_slice())
     }
 
     /// Drops the columns after the third: only the interval of each record remains.
@@ -168,7 +177,7 @@ impl<'t, A: Allocator + Copy> BedText<'t, A> {
     pub fn sort(&mut self, alloc: A) -> Result<(), AllocError>
         ensures { OnOk result (self.new ≡ record self.old { records = ordered self.old.records }) }
     {
-        let text = self.text;
+        let text = self.text.as_slice();
         let width = self.width;
         if are_in_order(text, width, &self.locators) {
             return Ok(());

@@ -83,7 +83,7 @@ pub(crate) fn order_locators<A: Allocator + Copy>(
 fn order_ties<A: Allocator>(text: &[u8], width: u8, locators: &mut Vec<Locator, A>) -> bool
     ensures { IsPermutation locators.old.items locators.new.items }
 {
-    order_nearly(
+    order_neighbors(
         locators.as_mut_slice(),
         |before: &Locator, here: &Locator| -> bool {
             before.span.seq == here.span.seq
@@ -203,7 +203,7 @@ const MOST_MOVES: usize = 16;
 /// is moved past 16.
 ///
 /// Items that are in order except for a few neighbours, as most tools leave them, are then in order, and a sort only looks at them.
-pub fn order_nearly<T: Copy, F: Fn(&T, &T) -> bool>(items: &mut [T], belongs_after: F) -> bool
+pub fn order_neighbors<T: Copy, F: Fn(&T, &T) -> bool>(items: &mut [T], belongs_after: F) -> bool
     requires { F.IsAlwaysCallable belongs_after }
     ensures permutation { IsPermutation items.old items.new }
     ensures len { length items.new ≡ length items.old }
@@ -214,17 +214,6 @@ pub fn order_nearly<T: Copy, F: Fn(&T, &T) -> bool>(items: &mut [T], belongs_aft
         }
     }
     true
-}
-
-/// Moves the items of a vector past a few neighbours that belong after them, as [`order_nearly`] does.
-pub fn order_neighbors<T: Copy, A: Allocator, F: Fn(&T, &T) -> bool>(
-    items: &mut Vec<T, A>,
-    belongs_after: F,
-)
-    requires { F.IsAlwaysCallable belongs_after }
-    ensures { IsPermutation items.old.items items.new.items }
-{
-    order_nearly(items.as_mut_slice(), belongs_after);
 }
 
 /// Moves the item at an index past a few before it that belong after it, and answers whether that was enough.

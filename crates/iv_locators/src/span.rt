@@ -92,16 +92,19 @@ pub fn sort_spans<A: Allocator>(spans: &mut Vec<Span, A>)
     if are_in_order(spans) {
         return;
     }
-    order_neighbors(spans, |before, here| compare_spans(before, here).is_gt());
+    order_neighbors(
+        spans.as_mut_slice(),
+        |before, here| compare_spans(before, here).is_gt(),
+    );
     spans.sort_unstable_by(|first, second| compare_spans(first, second));
 }
 
 /// The intervals on the sequence of this rank, and those on later ones.
-pub fn split_sequence(spans: &[Span], rank: u32) -> (&[Span], &[Span])
+pub fn split_sequence(spans: &[Span], seq: u32) -> (&[Span], &[Span])
     requires order { AreInOrder (span_records spans.now) }
-    requires from { All (λ r. rank ≤ r.seq) (span_records spans.now) }
-    ensures here { span_records result.0.now ≡ on rank (span_records spans.now) }
-    ensures later { span_records result.1.now ≡ filter (λ r. nat_lt rank r.seq) (span_records spans.now) }
+    requires from { All (λ r. seq ≤ r.seq) (span_records spans.now) }
+    ensures here { span_records result.0.now ≡ on seq (span_records spans.now) }
+    ensures later { span_records result.1.now ≡ filter (λ r. nat_lt seq r.seq) (span_records spans.now) }
 {
-    spans.split_at(spans.partition_point(|span| span.seq <= rank))
+    spans.split_at(spans.partition_point(|span| span.seq <= seq))
 }

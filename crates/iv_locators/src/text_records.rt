@@ -206,15 +206,15 @@ impl<'t> TextRecords<'t> {
     }
 
     /// The records on the sequence of this rank, and those on later ones.
-    pub fn split_sequence(&self, rank: u32) -> (TextRecords<'t>, TextRecords<'t>)
+    pub fn split_sequence(&self, seq: u32) -> (TextRecords<'t>, TextRecords<'t>)
         requires order { AreInOrder self.now }
-        requires from { All (λ r. rank ≤ r.seq) self.now }
-        ensures here { result.0 ≡ on rank self.now }
-        ensures later { result.1 ≡ filter (λ r. nat_lt rank r.seq) self.now }
+        requires from { All (λ r. seq ≤ r.seq) self.now }
+        ensures here { result.0 ≡ on seq self.now }
+        ensures later { result.1 ≡ filter (λ r. nat_lt seq r.seq) self.now }
     {
         self.split_at(
             self.locators
-                .partition_point(|locator| locator.span.seq <= rank),
+                .partition_point(|locator| locator.span.seq <= seq),
         )
     }
 

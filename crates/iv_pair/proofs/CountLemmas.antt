@@ -24,6 +24,7 @@ use Rattle.iv_pair.specs.Inside.PairSweeps.{Precedes}
 use Rattle.iv_pair.specs.declared.count_sweep.End.{End}
 use Rattle.iv_pair.proofs.FrontLemmas.{count-implied, count-map, split_up-cons}
 use Rattle.iv_pair.proofs.ReachLemmas.{precedes}
+use Rattle.iv_pair.proofs.StepLemmas.{later-precedes}
 
 -- ---- one record beside another
 
@@ -183,17 +184,13 @@ AreEndsOf-moved ends locators records e moved up = record {
 
 -- ---- the next record of the first list
 
-later-precede : (a : RecordValue) (records : List RecordValue) → AreInOrder (a ∷ records) → All (Precedes a) records
-later-precede a records order =
-    All-weaker (λ (q : RecordValue). is_le (record_cmp a q) ≡ true) (Precedes a) (λ q k. precedes a q k) records (All-from_recursion (λ (q : RecordValue). is_le (record_cmp a q) ≡ true) records order.0)
-
 -- no fewer begin before it
 pub begun-later : (a : RecordValue) (records second : List RecordValue) (locators : List Locator) (seq start n : ℕ) → AreInOrder (a ∷ records) → AreStartsOf locators second → seq ≡ a.seq → start ≡ a.start
     → n ≡ count_by (place_before seq start) locators → All (λ y. n ≤ count_by (begins_before y.seq y.start) second) records
 begun-later a records second locators seq start n order lie on from is =
     let e : n ≡ count_by (begins_before a.seq a.start) second = is ∙ lie.counts seq start ∙ (λ i. count_by (begins_before (on i) (from i)) second) in
     All-weaker (Precedes a) (λ y. n ≤ count_by (begins_before y.seq y.start) second)
-    (λ y k. omega (arith, e, begun-more a.seq a.start y.seq y.start second k.0 k.1)) records (later-precede a records order)
+    (λ y k. omega (arith, e, begun-more a.seq a.start y.seq y.start second k.0 k.1)) records (later-precedes a records order)
 
 -- and no fewer end up to where it begins
 pub ended-later : (a : RecordValue) (records second : List RecordValue) (ends : List End) (seq start n : ℕ) → AreInOrder (a ∷ records) → AreEndsOf ends second → seq ≡ a.seq → start ≡ a.start
@@ -201,7 +198,7 @@ pub ended-later : (a : RecordValue) (records second : List RecordValue) (ends : 
 ended-later a records second ends seq start n order are on from is =
     let e : n ≡ count_by (ends_by a.seq a.start) second = is ∙ are.counts seq start ∙ (λ i. count_by (ends_by (on i) (from i)) second) in
     All-weaker (Precedes a) (λ y. n ≤ count_by (ends_by y.seq y.start) second)
-    (λ y k. omega (arith, e, ended-more a.seq a.start y.seq y.start second k.0 k.1)) records (later-precede a records order)
+    (λ y k. omega (arith, e, ended-more a.seq a.start y.seq y.start second k.0 k.1)) records (later-precedes a records order)
 
 -- ---- a cursor over starts
 

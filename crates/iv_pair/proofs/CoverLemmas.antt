@@ -9,25 +9,18 @@ use Rattle.iv_lines.specs.CoveredPositions.{covers}
 use Rattle.iv_cover.specs.Depth.{depth}
 use Rattle.iv_cover.specs.Runs.{Run}
 use Rattle.iv_cover.proofs.DepthLemmas.{depth-cons}
-use Rattle.iv_lines.proofs.ListLemmas.{all-mem, any-found, any-at}
+use Rattle.iv_lines.proofs.ListLemmas.{all-mem, any-found, any-at, same_tests}
 use Rattle.iv_locators.specs.Cover.{is_covered}
 use Rattle.iv_track.specs.Regions.{overlaps}
 use Rattle.iv_pair.specs.Hits.{hits_of}
 use Rattle.iv_pair.specs.IntersectRows.{intersect_rows, record_line}
 use Rattle.iv_pair.specs.PairRows.{pair_rows}
-use Rattle.iv_pair.specs.declared.intersect.IntersectOutput.TheVariants.{Shared, SharedAndHit, Whole, WholeAndHit, IfHit, IfNoHit, Count}
+use Rattle.iv_pair.specs.declared.intersect.IntersectOutput.TheVariants.{IfHit, IfNoHit}
 use Rattle.iv_pair.specs.declared.pair_rows.PairOutput.{PairOutput}
 use Rattle.iv_pair.specs.declared.pair_rows.PairOutput.TheVariants.{Intersect, Subtract}
 use Rattle.iv_pair.proofs.HitsLemmas.{overlap-means}
 use Rattle.iv_pair.specs.CoverAlone.{HaveBases, CoverAlike, DependsOnCoverAlone, needs_cover_alone}
 use Rattle.iv_pair.proofs.EmptyAlike.{empty-alike}
-
--- two tests are one if each implies the other
-same_tests : (b c : Bool) → (b ≡ true → c ≡ true) → (c ≡ true → b ≡ true) → b ≡ c
-same_tests true true f h = refl
-same_tests true false f h = sym (f refl)
-same_tests false true f h = h refl
-same_tests false false f h = refl
 
 -- whether a record has a hit
 abbrev has_hit : List RecordValue → RecordValue → Bool
@@ -78,18 +71,14 @@ uncovered-alike g a second other alike =
 -- the rows of one record
 rows-alike : (output : PairOutput) → needs_cover_alone output ≡ true → (g : Sequences) (a : RecordValue) (second other : List RecordValue) → a.start < a.stop → HaveBases second → HaveBases other → CoverAlike second other
     → pair_rows output g a second ≡ pair_rows output g a other
-rows-alike (Intersect Shared) is g a second other some bases others alike = absurd (false≢true is)
-rows-alike (Intersect SharedAndHit) is g a second other some bases others alike = absurd (false≢true is)
-rows-alike (Intersect Whole) is g a second other some bases others alike = absurd (false≢true is)
-rows-alike (Intersect WholeAndHit) is g a second other some bases others alike = absurd (false≢true is)
 rows-alike (Intersect IfHit) is g a second other some bases others alike =
     any-line g a second ∙ ap (λ b. cond b (record_line g a) []) (hits-alike second other a some bases others alike) ∙ sym (any-line g a other)
 rows-alike (Intersect IfNoHit) is g a second other some bases others alike =
     none-line g a second ∙ ap (λ b. cond b [] (record_line g a)) (hits-alike second other a some bases others alike) ∙ sym (none-line g a other)
-rows-alike (Intersect Count) is g a second other some bases others alike = absurd (false≢true is)
 rows-alike (Subtract true) is g a second other some bases others alike =
     none-line g a second ∙ ap (λ b. cond b [] (record_line g a)) (hits-alike second other a some bases others alike) ∙ sym (none-line g a other)
 rows-alike (Subtract false) is g a second other some bases others alike = uncovered-alike g a second other alike
+rows-alike output is g a second other some bases others alike = absurd (false≢true is)
 
 -- the rows of all
 pub text-alike : (output : PairOutput) → needs_cover_alone output ≡ true → DependsOnCoverAlone output

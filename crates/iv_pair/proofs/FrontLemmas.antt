@@ -1,10 +1,10 @@
 -- How many elements pass a test, in a list in which those that do come first.
-use Rattle.std.proofs.Common.{◌≡◌, ℕ, zero, suc, ◌+◌, ◌-◌, ◌<◌, ◌≤◌, inl, inr, Bool, true, false, cond, List, [], ◌∷◌, All, length, get_or, take, drop, map, refl, sym, ap, subst, ◌∙◌, arith}
+use Rattle.std.proofs.Common.{◌≡◌, ℕ, zero, suc, ◌+◌, ◌-◌, ◌<◌, ◌≤◌, inl, inr, Bool, true, false, cond, List, [], ◌∷◌, All, length, get_or, drop, map, refl, sym, ap, subst, ◌∙◌, arith}
 use Rattle.std.specs.Prelude.{count_by}
 use Rattle.std.specs.List.{prefix_len}
 use Rattle.std.specs.List.Sorted.{IsPartitionedBy, IsPartitionPoint}
 use Rattle.std.proofs.lemmas.Bool.{cases_lt, both_ways, false_from_ne_true}
-use Rattle.std.proofs.lemmas.List.{take_all, length-drop, get_or-drop}
+use Rattle.std.proofs.lemmas.List.{length-drop, get_or-drop}
 use Rattle.std.proofs.lemmas.List.Elements.{All-head, All-tail}
 use Rattle.std.proofs.lemmas.List.Sums.{sum_by-cons, count_by-le-length, prefix_len_passes, prefix_len_stops, prefix_len_is, prefix_len-le-length}
 
@@ -26,10 +26,6 @@ count-map f p [] = refl
 count-map {X} {Y} f p (x ∷ xs) =
     sum_by-cons (λ (y : Y). cond (p y) 1 0) (f x) (map f xs) ∙ ap (λ (n : ℕ). cond (p (f x)) 1 0 + n) (count-map f p xs)
     ∙ sym (sum_by-cons (λ (y : X). cond (p (f y)) 1 0) x xs)
-
--- the slice from an index on
-pub slice-rest : {X : Type 0} (n : ℕ) (xs : List X) → take (length xs - n) (drop n xs) ≡ drop n xs
-slice-rest n xs = take_all (length xs - n) (drop n xs) (omega (arith, length-drop n xs))
 
 -- ---- those in front
 

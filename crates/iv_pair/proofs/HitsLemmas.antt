@@ -1,5 +1,5 @@
 -- Where the records are that share a position with an interval.
-use Rattle.std.proofs.Common.{◌≡◌, ◌==◌, ℕ, ◌+◌, ◌-◌, ◌<◌, ◌≤◌, ◌↔◌, Bool, true, false, cond, List, [], ◌∷◌, ◌++◌, max, refl, sym, ap, ◌∙◌, subst, arith, length, eq-eqb}
+use Rattle.std.proofs.Common.{◌≡◌, ◌==◌, ℕ, ◌+◌, ◌-◌, ◌<◌, ◌≤◌, ◌↔◌, Bool, true, false, cond, List, [], ◌∷◌, ◌++◌, max, refl, ap, ◌∙◌, subst, arith, length, eq-eqb}
 use Rattle.std.specs.Prelude.{filter}
 use Rattle.std.proofs.lemmas.Bool.{and_parts, lt-ltb, ltb-true, le-leb, leb-true}
 use Rattle.std.proofs.lemmas.List.Sums.{length-filter, count_by-le-length}
@@ -13,8 +13,8 @@ use Rattle.iv_track.specs.Regions.{overlaps, hits}
 use Rattle.iv_pair.specs.Hits.{hits_of}
 use Rattle.iv_pair.specs.Inside.Lengths.{AreUpTo}
 use Rattle.iv_pair.specs.Inside.HitLines.{AllOverlap}
-use Rattle.iv_track.proofs.PlaceLemmas.{pair_le, le_pair, filter-implied, from_whole}
-use Rattle.iv_track.proofs.RegionLemmas.{overlaps_parts, overlaps_from, hit_not, hits_beyond}
+use Rattle.iv_track.proofs.PlaceLemmas.{pair_le, filter-implied}
+use Rattle.iv_track.proofs.RegionLemmas.{overlaps_parts, overlaps_from, hit_not, hits_beyond, from_apart}
 
 pub covers_parts : (seq p : ℕ) (q : RecordValue) → covers seq p q ≡ true → (q.seq ≡ seq) × (q.start ≤ p) × (p < q.stop)
 covers_parts seq p q h =
@@ -58,16 +58,6 @@ length-filter_le p records = omega (arith, length-filter p records, count_by-le-
 
 -- ---- a walk that goes on to a start
 
-pub near-first : (seq from : ℕ) (near rest records : List RecordValue) (r : RecordValue) → near ≡ r ∷ rest → AreInOrder near → is_from seq from r ≡ true
-    → filter (is_from seq from) near ≡ filter (is_from seq from) records → near ≡ filter (is_from seq from) records
-near-first seq from near rest records r first order is same =
-    first ∙ sym (from_whole seq from r rest (subst AreInOrder first order) is) ∙ sym (ap (filter (is_from seq from)) first) ∙ same
-
-pub near-next : (seq from : ℕ) (near rest records : List RecordValue) (r : RecordValue) → near ≡ r ∷ rest → is_from seq from r ≡ false
-    → filter (is_from seq from) near ≡ filter (is_from seq from) records → filter (is_from seq from) rest ≡ filter (is_from seq from) records
-near-next seq from near rest records r first not same =
-    sym (ap (filter (is_from seq from)) first ∙ ap (λ b. cond b (r ∷ filter (is_from seq from) rest) (filter (is_from seq from) rest)) not) ∙ same
-
 -- each hit of a record shares a position with it
 pub hits-overlap : (records : List RecordValue) (a : RecordValue) → AllOverlap a (hits_of records a)
 hits-overlap [] a = tt
@@ -86,13 +76,5 @@ pub none-from : (seq start stop : ℕ) (active records rest : List RecordValue) 
     → active ++ hits records seq start stop ≡ []
 none-from seq start stop active records rest r none is order far =
     ap (λ (l : List RecordValue). l ++ hits records seq start stop) (none-active active none)
-    ∙ hit_not records rest r seq start stop is (apart (overlaps seq start stop r) refl)
+    ∙ hit_not records rest r seq start stop is (from_apart seq start stop r far)
     ∙ hits_beyond seq start stop r rest (subst AreInOrder is order) far
-  where
-    apart : (b : Bool) → overlaps seq start stop r ≡ b → b ≡ false
-    apart false e = refl
-    apart true e =
-        let parts = overlaps_parts seq start stop r e in
-        let up : stop ≤ r.start = (le_pair seq r.seq stop r.start far).1 (sym parts.0) in
-        let low : r.start < stop = parts.1 in
-        absurd (omega arith)

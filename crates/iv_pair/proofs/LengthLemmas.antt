@@ -1,6 +1,6 @@
 -- The lengths of records, counted in a map.
 use Rattle.std.proofs.Common.{◌≡◌, ◌≢◌, ℕ, ◌+◌, ◌-◌, ◌<◌, ◌≤◌, ◌^◌, Bool, true, false, cond, List, [], ◌∷◌, Option, Some, None, refl, sym, ap, ◌∙◌, subst, arith, length, suc, inl, inr}
-use Rattle.std.specs.Prelude.{All, count_by, unwrap_or, find, fold, reverse, IfSome}
+use Rattle.std.specs.Prelude.{All, unwrap_or, find, reverse, IfSome}
 use Rattle.std.specs.List.{AllByRecursion}
 use Rattle.std.specs.Option.{option_or}
 use Rattle.std.specs.declared.cmp.Ordering.{Ordering}
@@ -18,6 +18,7 @@ use Rattle.std.proofs.lemmas.Map.Keys.{sorted_head, sorted_tail}
 use Rattle.std.proofs.lemmas.Map.{keys-set_value}
 use Rattle.std.proofs.lemmas.Map.Views.{All-keys-insert_entry, All-values-insert_entry, All-map-remove_entry, All-values-set_value, IfSome-lookup_from_All}
 use Rattle.std.proofs.lemmas.Bool.{cases_lt}
+use Rattle.std.proofs.lemmas.Option.{none-some}
 use Rattle.iv_lines.specs.Ordered.{added_by, AreInOrder, added, copies, ordered}
 use Rattle.iv_lines.specs.Inside.Ordered.{copies_by}
 use Rattle.iv_lines.specs.RecordValue.{RecordValue, record_cmp}
@@ -30,13 +31,6 @@ use Rattle.iv_track.proofs.Edits.{added-removed}
 use Rattle.iv_pair.specs.Inside.Lengths.{length_of, with_length, IsTally, AreLengths, IsSecond, AreUpTo}
 use Rattle.iv_track.proofs.NumberOrder.{pair_total, pair_exact}
 use Rattle.iv_track.proofs.PlaceLemmas.{le_pair, ge_pair, pair_ge}
-
--- ---- how many pass a test
-
-module _ {K : Type 0} (cmp : K → K → Ordering) (p : K → Bool) where
-  pub count-all_added : (xs start : List K) → count_by p (fold (added_by cmp) start xs) ≡ count_by p start + count_by p xs
-  count-all_added [] start = omega arith
-  count-all_added (x ∷ xs) start = omega (arith, count-all_added xs (added_by cmp start x), count-added cmp p start x, sum_by-cons (λ k. cond (p k) 1 0) x xs)
 
 -- ---- one more length in the map
 
@@ -287,11 +281,8 @@ reaches_past : (p : ℕ × ℕ → Bool) (k : ℕ × ℕ) (e : (ℕ × ℕ) × �
 reaches_past p k e (Some f) h = h
 reaches_past p k e None h = absurd h
 
-none_some : {X : Type 0} (x : X) → None ≡ Some x → ⊥
-none_some x e = cc
-
 reaches : (p : ℕ × ℕ → Bool) (es : List ((ℕ × ℕ) × ℕ)) (k : ℕ × ℕ) (n : ℕ) → IsLedger pair_cmp es → p k ≡ true → lookup (is_at (pair_cmp k)) es ≡ Some n → Reaches p k (find (λ e. p e.0) (reverse es))
-reaches p [] k n s is h = absurd (none_some n h)
+reaches p [] k n s is h = absurd (none-some n h)
 reaches p (e ∷ es) k n s is h =
     subst (Reaches p k) (sym (find-reverse (λ f. p f.0) e es))
     ((elim (is_eq (pair_cmp k e.0)) as (λ b. is_eq (pair_cmp k e.0) ≡ b → cond b (Some e.1) (lookup (is_at (pair_cmp k)) es) ≡ Some n → Reaches p k (option_or (find (λ f. p f.0) (reverse es)) (cond (p e.0) (Some e) None))) [
@@ -304,7 +295,7 @@ reaches p (e ∷ es) k n s is h =
     ]) refl h)
 
 key_holds : (P : ℕ × ℕ → Type 0) (es : List ((ℕ × ℕ) × ℕ)) (k : ℕ × ℕ) (n : ℕ) → All P (keys_of es) → lookup (is_at (pair_cmp k)) es ≡ Some n → P k
-key_holds P [] k n a h = absurd (none_some n h)
+key_holds P [] k n a h = absurd (none-some n h)
 key_holds P (e ∷ es) k n a h =
     (elim (is_eq (pair_cmp k e.0)) as (λ b. is_eq (pair_cmp k e.0) ≡ b → cond b (Some e.1) (lookup (is_at (pair_cmp k)) es) ≡ Some n → P k) [
       | true ↦ λ here _. subst P (sym (pair_exact k e.0 ((Equal-is (pair_cmp k e.0)).0 here))) (All-head P e.0 (keys_of es) a)

@@ -13,7 +13,7 @@ use Rattle.iv_pair.specs.Inside.PairSweeps.{reaches, Precedes, Covers, HitAlike}
 use Rattle.iv_pair.proofs.ReachLemmas.{precedes, precedes-trans, precedes-itself, covers, covers-precedes, covers-hit, hit-reaches, hit-not}
 
 -- each that comes later in a list in order
-later-precedes : (b : RecordValue) (bs : List RecordValue) → AreInOrder (b ∷ bs) → All (Precedes b) bs
+pub later-precedes : (b : RecordValue) (bs : List RecordValue) → AreInOrder (b ∷ bs) → All (Precedes b) bs
 later-precedes b bs h = All-weaker (λ y. is_le (record_cmp b y) ≡ true) (Precedes b) (λ y le. precedes b y le) bs (All-from_recursion (λ y. is_le (record_cmp b y) ≡ true) bs h.0)
 
 -- ---- one more of the second list

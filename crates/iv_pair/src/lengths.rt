@@ -93,8 +93,8 @@ pub(crate) fn longest<A: Allocator + Copy>(lengths: &Lengths<A>, seq: u32, meter
 {
     match lengths.at_or_before(&(seq, u32::MAX), meter) {
         Some((key, _)) => {
-            let (rank, most) = *key;
-            if rank == seq { u64::from(most) } else { 0 }
+            let (key_seq, most) = *key;
+            if key_seq == seq { u64::from(most) } else { 0 }
         }
         None => 0,
     }

@@ -136,7 +136,7 @@ impl<'a, A: Allocator + Copy> PairPrinter<'a, A> {
 /// After how many looks at hits a copy of the file is tried for these rows. The other rows stop at the first hit, or print each.
 fn most_looks<A: Allocator + Copy>(output: PairOutput, second: &Second<A>) -> u64 {
     match output {
-        PairOutput::Subtract(false) | PairOutput::Intersect(IntersectOutput::Count) => {
+        PairOutput::Subtract { whole: false } | PairOutput::Intersect(IntersectOutput::Count) => {
             LOOKS_FOR_EACH * u64::from(second.len())
         }
         _ => u64::MAX,
@@ -152,7 +152,7 @@ fn copy_for<A: Allocator + Copy>(
     ensures { IfOk result (λ copy. IfSome copy (λ c. ServesAs output second.now.records c)) }
 {
     match output {
-        PairOutput::Subtract(false) => {
+        PairOutput::Subtract { whole: false } => {
             let cover = JoinedCover::of(second, meter)?;
             Ok(Some(FileCopy::Cover(cover)))
         }

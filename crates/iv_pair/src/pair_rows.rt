@@ -22,8 +22,8 @@ use std::alloc::Allocator;
 pub enum PairOutput {
     /// Those of an intersect.
     Intersect(IntersectOutput),
-    /// Those of a subtract; if this is true, only whole records are taken away: `-A`.
-    Subtract(bool),
+    /// Those of a subtract; if `whole`, only whole records are taken away: `-A`.
+    Subtract { whole: bool },
 }
 
 /// Whether these rows depend on the second list only by which positions its records cover. They do for each subtract, and
@@ -37,7 +37,7 @@ pub fn needs_cover_alone(output: PairOutput) -> bool
     match output {
         PairOutput::Intersect(IntersectOutput::IfHit | IntersectOutput::IfNoHit) => true,
         PairOutput::Intersect(_) => false,
-        PairOutput::Subtract(_) => true,
+        PairOutput::Subtract { .. } => true,
     }
 }
 
@@ -86,6 +86,6 @@ pub fn put_pair_rows<
 {
     match output {
         PairOutput::Intersect(output) => put_intersect(output, genome, feature, hits, sink),
-        PairOutput::Subtract(whole) => put_subtract(whole, genome, feature, hits, sink),
+        PairOutput::Subtract { whole } => put_subtract(whole, genome, feature, hits, sink),
     }
 }

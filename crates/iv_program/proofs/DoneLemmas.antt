@@ -13,7 +13,7 @@ use Rattle.iv_session.specs.declared.script.Summary.{Summary}
 use Rattle.iv_args.specs.Notices.{notice_of}
 use Rattle.iv_args.specs.Texts.{notice_text}
 use Rattle.iv_args.specs.Arguments.{RunPlan, IsPlan, is_session, run_of}
-use Rattle.iv_args.proofs.ArgumentLemmas.{for-kind}
+use Rattle.iv_args.proofs.ArgumentLemmas.{for-kind, said-same}
 use Rattle.iv_args.specs.declared.subcommand.Subcommand.{Subcommand}
 use Rattle.iv_args.specs.declared.subcommand.Subcommand.TheVariants as kind
 use Rattle.std.specs.Option.{option_to_list}
@@ -36,42 +36,21 @@ use Rattle.iv_program.specs.declared.program.Ended.{Ended}
 -- only a run that is done has the status 0
 done-status : (e : ExitReason) → 0 ≡ status_of e → e ≡ exit_reason.Done
 done-status exit_reason.Done is = refl
-done-status exit_reason.Refused is = absurd (omega arith)
-done-status (exit_reason.Words code) is = absurd (omega arith)
-done-status (exit_reason.Damaged slot damage) is = absurd (omega arith)
-done-status (exit_reason.Unreadable slot) is = absurd (omega arith)
-done-status (exit_reason.TooLong slot) is = absurd (omega arith)
-done-status exit_reason.InputUnreadable is = absurd (omega arith)
-done-status exit_reason.InputTooLong is = absurd (omega arith)
-done-status exit_reason.Output is = absurd (omega arith)
-done-status exit_reason.Memory is = absurd (omega arith)
+done-status e is = absurd (omega arith)
 
 -- and none whose output was lost
 not-lost : (e : ExitReason) → (if is_through e then exit_reason.Output else e) ≡ exit_reason.Done → ⊥
 not-lost exit_reason.Done is = cc is
-not-lost exit_reason.Refused is = cc is
-not-lost (exit_reason.Words code) is = cc is
-not-lost (exit_reason.Damaged slot damage) is = cc is
-not-lost (exit_reason.Unreadable slot) is = cc is
-not-lost (exit_reason.TooLong slot) is = cc is
-not-lost exit_reason.InputUnreadable is = cc is
-not-lost exit_reason.InputTooLong is = cc is
-not-lost exit_reason.Output is = cc is
-not-lost exit_reason.Memory is = cc is
+not-lost e is = cc is
 
 -- no fault is done
 no-fault : (k : CliFault) → exit_reason.Done ≡ ending_of k → ⊥
-no-fault (fault.Words code) e = cc e
-no-fault (fault.Damaged slot damage) e = cc e
 no-fault fault.Output e = cc e
-no-fault fault.Memory e = cc e
+no-fault k e = cc e
 
 no-cause : (why : RunCause) → exit_reason.Done ≡ ending_of_cause why → ⊥
-no-cause cause.Input e = cc e
-no-cause cause.TooLong e = cc e
 no-cause cause.Output e = cc e
-no-cause cause.Messages e = cc e
-no-cause cause.Memory e = cc e
+no-cause why e = cc e
 
 none-refused : (n : ℕ) (b : Bool) → (n == 0) ≡ b → exit_reason.Done ≡ (if b then exit_reason.Done else exit_reason.Refused) → n ≡ 0
 none-refused n true t e = eqb-true n 0 t
@@ -168,12 +147,6 @@ notice-done arguments before after notice answer is ran zero =
 
 -- ---- at most one plan fits arguments
 
-same-option : (a b : Option (List ℕ)) → option_to_list a ≡ option_to_list b → a ≡ b
-same-option None None e = refl
-same-option None (Some y) e = absurd (cc e)
-same-option (Some x) None e = absurd (cc e)
-same-option (Some x) (Some y) e = cc e
-
 plan-with : Subcommand → List ℕ → List ℕ → Option (List ℕ) → Option (List ℕ) → ℕ → ℕ → List (List ℕ) → RunPlan
 plan-with run sizes first other bases width limit view = record { run = run; sizes = sizes; first = first; other = other; bases = bases; width = width; limit = limit; view = view }
 
@@ -191,8 +164,8 @@ one-plan arguments p q a b =
     let first : p.first ≡ q.first = cc (a.first, b.first, parts) in
     let others : option_to_list p.other ≡ option_to_list q.other = cc (a.other, b.other, parts) in
     let basess : option_to_list p.bases ≡ option_to_list q.bases = cc (a.bases, b.bases, parts) in
-    let other : p.other ≡ q.other = same-option p.other q.other others in
-    let bases : p.bases ≡ q.bases = same-option p.bases q.bases basess in
+    let other : p.other ≡ q.other = said-same p.other q.other others in
+    let bases : p.bases ≡ q.bases = said-same p.bases q.bases basess in
     let some_width : Some p.width ≡ Some q.width = cc (a.width, b.width, parts) in
     let width : p.width ≡ q.width = cc some_width in
     let some_limit : Some p.limit ≡ Some q.limit = cc (a.limit, b.limit, parts) in

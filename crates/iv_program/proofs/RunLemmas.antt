@@ -1,6 +1,6 @@
 -- Files that were read, and what a run does with them.
 use Rattle.std.proofs.Common.{◌≡◌, ◌⊎◌, inl, inr, ◌<◌, ℕ, List, [], ◌∷◌, ◌++◌, length, false, Option, None, Some, Result, Ok, Err, IfOk, IfErr, IfSome, refl, sym, ap, ◌∙◌, subst}
-use Rattle.std.proofs.lemmas.List.Elements.{All-nil, All-cons}
+use Rattle.std.proofs.lemmas.List.Elements.{All-nil, All-cons, All-append}
 use Rattle.std.specs.List.{All}
 use Rattle.std.specs.Option.{option_to_list}
 use Rattle.std.specs.Prelude.{Bool, true, MatchResult, ◌==◌, if◌then◌else◌}
@@ -24,7 +24,7 @@ use Rattle.iv_args.specs.declared.notice.Notice.{Notice}
 use Rattle.iv_args.specs.declared.subcommand.Subcommand.{Subcommand}
 use Rattle.iv_args.specs.declared.subcommand.Subcommand.TheVariants as kind
 use Rattle.iv_args.specs.declared.plan.Slot.{Slot}
-use Rattle.iv_args.specs.declared.plan.Slot.TheVariants.{Sizes, First, Other, Bases}
+use Rattle.iv_args.specs.declared.plan.Slot.TheVariants.{First, Other, Bases}
 use Rattle.iv_run.specs.Loading.{IsReport}
 use Rattle.iv_cli.specs.Loading.{loaded}
 use Rattle.iv_run.specs.RunFiles.{AreAllWanted, AreOf, FilesRead, IsParsed}
@@ -38,7 +38,7 @@ use Rattle.iv_program.specs.Files.{FilesState, IsText, after_one, after_reading}
 use Rattle.iv_program.specs.Limits.{most_file_bytes}
 use Rattle.iv_program.specs.Program.{Finishes, Runs, Serves, world}
 use Rattle.iv_program.specs.Runs.{World, DoesWith, HasRead, HasNotRead}
-use Rattle.iv_program.specs.Inside.Files.{HasText, IsWhy, StopsAt, StopsFile, names_of}
+use Rattle.iv_program.specs.Inside.Files.{HasText, IsWhy, ReadsNamed, StopsAt, StopsFile, names_of}
 use Rattle.iv_program.specs.Inside.Runs.{DoesOne, EndsRun, Flushes, HasTexts, ReadsAll, RunsPlan, StopsPlan, stopped_at}
 use Rattle.iv_program.specs.Texts.{Texts, AreTexts, IsTextIfNamed, names_before}
 use Rattle.iv_program.specs.declared.program.Ended.{Ended}
@@ -73,79 +73,67 @@ named-has files None text has = All-nil (HasText files)
 named-has files (Some name) None has = absurd has
 named-has files (Some name) (Some text) has = All-cons (HasText files) name [] (text, has) (All-nil (HasText files))
 
+-- the files of these names were read, one after another
+pub record AreRead (names : List (List ℕ)) (old new : FilesState) : Type 0 where
+  pub have : All (HasText old) names
+  pub after : new ≡ after_reading names old
+
+pub none-read : (files : FilesState) → AreRead [] files files
+none-read files = record { have = All-nil (HasText files); after = refl }
+
+-- one more of them was, if it is named
+reads-more : (names : List (List ℕ)) {f0 f1 f2 : FilesState} {name text : Option (List ℕ)} → AreRead names f0 f1 → ReadsNamed f1 name text f2 → AreRead (names ++ option_to_list name) f0 f2
+reads-more names {f0} {f1} {f2} {name} {text} before read = record {
+  have = All-append (HasText f0) names (option_to_list name) before.have (named-has f0 name text (named-back names f0 f1 name text before.after read.is_text));
+  after = read.after ∙ ap (after_reading (option_to_list name)) before.after ∙ sym (reading-append names (option_to_list name) f0);
+}
+
 -- the file of a slot was not read to its end, and those before it were
-stops-at : (plan : RunPlan) (f0 f1 f2 : FilesState) (slot known : Slot) (name : List ℕ) (why : FileFault) → slot ≡ known → file_of plan known ≡ Some name
-    → All (HasText f0) (names_before plan known) → f1 ≡ after_reading (names_before plan known) f0 → StopsFile f1 name why f2 → StopsAt plan f0 f2 slot why
-stops-at plan f0 f1 f2 slot known name why is named before read stops =
+pub stops-at : (plan : RunPlan) (known : Slot) (name : List ℕ) {f0 f1 : FilesState} (f2 : FilesState) (slot : Slot) (why : FileFault) → slot ≡ known → file_of plan known ≡ Some name
+    → AreRead (names_before plan known) f0 f1 → StopsFile f1 name why f2 → StopsAt plan f0 f2 slot why
+stops-at plan known name {f0} {f1} f2 slot why is named before stops =
     subst (λ (s : Slot). StopsAt plan f0 f2 s why) (sym is) (record {
       name = name;
       named = named;
-      before = before;
-      stops = subst (λ (f : FilesState). StopsFile f name why f2) read stops;
+      before = before.have;
+      stops = subst (λ (f : FilesState). StopsFile f name why f2) before.after stops;
     })
 
-module _ (plan : RunPlan) (f0 f1 : FilesState) (slot : Slot) (why : FileFault) where
-  -- the genome file was not read to its end
-  pub stops-sizes : (slot ≡ Sizes) × StopsFile f0 plan.sizes why f1 → StopsAt plan f0 f1 slot why
-  stops-sizes is = stops-at plan f0 f0 f1 slot Sizes plan.sizes why is.0 refl (All-nil (HasText f0)) refl is.1
+-- the files of a plan were read in the order of their slots
+module _ (plan : RunPlan) {f0 f1 : FilesState} {sizes : List ℕ} (read_sizes : ReadsNamed f0 (Some plan.sizes) (Some sizes) f1) where
+  pub before-first : AreRead (names_before plan First) f0 f1
+  before-first = reads-more [] (none-read f0) read_sizes
 
-module _ (plan : RunPlan) (f0 f1 : FilesState) (sizes : List ℕ) (has_sizes : IsText f0 plan.sizes sizes) (read_sizes : f1 ≡ after_reading (plan.sizes ∷ []) f0) where
-  -- the first file was not
-  pub stops-first : (f2 : FilesState) (slot : Slot) (why : FileFault) → slot ≡ First → StopsFile f1 plan.first why f2 → StopsAt plan f0 f2 slot why
-  stops-first f2 slot why is stops =
-      stops-at plan f0 f1 f2 slot First plan.first why is refl (All-cons (HasText f0) plan.sizes [] (sizes, has_sizes) (All-nil (HasText f0))) read_sizes stops
+  module _ {f2 : FilesState} {first : List ℕ} (read_first : ReadsNamed f1 (Some plan.first) (Some first) f2) where
+    pub before-other : AreRead (names_before plan Other) f0 f2
+    before-other = reads-more (names_before plan First) before-first read_first
 
-  module _ (f2 : FilesState) (first : List ℕ) (has_first : IsText f1 plan.first first) (read_first : f2 ≡ after_reading (plan.first ∷ []) f1) where
-    read-two : f2 ≡ after_reading (names_before plan Other) f0
-    read-two = read_first ∙ ap (after_reading (plan.first ∷ [])) read_sizes
+    module _ {f3 : FilesState} {other : Option (List ℕ)} (read_other : ReadsNamed f2 plan.other other f3) where
+      pub before-bases : AreRead (names_before plan Bases) f0 f3
+      before-bases = reads-more (names_before plan Other) before-other read_other
 
-    two-before : (names : List (List ℕ)) → All (HasText f0) names → All (HasText f0) (plan.sizes ∷ plan.first ∷ names)
-    two-before names have =
-        All-cons (HasText f0) plan.sizes (plan.first ∷ names) (sizes, has_sizes)
-        (All-cons (HasText f0) plan.first names (first, text-back (plan.sizes ∷ []) f0 f1 plan.first first read_sizes has_first) have)
+      module _ {f4 : FilesState} {bases : Option (List ℕ)} (read_bases : ReadsNamed f3 plan.bases bases f4) where
+        pub all-read : AreRead (names_of plan) f0 f4
+        all-read = reads-more (names_before plan Bases) before-bases read_bases
 
-    -- the second was not
-    pub stops-other : (f3 : FilesState) (slot : Slot) (why : FileFault)
-        → (slot ≡ Other) × ((name : List ℕ) × (plan.other ≡ Some name) × StopsFile f2 name why f3) → StopsAt plan f0 f3 slot why
-    stops-other f3 slot why is = stops-at plan f0 f2 f3 slot Other is.1.0 why is.0 is.1.1 (two-before [] (All-nil (HasText f0))) read-two is.1.2
-
-    module _ (f3 : FilesState) (other : Option (List ℕ)) (has_other : IsTextIfNamed f2 plan.other other) (read_other : f3 ≡ after_reading (option_to_list plan.other) f2) where
-      read-three : f3 ≡ after_reading (names_before plan Bases) f0
-      read-three = read_other ∙ ap (after_reading (option_to_list plan.other)) read-two
-
-      -- the FASTA file was not
-      pub stops-bases : (f4 : FilesState) (slot : Slot) (why : FileFault)
-          → (slot ≡ Bases) × ((name : List ℕ) × (plan.bases ≡ Some name) × StopsFile f3 name why f4) → StopsAt plan f0 f4 slot why
-      stops-bases f4 slot why is =
-          stops-at plan f0 f3 f4 slot Bases is.1.0 why is.0 is.1.1
-          (two-before (option_to_list plan.other) (named-has f0 plan.other other (named-back (names_before plan Other) f0 f2 plan.other other read-two has_other)))
-          read-three is.1.2
-
-      -- all of them were
-      pub all-texts : (bases : Option (List ℕ)) → IsTextIfNamed f3 plan.bases bases
-          → AreTexts f0 plan (record { sizes = sizes; first = first; other = other; bases = bases })
-      all-texts bases has_bases = record {
-        sizes = has_sizes;
-        first = text-back (plan.sizes ∷ []) f0 f1 plan.first first read_sizes has_first;
-        other = named-back (names_before plan Other) f0 f2 plan.other other read-two has_other;
-        bases = named-back (names_before plan Bases) f0 f3 plan.bases bases read-three has_bases;
-      }
-
-      -- in the order of their slots
-      pub all-read : (f4 : FilesState) → f4 ≡ after_reading (option_to_list plan.bases) f3 → f4 ≡ after_reading (names_of plan) f0
-      all-read f4 read_bases =
-          read_bases ∙ ap (after_reading (option_to_list plan.bases)) read-three ∙ sym (reading-append (names_before plan Bases) (option_to_list plan.bases) f0)
+        pub all-texts : AreTexts f0 plan (record { sizes = sizes; first = first; other = other; bases = bases })
+        all-texts = record {
+          sizes = read_sizes.is_text;
+          first = named-back (names_before plan First) f0 f1 (Some plan.first) (Some first) before-first.after read_first.is_text;
+          other = named-back (names_before plan Other) f0 f2 plan.other other before-other.after read_other.is_text;
+          bases = named-back (names_before plan Bases) f0 f3 plan.bases bases before-bases.after read_bases.is_text;
+        }
 
 -- ---- scripts
 
 -- the session that the files of a plan begin, once they are read
 pub report-of : (plan : RunPlan) (texts : Texts) (files : FilesRead (Result Bed LoadFault)) (r : Result State CliFault) → HasTexts (IsParsed (λ r. r)) AreAllWanted plan texts files
     → ((sizes first : List ℕ) (second fasta_text : Option (List ℕ)) → AreOf (IsParsed (λ r. r)) AreAllWanted sizes first second fasta_text files
-    → IsReport r (loaded files.on.width sizes first second fasta_text files.on.limit))
+    → IsReport r (loaded files.run_genome.width sizes first second fasta_text files.run_genome.limit))
     → IsReport r (loaded plan.width texts.sizes texts.first texts.other texts.bases plan.limit)
 report-of plan texts files r has report =
     subst (λ (n : ℕ). IsReport r (loaded plan.width texts.sizes texts.first texts.other texts.bases n)) has.limit_is
-    (subst (λ (w : ℕ). IsReport r (loaded w texts.sizes texts.first texts.other texts.bases files.on.limit)) has.width_is
+    (subst (λ (w : ℕ). IsReport r (loaded w texts.sizes texts.first texts.other texts.bases files.run_genome.limit)) has.width_is
     (report texts.sizes texts.first texts.other texts.bases has.are))
 
 pub ran-of : (old new : State) (before after : Streams) (lines most : ℕ) (r : Result Summary RunFault)

@@ -1,12 +1,12 @@
 //! Files that are opened by their names, and reading those of a plan.
 ghost use Rattle.std.specs.Prelude.{◌≡◌, List, [], ◌∷◌, ℕ, Option, None, Some, IfOk, IfErr, OnOk, OnErr, true, IfSome};
-ghost use Rattle.std.specs.Option.{option_map, option_to_list};
+ghost use Rattle.std.specs.Option.{option_map};
 ghost use Rattle.iv_args.specs.Arguments.{file_of};
 ghost use Rattle.iv_run.specs.RunFiles.{IsEnoughOf, IsIfNamed};
-ghost use Rattle.iv_program.specs.Files.{FilesState, IsText, opened, after_opening, after_closing, after_one, after_reading};
-ghost use Rattle.iv_program.specs.Inside.Files.{StopsAt, StopsFile, names_of};
+ghost use Rattle.iv_program.specs.Files.{FilesState, opened, after_opening, after_closing, after_one, after_reading};
+ghost use Rattle.iv_program.specs.Inside.Files.{ReadsNamed, StopsAt, StopsFile, names_of};
 ghost use Rattle.iv_program.specs.Inside.Runs.{HasTexts};
-ghost use Rattle.iv_program.specs.Texts.{Texts, AreTexts, IsTextIfNamed};
+ghost use Rattle.iv_program.specs.Texts.{Texts, AreTexts};
 
 use iv_args::{Plan, Slot};
 use iv_bytes::{ReadFault, Source};
@@ -56,8 +56,7 @@ fn read_file<A: Allocator + Copy, F: InputFiles>(
     files: &mut F,
     name: &[u8],
 ) -> Result<Vec<u8, A>, FileFault>
-    ensures ok { IfOk result (λ bytes. IsText (F.state files.old) name.now bytes.items) }
-    ensures after { OnOk result (F.state files.new ≡ after_reading (name.now ∷ []) (F.state files.old)) }
+    ensures ok { IfOk result (λ bytes. ReadsNamed (F.state files.old) (Some name.now) (Some bytes.items) (F.state files.new)) }
     ensures err { IfErr result (λ fault. StopsFile (F.state files.old) name.now fault (F.state files.new)) }
 {
     let mut file = files.open(name)?;
@@ -70,15 +69,14 @@ fn read_file<A: Allocator + Copy, F: InputFiles>(
 fn read_held<H: HoldsFile<A>, A: Allocator + Copy, F: InputFiles>(
     files: &mut F,
     name: &[u8],
-    on: &RunGenome<A>,
+    run_genome: &RunGenome<A>,
 ) -> Result<H, FileFault>
-    ensures ok { IfOk result (λ held. (text : List ℕ) × IsText (F.state files.old) name.now text × H.is_of on.now.genome on.now.width on.now.limit text held) }
-    ensures is_on { IfOk result (H.is_on on.now.genome on.now.limit) }
-    ensures after { OnOk result (F.state files.new ≡ after_reading (name.now ∷ []) (F.state files.old)) }
+    ensures ok { IfOk result (λ held. (text : List ℕ) × ReadsNamed (F.state files.old) (Some name.now) (Some text) (F.state files.new) × H.is_of run_genome.now.genome run_genome.now.width run_genome.now.limit text held) }
+    ensures is_on { IfOk result (H.is_on run_genome.now.genome run_genome.now.limit) }
     ensures err { IfErr result (λ fault. StopsFile (F.state files.old) name.now fault (F.state files.new)) }
 {
     let mut file = files.open(name)?;
-    let read = on.read(&mut file, MOST_FILE_BYTES);
+    let read = run_genome.read(&mut file, MOST_FILE_BYTES);
     files.close(file);
     read
 }
@@ -87,16 +85,15 @@ fn read_held<H: HoldsFile<A>, A: Allocator + Copy, F: InputFiles>(
 fn read_second<H: HoldsFile<A>, A: Allocator + Copy, F: InputFiles>(
     files: &mut F,
     plan: &Plan<'_, A>,
-    on: &RunGenome<A>,
+    run_genome: &RunGenome<A>,
 ) -> Result<Option<H>, SlotFault>
-    ensures ok { IfOk result (λ held. (other : Option (List ℕ)) × IsTextIfNamed (F.state files.old) plan.now.other other × IsIfNamed (H.is_of on.now.genome on.now.width on.now.limit) other held) }
-    ensures is_on { IfOk result (λ held. IfSome held (H.is_on on.now.genome on.now.limit)) }
-    ensures after { OnOk result (F.state files.new ≡ after_reading (option_to_list plan.now.other) (F.state files.old)) }
+    ensures ok { IfOk result (λ held. (other : Option (List ℕ)) × ReadsNamed (F.state files.old) plan.now.other other (F.state files.new) × IsIfNamed (H.is_of run_genome.now.genome run_genome.now.width run_genome.now.limit) other held) }
+    ensures is_on { IfOk result (λ held. IfSome held (H.is_on run_genome.now.genome run_genome.now.limit)) }
     ensures err { IfErr result (λ why. (why.0 ≡ Slot.Other)
         × ((name : List ℕ) × (plan.now.other ≡ Some name) × StopsFile (F.state files.old) name why.1 (F.state files.new))) }
 {
     match plan.file(Slot::Other) {
-        Some(name) => Ok(Some(in_slot(Slot::Other, read_held(files, name, on))?)),
+        Some(name) => Ok(Some(in_slot(Slot::Other, read_held(files, name, run_genome))?)),
         None => Ok(None),
     }
 }
@@ -105,15 +102,14 @@ fn read_second<H: HoldsFile<A>, A: Allocator + Copy, F: InputFiles>(
 fn read_beside<H: HoldsFile<A>, A: Allocator + Copy, F: InputFiles>(
     files: &mut F,
     name: &[u8],
-    on: &RunGenome<A>,
+    run_genome: &RunGenome<A>,
     first: &H,
 ) -> Result<HeldFasta<A>, FileFault>
-    ensures ok { IfOk result (λ held. (text : List ℕ) × IsText (F.state files.old) name.now text × IsEnoughOf (λ wanted. H.is_enough wanted first.now) on.now.genome text held) }
-    ensures after { OnOk result (F.state files.new ≡ after_reading (name.now ∷ []) (F.state files.old)) }
+    ensures ok { IfOk result (λ held. (text : List ℕ) × ReadsNamed (F.state files.old) (Some name.now) (Some text) (F.state files.new) × IsEnoughOf (λ wanted. H.is_enough wanted first.now) run_genome.now.genome text held) }
     ensures err { IfErr result (λ fault. StopsFile (F.state files.old) name.now fault (F.state files.new)) }
 {
     let mut file = files.open(name)?;
-    let read = on.read_fasta(first, &mut file, MOST_FILE_BYTES);
+    let read = run_genome.read_fasta(first, &mut file, MOST_FILE_BYTES);
     files.close(file);
     read
 }
@@ -122,16 +118,15 @@ fn read_beside<H: HoldsFile<A>, A: Allocator + Copy, F: InputFiles>(
 fn read_fasta<H: HoldsFile<A>, A: Allocator + Copy, F: InputFiles>(
     files: &mut F,
     plan: &Plan<'_, A>,
-    on: &RunGenome<A>,
+    run_genome: &RunGenome<A>,
     first: &H,
 ) -> Result<Option<HeldFasta<A>>, SlotFault>
-    ensures ok { IfOk result (λ held. (bases : Option (List ℕ)) × IsTextIfNamed (F.state files.old) plan.now.bases bases × IsIfNamed (IsEnoughOf (λ wanted. H.is_enough wanted first.now) on.now.genome) bases held) }
-    ensures after { OnOk result (F.state files.new ≡ after_reading (option_to_list plan.now.bases) (F.state files.old)) }
+    ensures ok { IfOk result (λ held. (bases : Option (List ℕ)) × ReadsNamed (F.state files.old) plan.now.bases bases (F.state files.new) × IsIfNamed (IsEnoughOf (λ wanted. H.is_enough wanted first.now) run_genome.now.genome) bases held) }
     ensures err { IfErr result (λ why. (why.0 ≡ Slot.Bases)
         × ((name : List ℕ) × (plan.now.bases ≡ Some name) × StopsFile (F.state files.old) name why.1 (F.state files.new))) }
 {
     match plan.file(Slot::Bases) {
-        Some(name) => Ok(Some(in_slot(Slot::Bases, read_beside(files, name, on, first))?)),
+        Some(name) => Ok(Some(in_slot(Slot::Bases, read_beside(files, name, run_genome, first))?)),
         None => Ok(None),
     }
 }
@@ -147,12 +142,15 @@ pub(crate) fn read_files<H: HoldsFile<A>, A: Allocator + Copy, F: InputFiles>(
     ensures err { IfErr result (λ why. StopsAt plan.now (F.state files.old) (F.state files.new) why.0 why.1) }
 {
     let sizes = in_slot(Slot::Sizes, read_file(alloc, files, plan.sizes_file()))?;
-    let on = RunGenome::begin(alloc, plan, sizes.as_slice(), plan.limit());
-    let first = in_slot(Slot::First, read_held(files, plan.first_file(), &on))?;
-    let second = read_second(files, plan, &on)?;
-    let fasta = read_fasta(files, plan, &on, &first)?;
+    let run_genome = RunGenome::begin(alloc, plan, sizes.as_slice(), plan.limit());
+    let first = in_slot(
+        Slot::First,
+        read_held(files, plan.first_file(), &run_genome),
+    )?;
+    let second = read_second(files, plan, &run_genome)?;
+    let fasta = read_fasta(files, plan, &run_genome, &first)?;
     Ok(RunFiles {
-        on,
+        run_genome,
         first,
         second,
         fasta,

@@ -94,11 +94,11 @@ fn shot_of_intervals<A: Allocator + Copy, W: Sink>(
 fn shot_of_columns<A: Allocator + Copy, W: Sink>(
     alloc: A,
     plan: &Plan<'_, A>,
-    files: RunFiles<HeldBed<A>, A>,
+    files: RunFiles<HeldBed<'static, A>, A>,
     output: &mut W,
 ) -> ExitReason
     requires { AskForColumns plan.now.view }
-    ensures { (texts : Texts) → HasTexts IsHeld IsEnough plan.now texts files → PrintsView plan.now texts (W.state output.old) (W.state output.new) result }
+    ensures { (texts : Texts) → HasTexts IsHeld IsEnough plan.now texts files.entry → PrintsView plan.now texts (W.state output.old) (W.state output.new) result }
 {
     ending_of(shot_of_held(alloc, plan, files, output))
 }

@@ -41,7 +41,7 @@ fn run_over<A: Allocator + Copy, R: Source, W: Sink, E: Sink>(
     output: &mut W,
     messages: &mut E,
 ) -> Ended
-    requires same { files.on.limit ≡ limit }
+    requires same { files.run_genome.limit ≡ limit }
     requires few { limit ≤ most_limit }
     ensures { (plan : RunPlan) (texts : Texts) → HasTexts (IsParsed (λ r. r)) AreAllWanted plan texts files
         → RunsScript plan texts

@@ -1,5 +1,5 @@
 -- The files of a run, once they are read: which one is the first that is damaged.
-use Rattle.std.proofs.Common.{◌≡◌, ◌∙◌, ◌⊎◌, inl, inr, ℕ, List, Option, None, Some, Result, Ok, Err, IfOk, IfErr, IfSome, refl, sym, ap, subst}
+use Rattle.std.proofs.Common.{◌≡◌, ◌∙◌, ◌⊎◌, inl, inr, ℕ, List, Option, None, Some, Result, Ok, Err, IfOk, IfErr, refl, sym, ap, subst}
 use Rattle.std.specs.Option.{option_map, option_transpose}
 use Rattle.iv_text.specs.BedFile.{Bed, bed_of}
 use Rattle.iv_text.specs.BedReading.{projected_bed, projected_or_fault}
@@ -12,11 +12,12 @@ use Rattle.iv_fasta.specs.Fasta.{Bases}
 use Rattle.iv_args.specs.declared.plan.Slot.TheVariants as slot
 use Rattle.iv_run.specs.Inside.Shots.{bases_said, second_of}
 use Rattle.iv_run.specs.Loading.{IsAnswer, IsReport, Parsed, parsed}
-use Rattle.iv_run.specs.RunFiles.{AreAllWanted, AreOf, AreProjected, FilesRead, GenomeRead, IsGenomeBy, IsGenomeOf, IsIfNamed, IsOn, IsParsed}
+use Rattle.iv_run.specs.RunFiles.{AreAllWanted, AreOf, FilesRead, GenomeRead, IsGenomeBy, IsGenomeOf, IsIfNamed, IsParsed}
 use Rattle.iv_run.specs.Inside.RunFiles.{ReportsProjected}
 use Rattle.iv_run.specs.declared.fault.CliFault.{CliFault}
 use Rattle.iv_run.specs.declared.fault.CliFault.TheVariants.{Memory}
 use Rattle.iv_run.proofs.LoadLemmas.{IsDamage, IsWhy, kept-sound, kept-why, past-first, past-genome, past-second, reports, with_bases}
+use Rattle.iv_run.proofs.FastaPieceLemmas.{fasta-if-named}
 
 -- what a call answers
 pub answer-of : {T : Type 0} (r said : Result T LoadFault) → IfOk r (λ value. said ≡ Ok value) → IfErr r (λ f. (f ≡ record { line = 0; cause = cause.Memory }) ⊎ (said ≡ Err f)) → IsAnswer r said
@@ -101,52 +102,53 @@ module _ (projected : RecordValue → RecordValue) (g : Sequences) (width limit 
 
 -- all files were read, and are those of these bytes
 module _ (projected : RecordValue → RecordValue) (sizes text : List ℕ) (other bases : Option (List ℕ)) (files : FilesRead (Result Bed LoadFault)) (are : AreOf (IsParsed projected) AreAllWanted sizes text other bases files) where
-  abbrev on : GenomeRead
-  on = files.on
+  abbrev run_genome : GenomeRead
+  run_genome = files.run_genome
 
   abbrev ReportsFault : CliFault → Type 0
-  ReportsFault k = (k ≡ Memory) ⊎ (parsed on.width sizes text other bases on.limit ≡ Err k)
+  ReportsFault k = (k ≡ Memory) ⊎ (parsed run_genome.width sizes text other bases run_genome.limit ≡ Err k)
 
   -- the genome file is damaged
-  pub finish-sizes : (k : CliFault) → on.damage ≡ Some k → ReportsFault k
-  finish-sizes k is = sizes-fault sizes on are.0 k is text other bases
+  pub finish-sizes : (k : CliFault) → run_genome.damage ≡ Some k → ReportsFault k
+  finish-sizes k is = sizes-fault sizes run_genome are.0 k is text other bases
 
-  module _ (sound : on.damage ≡ None) where
-    genome : genome_of sizes ≡ Ok on.genome
-    genome = sizes-sound sizes on are.0 sound
+  module _ (sound : run_genome.damage ≡ None) where
+    genome : genome_of sizes ≡ Ok run_genome.genome
+    genome = sizes-sound sizes run_genome are.0 sound
 
     -- the first file is
     pub finish-first : (k : CliFault) → IsDamage slot.First files.first k → ReportsFault k
     finish-first k damage =
-        report-first on.width sizes text on.limit on.genome genome other bases files.first k
-        (answer-whole projected files.first (bed_of on.genome on.width on.limit text) damage.0 damage.1 are.1) damage
+        report-first run_genome.width sizes text run_genome.limit run_genome.genome genome other bases files.first k
+        (answer-whole projected files.first (bed_of run_genome.genome run_genome.width run_genome.limit text) damage.0 damage.1 are.1) damage
 
     module _ (first : Bed) (first_is : files.first ≡ Ok first) where
-      bed : (bed : Bed) × (bed_of on.genome on.width on.limit text ≡ Ok bed) × (first ≡ projected_bed projected bed)
-      bed = kept-sound projected (bed_of on.genome on.width on.limit text) first (subst (IsParsed projected on.genome on.width on.limit text) first_is are.1)
+      bed : (bed : Bed) × (bed_of run_genome.genome run_genome.width run_genome.limit text ≡ Ok bed) × (first ≡ projected_bed projected bed)
+      bed = kept-sound projected (bed_of run_genome.genome run_genome.width run_genome.limit text) first (subst (IsParsed projected run_genome.genome run_genome.width run_genome.limit text) first_is are.1)
 
       -- the second file is
       pub finish-second : (k : CliFault) → IsDamage slot.Other (option_transpose files.second) k → ReportsFault k
-      finish-second k damage = report-second on.width sizes text on.limit on.genome genome other bases bed.0 bed.1 (Err damage.0) k
-          (beside-why projected on.genome on.width on.limit other files.second damage.0 are.2 damage.1) (damage.0, refl, damage.2)
+      finish-second k damage = report-second run_genome.width sizes text run_genome.limit run_genome.genome genome other bases bed.0 bed.1 (Err damage.0) k
+          (beside-why projected run_genome.genome run_genome.width run_genome.limit other files.second damage.0 are.2 damage.1) (damage.0, refl, damage.2)
 
       module _ (second : Option Bed) (second_is : option_transpose files.second ≡ Ok second) where
-        beside : (whole : Option Bed) × (second_of on.genome on.width on.limit other ≡ Ok whole) × (second ≡ option_map (projected_bed projected) whole)
-        beside = beside-sound projected on.genome on.width on.limit other files.second second are.2 second_is
+        beside : (whole : Option Bed) × (second_of run_genome.genome run_genome.width run_genome.limit other ≡ Ok whole) × (second ≡ option_map (projected_bed projected) whole)
+        beside = beside-sound projected run_genome.genome run_genome.width run_genome.limit other files.second second are.2 second_is
 
-        module _ (g : Sequences) (same : g ≡ on.genome) where
+        module _ (read : Result (Option Bases) LoadFault) (read_is : read ≡ option_transpose files.fasta) where
+          answer : IsAnswer read (bases_said run_genome.genome bases)
+          answer = subst (λ (r : Result (Option Bases) LoadFault). IsAnswer r (bases_said run_genome.genome bases)) (sym read_is) (fasta-if-named run_genome.genome bases files.fasta are.3)
+
           -- the FASTA file is
-          pub finish-bases : (read : Result (Option Bases) LoadFault) (k : CliFault) → IsAnswer read (bases_said g bases) → IsDamage slot.Bases read k → ReportsFault k
-          finish-bases read k answer =
-              report-bases on.width sizes text on.limit on.genome genome other bases bed.0 bed.1 beside.0 beside.1 read k
-              (subst (λ (s : Sequences). IsAnswer read (bases_said s bases)) same answer)
+          pub finish-bases : (k : CliFault) → IsDamage slot.Bases read k → ReportsFault k
+          finish-bases k = report-bases run_genome.width sizes text run_genome.limit run_genome.genome genome other bases bed.0 bed.1 beside.0 beside.1 read k answer
 
           -- all are sound
-          pub finish-all : (found : Option Bases) (limit : ℕ) → bases_said g bases ≡ Ok found → limit ≡ on.limit
-              → ReportsProjected projected (Ok (record { genome = g; first = first; second = second; bases = found; limit = limit })) (parsed on.width sizes text other bases on.limit)
-          finish-all found limit is most = (
-            record { genome = on.genome; first = bed.0; second = beside.0; bases = found; limit = on.limit },
-            report-files on.width sizes text on.limit on.genome genome other bases bed.0 bed.1 beside.0 beside.1 found
-                (subst (λ (s : Sequences). bases_said s bases ≡ Ok found) same is),
+          pub finish-all : (g : Sequences) (found : Option Bases) (limit : ℕ) → g ≡ run_genome.genome → read ≡ Ok found → limit ≡ run_genome.limit
+              → ReportsProjected projected (Ok (record { genome = g; first = first; second = second; bases = found; limit = limit })) (parsed run_genome.width sizes text other bases run_genome.limit)
+          finish-all g found limit same is most = (
+            record { genome = run_genome.genome; first = bed.0; second = beside.0; bases = found; limit = run_genome.limit },
+            report-files run_genome.width sizes text run_genome.limit run_genome.genome genome other bases bed.0 bed.1 beside.0 beside.1 found
+                (subst (λ (r : Result (Option Bases) LoadFault). IsAnswer r (bases_said run_genome.genome bases)) is answer),
             (λ i. record { genome = same i; first = bed.2 i; second = beside.2 i; bases = found; limit = most i }),
           )

@@ -1,8 +1,9 @@
 -- A run for which only the bases of sequences that a record is on are held.
-use Rattle.std.proofs.Common.{◌≡◌, ◌∙◌, ℕ, ◌++◌, ◌||◌, ◌==◌, Bool, true, false, List, [], ◌∷◌, All, Option, None, Some, Result, Ok, Err, unwrap_or, refl, sym, ap, ap₂, subst, eq-eqb}
+use Rattle.std.proofs.Common.{◌≡◌, ◌∙◌, ℕ, ◌++◌, ◌||◌, ◌==◌, Bool, true, List, [], ◌∷◌, All, Option, None, Some, Result, Ok, Err, unwrap_or, refl, sym, ap, ap₂, subst, eq-eqb}
 use Rattle.std.specs.List.{flat_map, list_any}
 use Rattle.std.specs.Option.{is_some, option_map}
 use Rattle.std.proofs.lemmas.List.Elements.{All-nil, All-cons, All-head, All-tail}
+use Rattle.std.proofs.lemmas.Bool.{or_right}
 use Rattle.iv_bytes.specs.Sinks.{SinkState}
 use Rattle.iv_text.specs.BedFile.{Bed, bed_of}
 use Rattle.iv_lines.specs.Genome.{Sequences}
@@ -11,11 +12,12 @@ use Rattle.iv_lines.specs.Ordered.{ordered}
 use Rattle.iv_lines.specs.RecordValue.{RecordValue}
 use Rattle.iv_lines.specs.declared.fault.Fault.{Fault}
 use Rattle.iv_lines.specs.declared.fault.LoadFault.{LoadFault}
+use Rattle.iv_lines.proofs.OrderedLemmas.{ordered-all}
 use Rattle.iv_fasta.specs.Fasta.{Bases}
 use Rattle.iv_fasta.specs.FastaReading.{Wanted, is_wanted, only}
 use Rattle.iv_fasta.proofs.RowLemmas.{row-wanted}
-use Rattle.iv_locators.specs.Inside.Ranks.{has_rank, is_marked}
-use Rattle.iv_locators.proofs.SortedLemmas.{ordered-all}
+use Rattle.iv_locators.specs.Inside.Ranks.{has_rank}
+use Rattle.iv_args.specs.Arguments.{RunPlan}
 use Rattle.iv_view.specs.Views.{read_arguments, written_rows}
 use Rattle.iv_view.specs.declared.view.View.{View}
 use Rattle.iv_view.specs.declared.view.View.TheVariants as view
@@ -24,16 +26,12 @@ use Rattle.iv_view.specs.declared.written_view.WrittenView.TheVariants as writte
 use Rattle.iv_run.specs.Inside.Held.{AreWanted, IsEnough, IsHeld, ReportsWanted, wanted_files}
 use Rattle.iv_run.specs.Inside.Prints.{Prints}
 use Rattle.iv_run.specs.Inside.Shots.{bases_said, ordered_other, second_of, text_beside, view_beside}
-use Rattle.iv_run.specs.Loading.{Parsed, fault_of_arguments, parsed}
+use Rattle.iv_run.specs.Loading.{Parsed, parsed}
 use Rattle.iv_run.specs.RunFiles.{AreOf, FilesRead, IsEnoughOf, IsGenomeOf, IsIfNamed}
-use Rattle.iv_run.specs.Shots.{Shows}
+use Rattle.iv_run.specs.Shots.{Shows, shown}
 use Rattle.iv_run.specs.declared.fault.CliFault.{CliFault}
 use Rattle.iv_run.proofs.RunFilesLemmas.{report-files}
 use Rattle.iv_run.proofs.ShotLemmas.{shown_of, shows-text}
-
-or-right : (a b : Bool) → b ≡ true → (a || b) ≡ true
-or-right true b is = refl
-or-right false b is = is
 
 -- what holds of the sequences that have a record holds of that of each record
 all-marked : (marked : ℕ → Bool) (records : List RecordValue) → ((seq : ℕ) → list_any (has_rank seq) records ≡ true → marked seq ≡ true) → All (λ (r : RecordValue). marked r.seq ≡ true) records
@@ -41,7 +39,7 @@ all-marked marked [] have = All-nil (λ (r : RecordValue). marked r.seq ≡ true
 all-marked marked (r ∷ records) have =
     All-cons (λ (s : RecordValue). marked s.seq ≡ true) r records
     (have r.seq (ap (λ (b : Bool). b || list_any (has_rank r.seq) records) (eq-eqb r.seq r.seq refl)))
-    (all-marked marked records (λ seq is. have seq (or-right (r.seq == seq) (list_any (has_rank seq) records) is)))
+    (all-marked marked records (λ seq is. have seq (or_right (r.seq == seq) (list_any (has_rank seq) records) is)))
 
 -- all are
 pub enough-all : (held : Result Bed LoadFault) → IsEnough None held
@@ -116,21 +114,21 @@ module _ (width : ℕ) (sizes text : List ℕ) (limit : ℕ) (g : Sequences) (ge
       (λ i. record { genome = g; first = bed; second = second; bases = p.2.2 i; limit = limit }),
     )
 
--- ---- files that are lent
+-- ---- files that are held
 
--- what is known of files, at the width and the limit of a plan
-pub of-plan : (files : FilesRead (Result Bed LoadFault)) (sizes text : List ℕ) (other bases : Option (List ℕ)) → AreOf IsHeld IsEnough sizes text other bases files
-    → (width limit most : ℕ) → files.on.width ≡ width → files.on.limit ≡ limit → most ≡ limit
-    → (first : Result Bed LoadFault) → first ≡ files.first → (second : Option (Result Bed LoadFault)) → second ≡ files.second → (Q : ℕ → Type 0)
-    → (IsGenomeOf sizes files.on → files.on.width ≡ width → files.on.limit ≡ most → IsHeld files.on.genome width most text first → IsIfNamed (IsHeld files.on.genome width most) other second
-    → IsIfNamed (IsEnoughOf (λ wanted. IsEnough wanted first) files.on.genome) bases files.fasta → Q most) → Q limit
-of-plan files sizes text other bases are width limit most wide few same first one second two Q leads =
-    let on = files.on in
-    let most_is : on.limit ≡ most = few ∙ sym same in
-    let held : IsHeld on.genome on.width on.limit text first = subst (IsHeld on.genome on.width on.limit text) (sym one) are.1 in
-    let beside : IsIfNamed (IsHeld on.genome on.width on.limit) other second = subst (IsIfNamed (IsHeld on.genome on.width on.limit) other) (sym two) are.2 in
-    subst Q same
-    (leads are.0 wide most_is
-    (subst (λ (n : ℕ). IsHeld on.genome width n text first) most_is (subst (λ (w : ℕ). IsHeld on.genome w on.limit text first) wide held))
-    (subst (λ (n : ℕ). IsIfNamed (IsHeld on.genome width n) other second) most_is (subst (λ (w : ℕ). IsIfNamed (IsHeld on.genome w on.limit) other second) wide beside))
-    (subst (λ (r : Result Bed LoadFault). IsIfNamed (IsEnoughOf (λ wanted. IsEnough wanted r) on.genome) bases files.fasta) (sym one) are.3))
+-- a run shows what it is to show, if it does at the width of its plan, and at the limit of its files
+pub of-plan : (known files : FilesRead (Result Bed LoadFault)) → known ≡ files
+    → (sizes text : List ℕ) (other bases : Option (List ℕ)) → AreOf IsHeld IsEnough sizes text other bases files
+    → (plan : RunPlan) → files.run_genome.width ≡ plan.width → (most : ℕ) → most ≡ known.run_genome.limit → (old new : SinkState) (result : Result (Unit {0}) CliFault)
+    → (IsGenomeOf sizes known.run_genome → known.run_genome.width ≡ plan.width → known.run_genome.limit ≡ most → IsHeld known.run_genome.genome plan.width most text known.first → IsIfNamed (IsHeld known.run_genome.genome plan.width most) other known.second
+    → IsIfNamed (IsEnoughOf (λ wanted. IsEnough wanted known.first) known.run_genome.genome) bases known.fasta → Shows old new result (shown plan sizes text other bases most))
+    → Shows old new result (shown plan sizes text other bases files.run_genome.limit)
+of-plan known files view_is sizes text other bases are plan wide most few old new result shows =
+    let run_genome = known.run_genome in
+    let here : AreOf IsHeld IsEnough sizes text other bases known = subst (AreOf IsHeld IsEnough sizes text other bases) (sym view_is) are in
+    let width_is : run_genome.width ≡ plan.width = ap (λ (f : FilesRead (Result Bed LoadFault)). f.run_genome.width) view_is ∙ wide in
+    subst (λ (n : ℕ). Shows old new result (shown plan sizes text other bases n)) (few ∙ ap (λ (f : FilesRead (Result Bed LoadFault)). f.run_genome.limit) view_is)
+    (shows here.0 width_is (sym few)
+    (subst (λ (n : ℕ). IsHeld run_genome.genome plan.width n text known.first) (sym few) (subst (λ (w : ℕ). IsHeld run_genome.genome w run_genome.limit text known.first) width_is here.1))
+    (subst (λ (n : ℕ). IsIfNamed (IsHeld run_genome.genome plan.width n) other known.second) (sym few) (subst (λ (w : ℕ). IsIfNamed (IsHeld run_genome.genome w run_genome.limit) other known.second) width_is here.2))
+    here.3)

@@ -22,20 +22,20 @@ pub record GenomeRead : Type 0 where
 
 -- the genome, what is held of each BED file, and the bases of the FASTA file, or its fault
 pub record FilesRead (H : Type 0) : Type 0 where
-  pub on : GenomeRead
+  pub run_genome : GenomeRead
   pub first : H
   pub second : Option H
   pub fasta : Option (Result Bases LoadFault)
 
 -- the genome file of these bytes is sound; or this is the report of all files, whatever the others are
 abbrev pub IsGenomeBy : List ℕ → GenomeRead → Option CliFault → Type 0
-IsGenomeBy sizes on None = genome_of sizes ≡ Ok on.genome
-IsGenomeBy sizes on (Some k) =
-    (k ≡ Memory) ⊎ ((first : List ℕ) (second fasta_text : Option (List ℕ)) → parsed on.width sizes first second fasta_text on.limit ≡ Err k)
+IsGenomeBy sizes run_genome None = genome_of sizes ≡ Ok run_genome.genome
+IsGenomeBy sizes run_genome (Some k) =
+    (k ≡ Memory) ⊎ ((first : List ℕ) (second fasta_text : Option (List ℕ)) → parsed run_genome.width sizes first second fasta_text run_genome.limit ≡ Err k)
 
 -- this is the genome file of these bytes
 abbrev pub IsGenomeOf : List ℕ → GenomeRead → Type 0
-IsGenomeOf sizes on = IsGenomeBy sizes on on.damage
+IsGenomeOf sizes run_genome = IsGenomeBy sizes run_genome run_genome.damage
 
 -- a file that may be left out is there if it has a text, and is that of it
 abbrev pub IsIfNamed : {H : Type 0} → (List ℕ → H → Type 0) → Option (List ℕ) → Option H → Type 0
@@ -59,9 +59,9 @@ AreAllWanted wanted first = wanted ≡ None
 -- records, is so of its text, and if beside such a first file it is enough to hold these sequences of a FASTA file
 abbrev pub AreOf : {H : Type 0} → (Sequences → ℕ → ℕ → List ℕ → H → Type 0) → (Wanted → H → Type 0) → List ℕ → List ℕ → Option (List ℕ) → Option (List ℕ) → FilesRead H → Type 0
 AreOf is_of is_enough sizes first second fasta_text files =
-    IsGenomeOf sizes files.on × is_of files.on.genome files.on.width files.on.limit first files.first
-    × IsIfNamed (is_of files.on.genome files.on.width files.on.limit) second files.second
-    × IsIfNamed (IsEnoughOf (λ wanted. is_enough wanted files.first) files.on.genome) fasta_text files.fasta
+    IsGenomeOf sizes files.run_genome × is_of files.run_genome.genome files.run_genome.width files.run_genome.limit first files.first
+    × IsIfNamed (is_of files.run_genome.genome files.run_genome.width files.run_genome.limit) second files.second
+    × IsIfNamed (IsEnoughOf (λ wanted. is_enough wanted files.first) files.run_genome.genome) fasta_text files.fasta
 
 -- the records are projections of records of the file's width on the genome, and they are not more than the limit
 pub record AreProjected (projected : RecordValue → RecordValue) (g : Sequences) (limit : ℕ) (file : Bed) : Type 0 where

@@ -14,26 +14,14 @@ ghost use Rattle.iv_run.specs.Pieces.{SaysSoFar};
 use crate::fault::FileFault;
 use crate::input_files::{HoldsFile, TakesPieces, finish, take_next};
 use iv_lines::{Genome, LoadFault};
-use iv_locators::{BedText, LocatedBed, Locator};
+use iv_locators::{BedText, Locator};
 use iv_text::BedReader;
 use std::alloc::{AllocError, Allocator};
+use std::borrow::CowSlice;
 
 /// A BED file that was read for a view that needs the columns of records: its records, with its text unless they have three columns; or
 /// its first fault.
-pub type HeldBed<A> = Result<LocatedBed<A>, LoadFault>;
-
-/// Lends the text of a file to its records, which are taken out.
-pub(crate) fn lend<A: Allocator + Copy>(
-    held: &mut HeldBed<A>,
-    alloc: A,
-) -> Result<BedText<'_, A>, LoadFault>
-    ensures { result ≡ held.old }
-{
-    match held {
-        Ok(file) => Ok(file.lend(alloc)),
-        Err(fault) => Err(*fault),
-    }
-}
+pub type HeldBed<'t, A> = Result<BedText<'t, A>, LoadFault>;
 
 /// How many columns the records have of a BED file, of which some bytes were read.
 #[derive(Clone, Copy)]
@@ -100,13 +88,12 @@ impl<A: Allocator + Copy> Holding<A> {
 }
 
 /// The records of a file of three columns, or its first fault, once all bytes have come.
-fn intervals_of<A: Allocator + Copy>(
-    alloc: A,
+fn intervals_of<'t, A: Allocator + Copy>(
     so_far: Result<BedReader<Locator, A>, LoadFault>,
     genome: &Genome<A>,
     empty_width: u8,
     limit: u32,
-) -> HeldBed<A>
+) -> HeldBed<'t, A>
     requires width { IsWidth empty_width }
     requires known { (front : List ℕ) × SaysSoFar bare genome.now limit front so_far × IsThreeWide genome.now limit front × (length front < 2 ^ 32) }
     ensures says { (text : List ℕ) → SaysSoFar bare genome.now limit text so_far → IsThreeWide genome.now limit text → IsHeld genome.now empty_width limit text result }
@@ -114,7 +101,7 @@ fn intervals_of<A: Allocator + Copy>(
 {
     let file = finish(so_far, genome, empty_width, limit)?;
     let locators = file.into_locators()?;
-    Ok(LocatedBed::of_intervals(alloc, locators))
+    Ok(BedText::of_intervals(locators))
 }
 
 impl<A: Allocator + Copy> TakesPieces<A> for Holding<A> {
@@ -156,7 +143,7 @@ impl<A: Allocator + Copy> TakesPieces<A> for Holding<A> {
     }
 }
 
-impl<A: Allocator + Copy> HoldsFile<A> for HeldBed<A> {
+impl<'t, A: Allocator + Copy> HoldsFile<A> for HeldBed<'t, A> {
     type Reading = Holding<A>;
 
     ghost is_of = { IsHeld };
@@ -165,7 +152,9 @@ impl<A: Allocator + Copy> HoldsFile<A> for HeldBed<A> {
 
     ghost is_enough = { IsEnough };
 
-    fn begin(alloc: A) -> Self::Reading {
+    fn begin(alloc: A) -> Self::Reading
+        ensures { (genome : Sequences) (limit : ℕ) → HoldsFront genome limit [] result.columns result.text.items result.so_far }
+    {
         Holding {
             alloc,
             columns: Columns::Unknown,
@@ -182,10 +171,10 @@ impl<A: Allocator + Copy> HoldsFile<A> for HeldBed<A> {
             so_far,
         } = reading;
         match columns {
-            Columns::Three => intervals_of(alloc, so_far, genome, empty_width, limit),
+            Columns::Three => intervals_of(so_far, genome, empty_width, limit),
             Columns::Unknown | Columns::Other => {
                 drop(so_far);
-                LocatedBed::parse(alloc, genome, empty_width, limit, text)
+                BedText::parse(alloc, genome, empty_width, limit, CowSlice::Owned(text))
             }
         }
     }

@@ -15,7 +15,7 @@ ghost use Rattle.iv_view.specs.declared.view.KeptView.{KeptView};
 
 use crate::fault::CliFault;
 use crate::input_files::HeldRecords;
-use crate::run_files::{LoadedFiles, RunFiles, sound_files};
+use crate::run_files::{RunFiles, SoundFiles, sound_files};
 use iv_args::Plan;
 use iv_blocks::{put_complement, put_merge};
 use iv_bytes::{Buffered, Sink};
@@ -118,12 +118,12 @@ impl IntervalsView {
 /// Sorts the intervals of the first file, and prints a view of them.
 fn print_files<A: Allocator + Copy, S: Sink>(
     view: IntervalsView,
-    files: LoadedFiles<Span, A>,
+    files: SoundFiles<Span, A>,
     sink: &mut S,
 ) -> Result<(), CliFault>
     ensures { (asked : KeptView) → IsViewOf view asked → Prints (S.state sink.old) (S.state sink.new) result (kept_text None asked files.genome (ordered files.first.records)) }
 {
-    let LoadedFiles {
+    let SoundFiles {
         alloc,
         genome,
         first,
@@ -141,16 +141,16 @@ impl<A: Allocator + Copy> RunFiles<HeldRecords<Span, A>, A> {
     ///
     /// The fault of the first damaged file, or `Memory`: then nothing was printed. `Output`, and then a prefix was.
     pub fn print<S: Sink>(self, view: IntervalsView, sink: &mut S) -> Result<(), CliFault>
-        ensures { (plan : RunPlan) (sizes first : List ℕ) (second fasta_text : Option (List ℕ)) → AskForIntervals plan.view view → self.on.width ≡ plan.width
-            → AreOf (IsParsed bare) AreAllWanted sizes first second fasta_text self → Shows (S.state sink.old) (S.state sink.new) result (shown plan sizes first second fasta_text self.on.limit) }
+        ensures { (plan : RunPlan) (sizes first : List ℕ) (second fasta_text : Option (List ℕ)) → AskForIntervals plan.view view → self.run_genome.width ≡ plan.width
+            → AreOf (IsParsed bare) AreAllWanted sizes first second fasta_text self → Shows (S.state sink.old) (S.state sink.new) result (shown plan sizes first second fasta_text self.run_genome.limit) }
     {
         let RunFiles {
-            on,
+            run_genome,
             first,
             second,
             fasta,
         } = self;
-        let files = sound_files(on, first, second, fasta)?;
+        let files = sound_files(run_genome, first, second, fasta)?;
         print_files(view, files, sink)
     }
 }

@@ -17,4 +17,4 @@ pub use input_files::{
 };
 pub use intervals_view::IntervalsView;
 pub use one_shot::{shot, shot_of_held};
-pub use run_files::{Inputs, LoadedFiles, RunFiles, RunGenome, sound_files};
+pub use run_files::{Inputs, RunFiles, RunGenome, SoundFiles, sound_files};

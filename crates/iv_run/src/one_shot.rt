@@ -22,7 +22,7 @@ ghost use Rattle.iv_run.specs.Inside.Shots.{ordered_other, text_beside, view_bes
 ghost use Rattle.iv_run.specs.Shots.{Shows, shown};
 
 use crate::fault::CliFault;
-use crate::held_bed::{HeldBed, lend};
+use crate::held_bed::HeldBed;
 use crate::held_fasta::HeldFasta;
 use crate::input_files::HeldRecords;
 use crate::intervals_view::IntervalsView;
@@ -31,7 +31,7 @@ use iv_args::{Plan, Slot};
 use iv_blocks::{MergeSweep, put_cluster};
 use iv_bytes::{Buffered, Sink, WriteFault};
 use iv_fasta::{Fasta, FastaOutput, put_fasta};
-use iv_lines::{Fault, Genome, LoadFault, put_line};
+use iv_lines::{Fault, Genome, put_line};
 use iv_locators::{BedText, Locator, Span, TextRecords};
 use iv_pair::{CountSweep, IntersectOutput, PairOutput, PairSweep, needs_cover_alone};
 use iv_view::{Available, KeptView, View, ViewFault, WrittenView};
@@ -66,8 +66,8 @@ impl<'t, A: Allocator + Copy> TextFiles<'t, A> {
     fn on(
         genome: Genome<A>,
         limit: u32,
-        first: Result<BedText<'t, A>, LoadFault>,
-        second: Option<Result<BedText<'t, A>, LoadFault>>,
+        first: HeldBed<'t, A>,
+        second: Option<HeldBed<'t, A>>,
         fasta: Option<HeldFasta<A>>,
     ) -> Result<TextFiles<'t, A>, CliFault>
         requires { FitsOn genome first }
@@ -336,77 +336,44 @@ fn print_files<A: Allocator + Copy, S: Sink>(
     files.print(alloc, view, sink)
 }
 
-/// Prints a view that needs the columns of records, of BED files whose texts are lent.
-fn shot_of_lent<'t, A: Allocator + Copy, S: Sink>(
-    alloc: A,
-    plan: &Plan<'_, A>,
-    on: RunGenome<A>,
-    first: Result<BedText<'t, A>, LoadFault>,
-    second: Option<Result<BedText<'t, A>, LoadFault>>,
-    fasta: Option<HeldFasta<A>>,
-    limit: u32,
-    sink: &mut S,
-) -> Result<(), CliFault>
-    requires columns { AskForColumns plan.now.view }
-    requires first { FitsOn on.genome first }
-    ensures { (sizes text : List ℕ) (other bases : Option (List ℕ)) → IsGenomeOf sizes on → on.width ≡ plan.now.width → on.limit ≡ limit
-        → IsHeld on.genome plan.now.width limit text first.entry → IsIfNamed (IsHeld on.genome plan.now.width limit) other second.entry → IsIfNamed (IsEnoughOf (λ wanted. IsEnough wanted first.entry) on.genome) bases fasta
-        → Shows (S.state sink.old) (S.state sink.new) result (shown plan.now sizes text other bases limit) }
-{
-    let genome = on.into_genome()?;
-    let files = TextFiles::on(genome, limit, first, second, fasta)?;
-    print_files(alloc, plan, files, sink)
-}
-
-/// The second file, if there is one, its text lent.
-fn lend_second<A: Allocator + Copy>(
-    held: &mut Option<HeldBed<A>>,
-    alloc: A,
-) -> Option<Result<BedText<'_, A>, LoadFault>>
-    ensures { result ≡ held.old }
-{
-    match held {
-        Some(held) => Some(lend(held, alloc)),
-        None => None,
-    }
-}
-
 /// Prints a view that needs the columns of records, once all files are read: all of its text, and nothing else.
 ///
 /// # Errors
 ///
 /// As of [`shot`].
-pub fn shot_of_held<A: Allocator + Copy, S: Sink>(
+pub fn shot_of_held<'t, A: Allocator + Copy, S: Sink>(
     alloc: A,
     plan: &Plan<'_, A>,
-    files: RunFiles<HeldBed<A>, A>,
+    files: RunFiles<HeldBed<'t, A>, A>,
     sink: &mut S,
 ) -> Result<(), CliFault>
     requires columns { AskForColumns plan.now.view }
-    ensures { (sizes first : List ℕ) (second fasta_text : Option (List ℕ)) → files.on.width ≡ plan.now.width → files.on.limit ≡ plan.now.limit → AreOf IsHeld IsEnough sizes first second fasta_text files
-        → Shows (S.state sink.old) (S.state sink.new) result (shown plan.now sizes first second fasta_text plan.now.limit) }
+    ensures { (sizes first : List ℕ) (second fasta_text : Option (List ℕ)) → files.entry.run_genome.width ≡ plan.now.width → AreOf IsHeld IsEnough sizes first second fasta_text files.entry
+        → Shows (S.state sink.old) (S.state sink.new) result (shown plan.now sizes first second fasta_text files.entry.run_genome.limit) }
 {
     let RunFiles {
-        on,
-        mut first,
-        mut second,
+        run_genome,
+        first,
+        second,
         fasta,
     } = files;
-    let first = lend(&mut first, alloc);
-    let second = lend_second(&mut second, alloc);
-    shot_of_lent(alloc, plan, on, first, second, fasta, plan.limit(), sink)
+    let limit = run_genome.limit();
+    let genome = run_genome.into_genome()?;
+    let files = TextFiles::on(genome, limit, first, second, fasta)?;
+    print_files(alloc, plan, files, sink)
 }
 
 /// The second file of a text, if there is one.
 fn parse_second<'t, A: Allocator + Copy>(
-    on: &RunGenome<A>,
+    run_genome: &RunGenome<A>,
     text: Option<&'t [u8]>,
-) -> Option<Result<BedText<'t, A>, LoadFault>>
+) -> Option<HeldBed<'t, A>>
     requires { IfSome (option_copied text) (λ bytes. length bytes < 2 ^ 32) }
-    ensures { IsIfNamed (IsHeld on.now.genome on.now.width on.now.limit) (option_copied text.entry) result }
+    ensures says { IsIfNamed (IsHeld run_genome.now.genome run_genome.now.width run_genome.now.limit) (option_copied text.entry) result }
+    ensures is_on { IfSome result (FitsOn run_genome.now.genome) }
 {
     match text {
-        Some(text) => Some(on.parse_text(text)),
+        Some(text) => Some(run_genome.parse_text(text)),
         None => None,
     }
 }
@@ -440,9 +407,15 @@ pub fn shot<A: Allocator + Copy, S: Sink>(
         );
         return files.print(view, sink);
     }
-    let on = RunGenome::begin(alloc, plan, inputs.sizes, limit);
-    let first = on.parse_text(inputs.first);
-    let second = parse_second(&on, inputs.other);
-    let fasta = on.parse_fasta(bases);
-    shot_of_lent(alloc, plan, on, first, second, fasta, limit, sink)
+    let run_genome = RunGenome::begin(alloc, plan, inputs.sizes, limit);
+    let first = run_genome.parse_text(inputs.first);
+    let second = parse_second(&run_genome, inputs.other);
+    let fasta = run_genome.parse_fasta(bases);
+    let files = RunFiles {
+        run_genome,
+        first,
+        second,
+        fasta,
+    };
+    shot_of_held(alloc, plan, files, sink)
 }

@@ -10,6 +10,7 @@ ghost use Rattle.iv_run.specs.Inside.RunFiles.{ReportsProjected};
 ghost use Rattle.iv_run.specs.Inside.Held.{FitsOn, IsHeld};
 
 use crate::fault::{CliFault, FileFault};
+use crate::held_bed::HeldBed;
 use crate::held_fasta::{HeldFasta, read_fasta};
 use crate::input_files::{HeldRecords, HoldsFile, ParsedFile, parse_bed, read_held};
 use iv_args::{Plan, Slot};
@@ -19,6 +20,7 @@ use iv_lines::{Genome, LoadFault};
 use iv_locators::BedText;
 use iv_text::FromRecord;
 use std::alloc::{Allocator, Global};
+use std::borrow::CowSlice;
 use std::marker::Model;
 
 /// The bytes of the files of a run, apart from the FASTA file.
@@ -60,9 +62,9 @@ impl<A: Allocator + Copy> Model for RunGenome<A> {
 
     ghost Value = { GenomeRead };
 
-    ghost view = { λ on. record { genome = on.genome; damage = on.damage; width = on.empty_width; limit = on.limit } };
+    ghost view = { λ run_genome. record { genome = run_genome.genome; damage = run_genome.damage; width = run_genome.empty_width; limit = run_genome.limit } };
 
-    ghost invariant = { λ on. IsWidth on.empty_width };
+    ghost invariant = { λ run_genome. IsWidth run_genome.empty_width };
 }
 
 impl<A: Allocator + Copy> RunGenome<A> {
@@ -101,12 +103,18 @@ impl<A: Allocator + Copy> RunGenome<A> {
     }
 
     /// A BED file for a view that needs the columns of records, given its text.
-    pub(crate) fn parse_text<'t>(&self, text: &'t [u8]) -> Result<BedText<'t, A>, LoadFault>
+    pub(crate) fn parse_text<'t>(&self, text: &'t [u8]) -> HeldBed<'t, A>
         requires { length text.now < 2 ^ 32 }
         ensures says { IsHeld self.now.genome self.now.width self.now.limit text.now result }
         ensures is_on { FitsOn self.now.genome result }
     {
-        BedText::parse(self.alloc, &self.genome, self.empty_width, self.limit, text)
+        BedText::parse(
+            self.alloc,
+            &self.genome,
+            self.empty_width,
+            self.limit,
+            CowSlice::Borrowed(text),
+        )
     }
 
     /// The FASTA file of these bytes, if there are any, or its first fault.
@@ -164,6 +172,13 @@ impl<A: Allocator + Copy> RunGenome<A> {
         read_fasta(self.alloc, &self.genome, wanted, source, most)
     }
 
+    /// How many records each BED file may have.
+    pub(crate) fn limit(&self) -> u32
+        ensures { result ≡ self.now.limit }
+    {
+        self.limit
+    }
+
     /// The genome, or the fault of its file.
     pub(crate) fn into_genome(self) -> Result<Genome<A>, CliFault>
         ensures ok { IfOk result (λ genome. (self.damage ≡ None) × (genome ≡ self.genome)) }
@@ -182,7 +197,7 @@ impl<A: Allocator + Copy> RunGenome<A> {
 #[derive(Drop)]
 pub struct RunFiles<H: HoldsFile<A>, A: Allocator + Copy = Global> {
     /// The genome file, and what the BED files on it may be.
-    pub on: RunGenome<A>,
+    pub run_genome: RunGenome<A>,
     /// The first file.
     pub first: H,
     /// The second file, if the plan names one.
@@ -197,14 +212,14 @@ impl<H: HoldsFile<A>, A: Allocator + Copy> Model for RunFiles<H, A> {
 
     ghost Value = { FilesRead H };
 
-    ghost view = { λ f. record { on = f.on; first = f.first; second = f.second; fasta = f.fasta } };
+    ghost view = { λ f. record { run_genome = f.run_genome; first = f.first; second = f.second; fasta = f.fasta } };
 
-    ghost invariant = { λ f. H.is_on f.on.genome f.on.limit f.first × IfSome f.second (H.is_on f.on.genome f.on.limit) };
+    ghost invariant = { λ f. H.is_on f.run_genome.genome f.run_genome.limit f.first × IfSome f.second (H.is_on f.run_genome.genome f.run_genome.limit) };
 }
 
 /// The files of a run that are sound, with what is held of each record.
 #[derive(Drop)]
-pub struct LoadedFiles<K: FromRecord<A>, A: Allocator + Copy = Global> {
+pub struct SoundFiles<K: FromRecord<A>, A: Allocator + Copy = Global> {
     pub alloc: A,
     pub genome: Genome<A>,
     pub first: ParsedFile<K, A>,
@@ -213,7 +228,7 @@ pub struct LoadedFiles<K: FromRecord<A>, A: Allocator + Copy = Global> {
     pub limit: u32,
 }
 
-impl<K: FromRecord<A>, A: Allocator + Copy> Model for LoadedFiles<K, A> {
+impl<K: FromRecord<A>, A: Allocator + Copy> Model for SoundFiles<K, A> {
     ghost use Rattle.std.specs.Prelude.{IfSome};
     ghost use Rattle.iv_run.specs.Loading.{Parsed};
     ghost use Rattle.iv_run.specs.RunFiles.{AreProjected};
@@ -235,18 +250,18 @@ impl<K: FromRecord<A>, A: Allocator + Copy> RunFiles<HeldRecords<K, A>, A> {
         limit: u32,
     ) -> Self
         ensures says { AreOf (IsParsed K.projected) AreAllWanted inputs.now.sizes.now inputs.now.first.now (option_copied inputs.now.other) (option_map (λ text. text.items) fasta_text) result }
-        ensures width { result.on.width ≡ plan.now.width }
-        ensures limit { result.on.limit ≡ limit }
+        ensures width { result.run_genome.width ≡ plan.now.width }
+        ensures limit { result.run_genome.limit ≡ limit }
     {
-        let on = RunGenome::begin(alloc, plan, inputs.sizes, limit);
-        let first = on.parse(inputs.first);
+        let run_genome = RunGenome::begin(alloc, plan, inputs.sizes, limit);
+        let first = run_genome.parse(inputs.first);
         let second = match inputs.other {
-            Some(second) => Some(on.parse(second)),
+            Some(second) => Some(run_genome.parse(second)),
             None => None,
         };
-        let fasta = on.parse_fasta(fasta_text);
+        let fasta = run_genome.parse_fasta(fasta_text);
         RunFiles {
-            on,
+            run_genome,
             first,
             second,
             fasta,
@@ -256,23 +271,23 @@ impl<K: FromRecord<A>, A: Allocator + Copy> RunFiles<HeldRecords<K, A>, A> {
 
 /// All files of a run, or the fault of the first damaged one, given what is held of each.
 pub fn sound_files<K: FromRecord<A>, A: Allocator + Copy>(
-    on: RunGenome<A>,
+    run_genome: RunGenome<A>,
     first: HeldRecords<K, A>,
     second: Option<HeldRecords<K, A>>,
     fasta: Option<HeldFasta<A>>,
-) -> Result<LoadedFiles<K, A>, CliFault>
-    requires first { IsOn K.projected on.genome on.limit first }
-    requires second { IfSome second (IsOn K.projected on.genome on.limit) }
-    ensures says { (sizes text : List ℕ) (other bases : Option (List ℕ)) → AreOf (IsParsed K.projected) AreAllWanted sizes text other bases (record { on = on; first = first; second = second; fasta = fasta })
-        → ReportsProjected K.projected result (parsed on.width sizes text other bases on.limit) }
-    ensures limit { IfOk result (λ files. files.limit ≡ on.limit) }
+) -> Result<SoundFiles<K, A>, CliFault>
+    requires first { IsOn K.projected run_genome.genome run_genome.limit first }
+    requires second { IfSome second (IsOn K.projected run_genome.genome run_genome.limit) }
+    ensures says { (sizes text : List ℕ) (other bases : Option (List ℕ)) → AreOf (IsParsed K.projected) AreAllWanted sizes text other bases (record { run_genome = run_genome; first = first; second = second; fasta = fasta })
+        → ReportsProjected K.projected result (parsed run_genome.width sizes text other bases run_genome.limit) }
+    ensures limit { IfOk result (λ files. files.limit ≡ run_genome.limit) }
 {
-    let (alloc, limit) = (on.alloc, on.limit);
-    let genome = on.into_genome()?;
+    let (alloc, limit) = (run_genome.alloc, run_genome.limit);
+    let genome = run_genome.into_genome()?;
     let first = in_slot(Slot::First, first)?;
     let second = in_slot(Slot::Other, second.transpose())?;
     let fasta = in_slot(Slot::Bases, fasta.transpose())?;
-    Ok(LoadedFiles {
+    Ok(SoundFiles {
         alloc,
         genome,
         first,

@@ -1,5 +1,6 @@
 -- What follows from the end of a run about the limits.
 use Rattle.std.proofs.Common.{◌≡◌, ◌≢◌, ℕ, ◌+◌, ◌≤◌, ◌<◌, ◌++◌, ◌⊎◌, inl, inr, List, length, Option, Some, None, Result, Ok, Err, IfSome, ◌↔◌, refl, sym, ap, ◌∙◌, subst, arith, true≢false}
+use Rattle.std.proofs.lemmas.Option.{same_Some}
 use Rattle.iv_bytes.specs.Sources.{SourceState, IsInput}
 use Rattle.iv_lines.specs.Lines.{lines}
 use Rattle.iv_session.specs.Endings.{Ran, AreSoundStreams, HadMemory, IsTooLongAt}
@@ -11,7 +12,7 @@ use Rattle.iv_session.specs.declared.script.RunCause.TheVariants.{Input, TooLong
 use Rattle.iv_session.specs.declared.script.RunFault.{RunFault}
 use Rattle.iv_session.specs.declared.script.Summary.{Summary}
 use Rattle.iv_workspace.specs.States.{State}
-use Rattle.iv_session.proofs.SizeLemmas.{length-sizes, whole-sizes, over-after, over-none, over-first, over-low, over-past, passes-more, some-inj}
+use Rattle.iv_session.proofs.SizeLemmas.{length-sizes, whole-sizes, over-after, over-none, over-first, over-low, over-past, passes-more}
 
 -- the input that is known is the text
 known_text : (s : SourceState) (text whole : List ℕ) → s.remaining ≡ Some text → IsInput s whole → text ≡ whole
@@ -65,12 +66,8 @@ stopped-ran old new before after most_lines most n text fault known ran sink is 
         → (cause ≡ Output) ⊎ (cause ≡ Messages) → fault.line < n
     go Output u sink = past Output u u.why
     go Messages u sink = past Messages u u.why
-    go Input u (inl other) = absurd (cc other)
-    go Input u (inr other) = absurd (cc other)
-    go TooLong u (inl other) = absurd (cc other)
-    go TooLong u (inr other) = absurd (cc other)
-    go Memory u (inl other) = absurd (cc other)
-    go Memory u (inr other) = absurd (cc other)
+    go cause u (inl other) = absurd (cc other)
+    go cause u (inr other) = absurd (cc other)
 
 -- a run that ended neither by a stream nor out of memory
 pub too_long-exact : (old new : State) (before after : Streams) (most_lines most n : ℕ) (text : List ℕ) (ended : Result Summary RunFault)
@@ -89,7 +86,7 @@ too_long-exact old new before after most_lines most n text (Err fault) known ran
         from-line old new before after most_lines most fault.line TooLong text known u
         ∙ over-first most_lines most fault.line (line_sizes (u.at.given ++ u.at.more))
         (passes-more most_lines most fault.line u.at.given u.at.more u.why) in
-        (λ at. first ∙ ap (λ (k : ℕ). Some k) at.0, λ is. (some-inj fault.line n (sym first ∙ is), refl))
+        (λ at. first ∙ ap (λ (k : ℕ). Some k) at.0, λ is. (same_Some fault.line n (sym first ∙ is), refl))
     go Input u memory = absurd (true≢false (sym u.source.failed ∙ sound.0))
     go Output u memory = absurd (true≢false (sym u.last.texts.0.failed ∙ sound.1))
     go Messages u memory = absurd (true≢false (sym u.last.texts.1.failed ∙ sound.2))

@@ -3,7 +3,6 @@ pub mod ReadLemmas
 pub mod ScriptLemmas
 pub mod StopLemmas
 pub mod ColumnLemmas
-pub mod EditLemmas
 pub mod RunLemmas
 pub mod Examples
 pub mod EndingLemmas

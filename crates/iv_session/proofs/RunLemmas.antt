@@ -137,11 +137,7 @@ fresher-done : (asks : Request) (old new : State) (text : List ℕ) → AsksToPr
 fresher-done (request.Print name part) old new text print (v, named, is, same) =
     subst (IsButCurrent old) (sym is) (refl, freshens-one old.views name)
 fresher-done (request.PrintAll part) old new text print (is, same) = subst (IsButCurrent old) (sym is) (refl, freshens-all old.views)
-fresher-done request.Nothing old new text print does = absurd print
-fresher-done (request.Edit target e) old new text print does = absurd print
-fresher-done (request.Resize name n) old new text print does = absurd print
-fresher-done (request.Open name said) old new text print does = absurd print
-fresher-done (request.Close name) old new text print does = absurd print
+fresher-done asks old new text print does = absurd print
 
 -- nothing has changed
 fresher-same : (old new : State) → new ≡ old → IsButCurrent old new
@@ -150,12 +146,7 @@ fresher-same old new same = subst (IsButCurrent old) (sym same) (refl, freshens-
 -- a refused line leaves it so too
 fresher-left : (asks : Request) (old new : State) → Leaves asks old new → IsButCurrent old new
 fresher-left (request.PrintAll part) old new left = left
-fresher-left request.Nothing old new left = fresher-same old new left
-fresher-left (request.Edit target e) old new left = fresher-same old new left
-fresher-left (request.Resize name n) old new left = fresher-same old new left
-fresher-left (request.Open name said) old new left = fresher-same old new left
-fresher-left (request.Close name) old new left = fresher-same old new left
-fresher-left (request.Print name part) old new left = fresher-same old new left
+fresher-left asks old new left = fresher-same old new left
 
 -- a line that ended with the refusal that it writes
 fresher-ends : (asks : Result Request Fault) (old new : State) (written : Written) → Ends asks old new written

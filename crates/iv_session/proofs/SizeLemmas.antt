@@ -1,16 +1,13 @@
 -- The sizes of lines, and the limits on them.
-use Rattle.std.proofs.Common.{◌≡◌, ◌≢◌, ℕ, suc, ◌+◌, ◌≤◌, ◌<◌, ◌&&◌, ◌||◌, ◌==◌, Bool, true, false, cond, nat_lt, All, List, [], ◌∷◌, ◌++◌, length, Option, None, Some, unwrap_or, refl, sym, ap, ◌∙◌, subst, inl, inr, ◌⊎◌, arith, append_assoc, append-nil, length-append}
-use Rattle.std.proofs.lemmas.Bool.{false≢true, cond-true, cond-false, ne_eqb, lt-ltb, le-ltb}
+use Rattle.std.proofs.Common.{◌≡◌, ◌≢◌, ℕ, suc, ◌+◌, ◌≤◌, ◌<◌, ◌&&◌, ◌||◌, ◌==◌, Bool, true, false, cond, nat_lt, All, List, [], ◌∷◌, ◌++◌, length, Option, None, Some, refl, sym, ap, ◌∙◌, subst, inl, inr, ◌⊎◌, arith, append_assoc, append-nil, length-append}
+use Rattle.std.proofs.lemmas.Bool.{false≢true, cond-true, cond-false, lt-ltb, le-ltb, or_right}
 use Rattle.std.proofs.lemmas.List.Elements.{All-head, All-tail}
 use Rattle.std.specs.List.{onto_first}
+use Rattle.std.proofs.Math.Bool.{and-false}
+use Rattle.std.proofs.lemmas.Option.{same_Some}
 use Rattle.iv_lines.specs.Lines.{begins_with, lines, HasNoFeed}
+use Rattle.iv_lines.proofs.LineLemmas.{not_feed, plain_rest}
 use Rattle.iv_session.specs.Limits.{one_longer, line_sizes, AreWholeLines, AreWithin, Keeps, Passes, is_over, first_over}
-
-not_feed : (b : ℕ) (bs : List ℕ) → HasNoFeed (b ∷ bs) → (b == 10) ≡ false
-not_feed b bs plain = ne_eqb b 10 (All-head (λ x. x ≢ 10) b bs plain)
-
-plain_rest : (b : ℕ) (bs : List ℕ) → HasNoFeed (b ∷ bs) → HasNoFeed bs
-plain_rest b bs plain = All-tail (λ x. x ≢ 10) b bs plain
 
 -- ---- the sizes of a text's lines
 
@@ -105,11 +102,7 @@ onto-length b (size ∷ sizes) (text ∷ texts) same = same
 length-step : (b : ℕ) (bs : List ℕ) → length (line_sizes bs) ≡ length (lines bs) → (t u : Bool) → ((b == 13) && begins_with 10 bs) ≡ u
     → length (cond t (0 ∷ line_sizes bs) (one_longer (line_sizes bs))) ≡ length (cond t ([] ∷ lines bs) (cond u (lines bs) (onto_first b (lines bs))))
 length-step b bs rest true u is = ap suc rest
-length-step b [] rest false true is = absurd (false≢true (sym (none (b == 13)) ∙ is))
-  where
-    none : (t : Bool) → (t && false) ≡ false
-    none true = refl
-    none false = refl
+length-step b [] rest false true is = absurd (false≢true (sym (and-false (b == 13)) ∙ is))
 length-step b (c ∷ cs) rest false true is = longer-length (line_sizes (c ∷ cs)) (some-sizes (c ∷ cs) (omega arith)) ∙ rest
 length-step b bs rest false false is = onto-length b (line_sizes bs) (lines bs) rest
 
@@ -228,13 +221,9 @@ not-over : (most_lines most n size : ℕ) → n ≤ most_lines → size ≤ most
 not-over most_lines most n size low fits =
     ap (λ (t : Bool). t || nat_lt most size) (le-ltb most_lines n low) ∙ le-ltb most size fits
 
-either : (s t : Bool) → t ≡ true → (s || t) ≡ true
-either true t is = refl
-either false t is = is
-
 over : (most_lines most n size : ℕ) → (most_lines < n) ⊎ (most < size) → is_over most_lines most n size ≡ true
 over most_lines most n size (inl full) = ap (λ (t : Bool). t || nat_lt most size) (lt-ltb most_lines n full)
-over most_lines most n size (inr long) = either (nat_lt most_lines n) (nat_lt most size) (lt-ltb most size long)
+over most_lines most n size (inr long) = or_right (nat_lt most_lines n) (nat_lt most size) (lt-ltb most size long)
 
 -- lines that keep the limits are gone over
 pub over-after : (most_lines most n : ℕ) (xs ys : List ℕ) → All (λ size. size ≤ most) xs → n + length xs ≤ most_lines + 1
@@ -272,11 +261,8 @@ over-found most_lines most front back within passes =
     ∙ ap (λ (k : ℕ). first_over most_lines most k back) same
     ∙ over-first most_lines most (length front + 1) back passes
 
-pub some-inj : (n m : ℕ) → Some n ≡ Some m → n ≡ m
-some-inj n m is = ap (λ (o : Option ℕ). unwrap_or o 0) is
-
 low-step : (t : Bool) (n m : ℕ) (later : Option ℕ) → (later ≡ Some m → n + 1 ≤ m) → cond t (Some n) later ≡ Some m → n ≤ m
-low-step true n m later after is = let same : n ≡ m = some-inj n m is in omega (arith, same)
+low-step true n m later after is = let same : n ≡ m = same_Some n m is in omega (arith, same)
 low-step false n m later after is = let low : n + 1 ≤ m = after is in omega (arith, low)
 
 -- it is found at its number or after

@@ -14,7 +14,7 @@ use Rattle.iv_lines.specs.Inside.Number.{decimal_from}
 use Rattle.iv_text.specs.Inside.OnePass.{BeginsWithNumber}
 use Rattle.iv_lines.proofs.BlockLemmas.{before-outside, is_outside, outside_mask}
 use Rattle.iv_lines.proofs.NumberLemmas.{decimal-more, digit-bound, digits-more, number-is}
-use Rattle.iv_text.proofs.OnePassLemmas.{rest-whole}
+use Rattle.iv_text.proofs.OnePassLemmas.{parts-whole}
 
 -- digits at each index below n are n digits in a row
 pub digits-below : (text : List ℕ) (n : ℕ) → n ≤ length text → ((k : ℕ) → k < n → is_ascii_digit (get_or text k 0) ≡ true) → all_ascii_digits (take n text) ≡ true
@@ -32,7 +32,7 @@ number-more text k value within is =
 pub begins : (text : List ℕ) (n value : ℕ) → 0 < n → n ≤ 10 → n ≤ length text → ((k : ℕ) → k < n → is_ascii_digit (get_or text k 0) ≡ true) → value ≡ decimal_from 0 (take n text)
     → BeginsWithNumber text value (take (length text - n) (drop n text))
 begins text n value some few within each is =
-    (take n text, rest-whole text n, number-is (take n text) (omega (arith, length-take n text)) (omega (arith, length-take n text)) (digits-below text n within each) ∙ ap Some (sym is))
+    (take n text, parts-whole text n, number-is (take n text) (omega (arith, length-take n text)) (omega (arith, length-take n text)) (digits-below text n within each) ∙ ap Some (sym is))
 
 -- ---- sixteen bytes
 
@@ -158,27 +158,13 @@ moved n word = word * 2 ^ (64 - 8 * n) % 18446744073709551616
 
 moved-is : (n front rest : ℕ) → 0 < n → n ≤ 8 → front < 256 ^ n → moved n (front + 256 ^ n * rest) ≡ 256 ^ (8 - n) * front
 moved-is zero front rest some few low = absurd (omega arith)
-moved-is (suc zero) front rest some few low = omega arith
-moved-is (suc (suc zero)) front rest some few low = omega arith
-moved-is (suc (suc (suc zero))) front rest some few low = omega arith
-moved-is (suc (suc (suc (suc zero)))) front rest some few low = omega arith
-moved-is (suc (suc (suc (suc (suc zero))))) front rest some few low = omega arith
-moved-is (suc (suc (suc (suc (suc (suc zero)))))) front rest some few low = omega arith
-moved-is (suc (suc (suc (suc (suc (suc (suc zero))))))) front rest some few low = omega arith
-moved-is (suc (suc (suc (suc (suc (suc (suc (suc zero)))))))) front rest some few low = omega arith
 moved-is (suc (suc (suc (suc (suc (suc (suc (suc (suc n))))))))) front rest some few low = absurd (omega arith)
+moved-is n front rest some few low = omega arith
 
 zeros-moved : (n : ℕ) → 0 < n → n ≤ 8 → moved n 3472328296227680304 ≡ 256 ^ (8 - n) * word_of (replicate n 48)
 zeros-moved zero some few = absurd (omega arith)
-zeros-moved (suc zero) some few = refl
-zeros-moved (suc (suc zero)) some few = refl
-zeros-moved (suc (suc (suc zero))) some few = refl
-zeros-moved (suc (suc (suc (suc zero)))) some few = refl
-zeros-moved (suc (suc (suc (suc (suc zero))))) some few = refl
-zeros-moved (suc (suc (suc (suc (suc (suc zero)))))) some few = refl
-zeros-moved (suc (suc (suc (suc (suc (suc (suc zero))))))) some few = refl
-zeros-moved (suc (suc (suc (suc (suc (suc (suc (suc zero)))))))) some few = refl
 zeros-moved (suc (suc (suc (suc (suc (suc (suc (suc (suc n))))))))) some few = absurd (omega arith)
+zeros-moved n some few = refl
 
 -- eight values add up to what they mean
 eight-is : (vs : List ℕ) → length vs ≡ 8 → ((k : ℕ) → get_or vs k 0 ≤ 9) → (word_of vs ≤ 651061555542690057) × (eight_of (word_of vs) ≡ fold (λ n v. n * 10 + v) 0 vs) × (eight_of (word_of vs) < 10 ^ 8)
@@ -194,15 +180,7 @@ eight-is (p ∷ q ∷ r ∷ s ∷ t ∷ u ∷ v ∷ w ∷ []) is small =
     let word : ℕ = word_of (p ∷ q ∷ r ∷ s ∷ t ∷ u ∷ v ∷ w ∷ []) in
     let sums = eight-lanes p q r s t u v w (pairs_of word) hp hq hr hs ht hu hv hw (pairs-are p q r s t u v w word hp hq hr hs ht hu hv hw (omega arith)) in
     (omega arith, sums.0, sums.1)
-eight-is [] is small = absurd (omega arith)
-eight-is (p ∷ []) is small = absurd (omega arith)
-eight-is (p ∷ q ∷ []) is small = absurd (omega arith)
-eight-is (p ∷ q ∷ r ∷ []) is small = absurd (omega arith)
-eight-is (p ∷ q ∷ r ∷ s ∷ []) is small = absurd (omega arith)
-eight-is (p ∷ q ∷ r ∷ s ∷ t ∷ []) is small = absurd (omega arith)
-eight-is (p ∷ q ∷ r ∷ s ∷ t ∷ u ∷ []) is small = absurd (omega arith)
-eight-is (p ∷ q ∷ r ∷ s ∷ t ∷ u ∷ v ∷ []) is small = absurd (omega arith)
-eight-is (p ∷ q ∷ r ∷ s ∷ t ∷ u ∷ v ∷ w ∷ x ∷ vs) is small = absurd (omega arith)
+eight-is vs is small = absurd (omega arith)
 
 -- the moved word less moved zeros, for a word that begins with so many digits: it is a number, small enough to be added up, and
 -- means what the digits do
@@ -216,14 +194,7 @@ word-is : (text : List ℕ) (word : ℕ) → 8 ≤ length text
     → word ≡ get_or text 0 0 + get_or text 1 0 * 256 + get_or text 2 0 * 65536 + get_or text 3 0 * 16777216 + get_or text 4 0 * 4294967296 + get_or text 5 0 * 1099511627776 + get_or text 6 0 * 281474976710656 + get_or text 7 0 * 72057594037927936
     → word ≡ word_of (take 8 text)
 word-is (a ∷ b ∷ c ∷ d ∷ e ∷ f ∷ g ∷ h ∷ rest) word long is = omega (arith, is)
-word-is [] word long is = absurd (omega arith)
-word-is (a ∷ []) word long is = absurd (omega arith)
-word-is (a ∷ b ∷ []) word long is = absurd (omega arith)
-word-is (a ∷ b ∷ c ∷ []) word long is = absurd (omega arith)
-word-is (a ∷ b ∷ c ∷ d ∷ []) word long is = absurd (omega arith)
-word-is (a ∷ b ∷ c ∷ d ∷ e ∷ []) word long is = absurd (omega arith)
-word-is (a ∷ b ∷ c ∷ d ∷ e ∷ f ∷ []) word long is = absurd (omega arith)
-word-is (a ∷ b ∷ c ∷ d ∷ e ∷ f ∷ g ∷ []) word long is = absurd (omega arith)
+word-is text word long is = absurd (omega arith)
 
 pub adds_up : (text : List ℕ) (n word : ℕ) → 8 ≤ length text → 0 < n → n ≤ 8 → ((k : ℕ) → get_or text k 0 < 256) → ((k : ℕ) → k < n → is_ascii_digit (get_or text k 0) ≡ true)
     → word ≡ get_or text 0 0 + get_or text 1 0 * 256 + get_or text 2 0 * 65536 + get_or text 3 0 * 16777216 + get_or text 4 0 * 4294967296 + get_or text 5 0 * 1099511627776 + get_or text 6 0 * 281474976710656 + get_or text 7 0 * 72057594037927936

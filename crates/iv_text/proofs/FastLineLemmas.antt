@@ -1,6 +1,6 @@
 -- A line of a record at the front of a text.
 use Rattle.std.proofs.Common.{◌≢◌, ◌≡◌, ℕ, ◌+◌, ◌-◌, ◌<◌, ◌≤◌, Bool, true, false, not, nat_lt, ◌==◌, ◌||◌, ◌⊎◌, inl, inr, ◌&&◌, List, [], ◌∷◌, ◌++◌, Option, None, Some, unwrap_or, slice_get, length, take, drop, get_or, refl, sym, ap, subst, ◌∙◌, arith, append_assoc, codes, append-nil}
-use Rattle.std.proofs.lemmas.Bool.{and_parts, cond-false, false≢true, eq-eqb, ne_eqb, false_from_ne_true, not-true, or_from, or_parts}
+use Rattle.std.proofs.lemmas.Bool.{and_parts, false≢true, eq-eqb, ne_eqb, false_from_ne_true, not-true, or_from, or_parts}
 use Rattle.std.proofs.lemmas.Bool.Decides.{nat_tests}
 use Rattle.std.proofs.lemmas.Grind.{common_steps}
 use Rattle.std.proofs.lemmas.Option.{slice_get_within}
@@ -12,7 +12,7 @@ use Rattle.std.specs.Char.{is_ascii_digit}
 use Rattle.std.specs.Io.BufRead.{strip_last}
 use Rattle.std.specs.Option.{is_some, option_map}
 use Rattle.std.specs.Str.{all_ascii_digits, bytes_eq}
-use Rattle.iv_lines.proofs.LineLemmas.{strip-is, strip-more, lines-line}
+use Rattle.iv_lines.proofs.LineLemmas.{strip-is, lines-line, strip-front, strip-kept}
 use Rattle.iv_lines.proofs.NumberLemmas.{number-digits}
 use Rattle.iv_lines.proofs.FieldLemmas.{column-last, column-more}
 use Rattle.iv_text.proofs.OnePassLemmas.{line-read, record_of, row-of}
@@ -42,16 +42,6 @@ digits-without z (d ∷ ds) other all =
 
 tab-feed : (xs : List ℕ) → HasNoFeed xs → HasNoFeed (9 ∷ xs)
 tab-feed xs plain = All-cons (λ b. b ≢ 10) 9 xs (λ e. omega (arith, e)) plain
-
-strip-kept : (xs : List ℕ) → All (λ b. b ≢ 13) xs → strip_last 13 xs ≡ xs
-strip-kept [] none = refl
-strip-kept (x ∷ []) none = strip-is x [] ∙ cond-false _ _ _ (ne_eqb x 13 (All-head (λ b. b ≢ 13) x [] none))
-strip-kept (x ∷ y ∷ xs) none = strip-more x y xs ∙ ap (λ t. x ∷ t) (strip-kept (y ∷ xs) (All-tail (λ b. b ≢ 13) x (y ∷ xs) none))
-
-strip-front : (xs : List ℕ) (b : ℕ) (bs : List ℕ) → strip_last 13 (xs ++ b ∷ bs) ≡ xs ++ strip_last 13 (b ∷ bs)
-strip-front [] b bs = refl
-strip-front (x ∷ []) b bs = strip-more x b bs
-strip-front (x ∷ y ∷ xs) b bs = strip-more x y (xs ++ b ∷ bs) ∙ ap (λ t. x ∷ t) (strip-front (y ∷ xs) b bs)
 
 -- ---- a name that is no header, and a TAB after it
 

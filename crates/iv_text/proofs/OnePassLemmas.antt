@@ -1,8 +1,7 @@
 -- A line read in one pass from its front.
 use Rattle.std.proofs.Common.{◌≡◌, ℕ, ◌+◌, ◌-◌, ◌<◌, ◌≤◌, Bool, true, false, ◌&&◌, not, nat_le, List, [], ◌∷◌, ◌++◌, Option, Some, None, Ok, length, find, refl, sym, ap, subst, ◌∙◌, arith, unwrap_or, take, drop, nat_eq}
-use Rattle.std.proofs.lemmas.Bool.{eq-eqb, le-ltb, lt-leb}
+use Rattle.std.proofs.lemmas.Bool.{eq-eqb, le-ltb, lt-leb, true≢false}
 use Rattle.std.proofs.lemmas.Bool.Decides.{nat_tests}
-use Rattle.std.proofs.lemmas.Grind.{common_steps}
 use Rattle.iv_lines.specs.Fields.{columns}
 use Rattle.iv_lines.specs.Number.{number}
 use Rattle.iv_lines.specs.Inside.Fields.{HasNoTab, ArePassed}
@@ -11,7 +10,7 @@ use Rattle.iv_lines.specs.declared.record_ref.Strand.{Strand}
 use Rattle.std.specs.Borrow.{Bor}
 use Rattle.std.specs.Prelude.{MatchOption, IfSome, IsSome}
 use Rattle.std.specs.Option.{is_none}
-use Rattle.iv_lines.proofs.ReadLemmas.{skip, hit}
+use Rattle.iv_lines.proofs.ReadLemmas.{passed, read-parts}
 use Rattle.iv_lines.specs.declared.fault.Fault.{Fault}
 use Rattle.iv_lines.specs.declared.fault.Fault.TheVariants as fault
 use Rattle.std.specs.Cmp.Lexicographic.{same_text, pointwise}
@@ -24,11 +23,11 @@ use Rattle.iv_lines.specs.RecordValue.{RecordValue, IsRecord, strand_of}
 use Rattle.std.proofs.lemmas.List.{take-append-drop, get_or_past}
 use Rattle.iv_lines.proofs.NumberLemmas.{number-plain}
 use Rattle.iv_lines.proofs.FieldLemmas.{column-more}
+use Rattle.iv_lines.proofs.PieceLemmas.{rest-whole}
 
-pub rest-whole : (text : List ℕ) (at : ℕ) → text ≡ take at text ++ take (length text - at) (drop at text)
-rest-whole text at =
-    let whole : take (length text - at) (drop at text) ≡ drop at text = grind (arith, common_steps) in
-    sym (take-append-drop at text) ∙ ap (λ t. take at text ++ t) (sym whole)
+-- a text is what is before an index and what is left from there on
+pub parts-whole : (text : List ℕ) (at : ℕ) → text ≡ take at text ++ take (length text - at) (drop at text)
+parts-whole text at = sym (take-append-drop at text) ∙ ap (λ t. take at text ++ t) (sym (rest-whole text at))
 
 -- ---- columns
 
@@ -138,24 +137,12 @@ line-read g w line rest name score sixth others rank from to strand place after 
 
 -- ---- a line that was read names its record's sequence
 
-or_fault-ok : (o : Option Fault) (q r : RecordValue) → unless_fault o (Ok q) ≡ Ok r → q ≡ r
-or_fault-ok None q r h = cc
-or_fault-ok (Some f) q r h = cc
-
-or_fault-hit : (o : Option Fault) (f : Fault) (q r : RecordValue) → o ≡ Some f → unless_fault o (Ok q) ≡ Ok r → ⊥
-or_fault-hit None f q r is h = cc
-or_fault-hit (Some e) f q r is h = cc
-
-later_faults : List Fault
-later_faults = fault.StartNumber ∷ fault.StopNumber ∷ fault.Order ∷ fault.PastEnd ∷ fault.Name ∷ fault.Score ∷ fault.Strand ∷ []
-
 pub read-ranked : (g : Sequences) (w : ℕ) (line : List ℕ) (r : RecordValue) → read g w line ≡ Ok r → name_index g (column (columns line) 0) ≡ Some r.seq
-unfolding later_faults
-read-ranked g w line r says = by (name_index g (column (columns line) 0)) refl (has_fault g w (columns line) fault.Columns) refl
+read-ranked g w line r says = by (name_index g (column (columns line) 0)) refl
   where
-    by : (o : Option ℕ) → name_index g (column (columns line) 0) ≡ o → (b : Bool) → has_fault g w (columns line) fault.Columns ≡ b → name_index g (column (columns line) 0) ≡ Some r.seq
-    by (Some k) is b many =
-        is ∙ ap Some (sym (ap (λ (o : Option ℕ). unwrap_or o 0) is) ∙ ap (λ (q : RecordValue). q.seq) (or_fault-ok (find (has_fault g w (columns line)) faults) (feature g w (columns line)) r says))
-    by None is true many = absurd (or_fault-hit (find (has_fault g w (columns line)) faults) fault.Columns (feature g w (columns line)) r (hit (has_fault g w (columns line)) fault.Columns (fault.UnknownSeq ∷ later_faults) many) says)
-    by None is false many = absurd (or_fault-hit (find (has_fault g w (columns line)) faults) fault.UnknownSeq (feature g w (columns line)) r
-        (skip (has_fault g w (columns line)) fault.Columns (fault.UnknownSeq ∷ later_faults) many ∙ hit (has_fault g w (columns line)) fault.UnknownSeq later_faults (ap is_none is)) says)
+    parts : (find (has_fault g w (columns line)) faults ≡ None) × (feature g w (columns line) ≡ r)
+    parts = read-parts g w line r says
+
+    by : (o : Option ℕ) → name_index g (column (columns line) 0) ≡ o → name_index g (column (columns line) 0) ≡ Some r.seq
+    by (Some k) is = is ∙ ap Some (sym (ap (λ (o : Option ℕ). unwrap_or o 0) is) ∙ ap (λ (q : RecordValue). q.seq) parts.1)
+    by None is = absurd (true≢false (sym (ap is_none is) ∙ (passed (has_fault g w (columns line)) faults parts.0).1.0))

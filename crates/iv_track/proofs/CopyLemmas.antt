@@ -4,20 +4,16 @@ use Rattle.std.specs.declared.cmp.Ordering.{Ordering}
 use Rattle.std.specs.Ordering.{is_eq}
 use Rattle.std.specs.Cmp.{tied_itself, Equal-is}
 use Rattle.std.proofs.lemmas.Bool.{cases_lt}
-use Rattle.std.proofs.lemmas.List.Sums.{sum_by-cons}
 use Rattle.iv_lines.specs.Ordered.{copies, added}
 use Rattle.iv_lines.specs.Inside.Ordered.{copies_by}
 use Rattle.iv_lines.specs.RecordValue.{RecordValue, record_cmp, records_total}
 use Rattle.iv_lines.proofs.RecordLemmas.{rows_exact}
-use Rattle.iv_lines.proofs.OrderedLemmas.{copies-added}
+use Rattle.iv_lines.proofs.OrderedLemmas.{copies-added, copies-cons}
 use Rattle.iv_track.specs.Copies.{removed_by}
 use Rattle.iv_track.specs.Tracked.{removed}
 use Rattle.iv_track.proofs.Counts.{copies-removed}
 
 module _ {K : Type 0} (cmp : K → K → Ordering) where
-  copies-cons : (x k : K) (xs : List K) → copies_by cmp (x ∷ xs) k ≡ cond (is_eq (cmp k x)) 1 0 + copies_by cmp xs k
-  copies-cons x k xs = sum_by-cons (λ y. cond (is_eq (cmp k y)) 1 0) x xs
-
   -- what is not there is not taken
   pub removed-absent : (xs : List K) (x : K) → copies_by cmp xs x ≡ 0 → removed_by cmp xs x ≡ xs
   removed-absent [] x none = refl
@@ -25,7 +21,7 @@ module _ {K : Type 0} (cmp : K → K → Ordering) where
       (elim (is_eq (cmp x q)) as (λ b. cond b 1 0 + copies_by cmp xs x ≡ 0 → cond b xs (q ∷ removed_by cmp xs x) ≡ q ∷ xs) [
         | true ↦ λ some. absurd (omega arith)
         | false ↦ λ less. ap (λ (l : List K). q ∷ l) (removed-absent xs x (omega arith))
-      ]) (sym (copies-cons q x xs) ∙ none)
+      ]) (sym (copies-cons cmp q x xs) ∙ none)
 
 -- a record is a copy of itself
 own : (r : RecordValue) → cond {A = ℕ} (is_eq (record_cmp r r)) 1 0 ≡ 1

@@ -1,6 +1,6 @@
 -- A list in order, its equal neighbours taken as one entry each.
 use Rattle.std.proofs.Common.{◌≡◌, ℕ, ◌+◌, ◌<◌, ◌^◌, Bool, true, false, cond, List, [], ◌∷◌, length, refl, sym, ap, ◌∙◌, subst, arith, suc}
-use Rattle.std.specs.Prelude.{IfOk, IfSome, Ok, Err, Option, Result, map, if◌then◌else◌, unwrap_or}
+use Rattle.std.specs.Prelude.{IfOk, IfSome, Ok, Err, Option, Result, unwrap_or}
 use Rattle.std.specs.BTreeMap.{is_at}
 use Rattle.std.specs.Cmp.{IsTotalOrder, Equal-is, alike_right, eq_by_cmp_equiv}
 use Rattle.std.specs.Iterator.{Drains, YieldsFirst}
@@ -10,13 +10,14 @@ use Rattle.std.specs.Map.{keys_of, values_of}
 use Rattle.std.specs.Ordering.{is_eq, is_le, ordering_reverse}
 use Rattle.std.specs.declared.cmp.Ordering.{Ordering}
 use Rattle.std.specs.declared.cmp.Ordering.TheVariants.{Less, Equal, Greater}
-use Rattle.std.proofs.lemmas.Bool.{cond-true, cond-false}
+use Rattle.std.proofs.lemmas.Bool.{cond-true, cond-false, cond_both}
 use Rattle.std.proofs.lemmas.Iterator.{YieldsList, items_from_drains}
 use Rattle.std.proofs.lemmas.Iterator.Consumers.{YieldsList-from_shown}
 use Rattle.std.proofs.lemmas.List.Elements.{All-from_recursion}
 use Rattle.std.proofs.lemmas.List.Sums.{sum_by-cons}
 use Rattle.std.proofs.lemmas.Map.Keys.{IsDistinct-from_sorted}
 use Rattle.std.proofs.lemmas.Map.Views.{All-values_from_lookup, IfSome-lookup_from_All}
+use Rattle.std.proofs.lemmas.List.{map-id}
 use Rattle.iv_lines.specs.Ordered.{InOrder}
 use Rattle.iv_lines.specs.Inside.Ordered.{copies_by}
 use Rattle.iv_lines.proofs.BatchLemmas.{strictly-apart}
@@ -25,11 +26,6 @@ use Rattle.iv_track.specs.Copies.{expanded}
 use Rattle.iv_track.specs.Entries.{IsLedger, value_at}
 use Rattle.iv_track.specs.Inside.Counted.{grouped_from, grouped, AreCounted, AreDistinct}
 use Rattle.iv_track.proofs.Counts.{copies-expanded, count-front}
-
--- what holds on either side of a test
-either_way : {X : Type 0} (P : X → Type 0) (b : Bool) (x y : X) → (b ≡ true → P x) → (b ≡ false → P y) → P (if b then x else y)
-either_way P true x y where_true where_false = where_true refl
-either_way P false x y where_true where_false = where_false refl
 
 one-more : (b : Bool) (n : ℕ) → cond {A = ℕ} b (n + 1) 0 ≡ cond {A = ℕ} b n 0 + cond {A = ℕ} b 1 0
 one-more true n = refl
@@ -46,7 +42,7 @@ le_apart Greater b e h n = cc
 from-present : {K : Type 0} (cmp : K → K → Ordering) (k : K) (n : ℕ) (xs : List K) → 0 < n → AllByRecursion (λ m. 0 < m) (values_of (grouped_from cmp k n xs))
 from-present cmp k n [] some = (some, tt)
 from-present {K} cmp k n (q ∷ qs) some =
-    either_way (λ (es : List (K × ℕ)). AllByRecursion (λ m. 0 < m) (values_of es)) (is_eq (cmp q k)) (grouped_from cmp k (n + 1) qs) ((k, n) ∷ grouped_from cmp q 1 qs)
+    cond_both (is_eq (cmp q k)) (grouped_from cmp k (n + 1) qs) ((k, n) ∷ grouped_from cmp q 1 qs) (λ (es : List (K × ℕ)). AllByRecursion (λ m. 0 < m) (values_of es))
     (λ _. from-present cmp k (n + 1) qs (omega arith))
     (λ _. (some, from-present cmp q 1 qs (omega arith)))
 
@@ -55,7 +51,7 @@ module _ {K : Type 0} (cmp : K → K → Ordering) (total : IsTotalOrder cmp) wh
   from-copies : (k : K) (n : ℕ) (xs : List K) (x : K) → copies_by cmp (expanded (grouped_from cmp k n xs)) x ≡ cond (is_eq (cmp x k)) n 0 + copies_by cmp xs x
   from-copies k n [] x = count-front (λ y. is_eq (cmp x y)) n k []
   from-copies k n (q ∷ qs) x =
-      either_way (λ (es : List (K × ℕ)). copies_by cmp (expanded es) x ≡ cond (is_eq (cmp x k)) n 0 + copies_by cmp (q ∷ qs) x) (is_eq (cmp q k)) (grouped_from cmp k (n + 1) qs) ((k, n) ∷ grouped_from cmp q 1 qs)
+      cond_both (is_eq (cmp q k)) (grouped_from cmp k (n + 1) qs) ((k, n) ∷ grouped_from cmp q 1 qs) (λ (es : List (K × ℕ)). copies_by cmp (expanded es) x ≡ cond (is_eq (cmp x k)) n 0 + copies_by cmp (q ∷ qs) x)
       (λ alike. omega (
         arith,
         from-copies k (n + 1) qs x,
@@ -81,7 +77,7 @@ module _ {K : Type 0} (cmp : K → K → Ordering) (total : IsTotalOrder cmp) wh
   from-below : (p k : K) (n : ℕ) (xs : List K) → cmp p k ≡ Less → InOrder cmp (k ∷ xs) → AllByRecursion (λ x. cmp p x ≡ Less) (keys_of (grouped_from cmp k n xs))
   from-below p k n [] less order = (less, tt)
   from-below p k n (q ∷ qs) less order =
-      either_way (λ (es : List (K × ℕ)). AllByRecursion (λ x. cmp p x ≡ Less) (keys_of es)) (is_eq (cmp q k)) (grouped_from cmp k (n + 1) qs) ((k, n) ∷ grouped_from cmp q 1 qs)
+      cond_both (is_eq (cmp q k)) (grouped_from cmp k (n + 1) qs) ((k, n) ∷ grouped_from cmp q 1 qs) (λ (es : List (K × ℕ)). AllByRecursion (λ x. cmp p x ≡ Less) (keys_of es))
       (λ _. from-below p k (n + 1) qs less (order.0.1, order.1.1))
       (λ apart. (less, from-below p q 1 qs (total.trans p k q less (later q k order.0.0 apart)) order.1))
 
@@ -90,7 +86,7 @@ module _ {K : Type 0} (cmp : K → K → Ordering) (total : IsTotalOrder cmp) wh
   unfolding IsStrictlySortedBy
   from-ordered k n [] order = (tt, tt)
   from-ordered k n (q ∷ qs) order =
-      either_way (IsLedger cmp) (is_eq (cmp q k)) (grouped_from cmp k (n + 1) qs) ((k, n) ∷ grouped_from cmp q 1 qs)
+      cond_both (is_eq (cmp q k)) (grouped_from cmp k (n + 1) qs) ((k, n) ∷ grouped_from cmp q 1 qs) (IsLedger cmp)
       (λ _. from-ordered k (n + 1) qs (order.0.1, order.1.1))
       (λ apart. (from-below k q 1 qs (later q k order.0.0 apart) order.1, from-ordered q 1 qs order.1))
 
@@ -112,13 +108,9 @@ module _ {K : Type 0} (cmp : K → K → Ordering) (total : IsTotalOrder cmp) wh
 
 -- ---- what an iterator gives
 
-map-same : {X : Type 0} (xs : List X) → map (λ y. y) xs ≡ xs
-map-same [] = refl
-map-same (x ∷ xs) = ap (λ ys. x ∷ ys) (map-same xs)
-
 -- the items that an iterator has given are those that it gives
 pub given-items : {S X : Type 0} {gives : S → Option X → S → Type 0} (s : S) (xs all : List X) → Drains gives s xs → YieldsList gives (λ x. x) s all → xs ≡ all
-given-items s xs all run list = sym (map-same xs) ∙ items_from_drains xs (run.1.0, run.1.1, λ _. (run.0, run.1.2)) list
+given-items s xs all run list = sym (map-id xs) ∙ items_from_drains xs (run.1.0, run.1.1, λ _. (run.0, run.1.2)) list
 
 given-entries : {X : Type 0} (all xs : List X) → Drains (YieldsFirst (λ (es : List X). es)) all xs → xs ≡ all
 given-entries {X} all xs run =

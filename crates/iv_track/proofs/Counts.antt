@@ -20,7 +20,7 @@ use Rattle.std.proofs.lemmas.List.Folds.{sum_by-replicate, find_at}
 use Rattle.std.proofs.Math.ListN.{length-replicate}
 use Rattle.iv_lines.specs.Ordered.{added_by, InOrder}
 use Rattle.iv_lines.specs.Inside.Ordered.{copies_by}
-use Rattle.iv_lines.proofs.OrderedLemmas.{one_list, copies-added, in_order-added}
+use Rattle.iv_lines.proofs.OrderedLemmas.{one_list, copies-added, in_order-added, all-weaker, copies-cons}
 use Rattle.iv_track.specs.Copies.{removed_by, expanded}
 
 -- ---- how many
@@ -174,10 +174,6 @@ module _ {K : Type 0} (cmp : K → K → Ordering) where
 
 -- ---- in order
 
-all-weaker : {X : Type 0} (P Q : X → Type 0) → ((x : X) → P x → Q x) → (xs : List X) → AllByRecursion P xs → AllByRecursion Q xs
-all-weaker P Q f [] h = tt
-all-weaker P Q f (x ∷ xs) h = (f x h.0, all-weaker P Q f xs h.1)
-
 all-front : {X : Type 0} (P : X → Type 0) (n : ℕ) (x : X) (xs : List X) → P x → AllByRecursion P xs → AllByRecursion P (replicate n x ++ xs)
 all-front P zero x xs p h = h
 all-front P (suc n) x xs p h = (p, all-front P n x xs p h)
@@ -201,9 +197,6 @@ module _ {K : Type 0} (cmp : K → K → Ordering) where
 -- ---- changes keep the order
 
 module _ {K : Type 0} (cmp : K → K → Ordering) where
-  copies-cons : (x k : K) (xs : List K) → copies_by cmp (x ∷ xs) k ≡ cond (is_eq (cmp k x)) 1 0 + copies_by cmp xs k
-  copies-cons x k xs = sum_by-cons (λ y. cond (is_eq (cmp k y)) 1 0) x xs
-
   pub all-removed : (P : K → Type 0) (xs : List K) (x : K) → AllByRecursion P xs → AllByRecursion P (removed_by cmp xs x)
   all-removed P [] x h = h
   all-removed P (q ∷ xs) x h = elim (is_eq (cmp x q)) as (λ b. AllByRecursion P (cond b xs (q ∷ removed_by cmp xs x))) [
@@ -223,9 +216,9 @@ module _ {K : Type 0} (cmp : K → K → Ordering) where
   copies-removed o [] x y some = absurd (omega arith)
   copies-removed o (q ∷ xs) x y some =
       (elim (is_eq (cmp x q)) as (λ b. is_eq (cmp x q) ≡ b → 0 < cond b 1 0 + copies_by cmp xs x → copies_by cmp (cond b xs (q ∷ removed_by cmp xs x)) y + cond (is_eq (cmp y x)) 1 0 ≡ copies_by cmp (q ∷ xs) y) [
-        | true ↦ λ is _. omega (arith, copies-cons q y xs, ap {B = ℕ} (λ (r : Ordering). cond (is_eq r) 1 0) (alike_right o x q y ((Equal-is (cmp x q)).0 is)))
-        | false ↦ λ is more. omega (arith, copies-cons q y xs, copies-cons q y (removed_by cmp xs x), copies-removed o xs x y (omega arith))
-      ]) refl (subst (λ n. 0 < n) (copies-cons q x xs) some)
+        | true ↦ λ is _. omega (arith, copies-cons cmp q y xs, ap {B = ℕ} (λ (r : Ordering). cond (is_eq r) 1 0) (alike_right o x q y ((Equal-is (cmp x q)).0 is)))
+        | false ↦ λ is more. omega (arith, copies-cons cmp q y xs, copies-cons cmp q y (removed_by cmp xs x), copies-removed o xs x y (omega arith))
+      ]) refl (subst (λ n. 0 < n) (copies-cons cmp q x xs) some)
 
   -- to add one and take another that is there is to take it and then add
   pub removed-added : IsTotalOrder cmp → CmpEqualImpliesEq cmp → (xs : List K) (x y : K) → InOrder cmp xs → 0 < copies_by cmp xs y → removed_by cmp (added_by cmp xs x) y ≡ added_by cmp (removed_by cmp xs y) x

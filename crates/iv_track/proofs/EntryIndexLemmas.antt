@@ -18,11 +18,8 @@ use Rattle.iv_track.specs.Inside.Tracked.{BeginsFrom}
 use Rattle.iv_track.proofs.NumberOrder.{le-cmp}
 
 from_least : (a b r : Ordering) → (b ≡ Equal → is_le r ≡ true) → is_le (ordering_then a (ordering_then b r)) ≡ is_le (ordering_then a b)
-from_least Less b r h = refl
-from_least Equal Less r h = refl
 from_least Equal Equal r h = h refl
-from_least Equal Greater r h = refl
-from_least Greater b r h = refl
+from_least a b r h = refl
 
 pub le_then : (a b : Ordering) → is_le a ≡ true → is_le b ≡ true → is_le (ordering_then a b) ≡ true
 le_then Less b g h = refl

@@ -13,7 +13,7 @@ use Rattle.iv_lines.specs.RecordValue.{RecordValue, record_cmp}
 use Rattle.iv_track.specs.Tracked.{is_from}
 use Rattle.iv_track.proofs.NumberOrder.{le-cmp, ge-cmp}
 use Rattle.iv_lines.proofs.PrecedesLemmas.{precedes-from}
-use Rattle.iv_lines.proofs.ListLemmas.{Mem, all-mem, filter-agree, filter-all, filter-filter}
+use Rattle.iv_lines.proofs.ListLemmas.{Mem, all-mem, filter-agree, filter-filter}
 
 pub le_pair : (a b c d : ℕ) → is_le (ordering_then (nat_cmp a b) (nat_cmp c d)) ≡ true → (a ≤ b) × (a ≡ b → c ≤ d)
 le_pair a b c d h = go (nat_cmp a b) refl h
@@ -96,6 +96,3 @@ from_next seq p x y h le =
 pub from_all : (seq p : ℕ) (r : RecordValue) (records : List RecordValue) → AreInOrder (r ∷ records) → is_from seq p r ≡ true → (q : RecordValue) → Mem q (r ∷ records) → is_from seq p q ≡ true
 from_all seq p r records o h q (inl is) = ap (is_from seq p) (sym is) ∙ h
 from_all seq p r records o h q (inr m) = from_next seq p r q h (all-mem (λ y. is_le (record_cmp r y) ≡ true) records (All-from_recursion (λ y. is_le (record_cmp r y) ≡ true) records o.0) q m)
-
-pub from_whole : (seq p : ℕ) (r : RecordValue) (records : List RecordValue) → AreInOrder (r ∷ records) → is_from seq p r ≡ true → filter (is_from seq p) (r ∷ records) ≡ r ∷ records
-from_whole seq p r records o h = filter-all (is_from seq p) (r ∷ records) (from_all seq p r records o h)

@@ -25,7 +25,8 @@ overlaps_from seq start stop q on low high = rw (eq-eqb q.seq seq on, lt-ltb q.s
 
 -- ---- hit by hit
 
-from_apart : (seq start stop : ℕ) (q : RecordValue) → is_from seq stop q ≡ true → overlaps seq start stop q ≡ false
+-- a record from the stop on shares no position
+pub from_apart : (seq start stop : ℕ) (q : RecordValue) → is_from seq stop q ≡ true → overlaps seq start stop q ≡ false
 from_apart seq start stop q h = go (overlaps seq start stop q) refl
   where
     go : (b : Bool) → overlaps seq start stop q ≡ b → b ≡ false

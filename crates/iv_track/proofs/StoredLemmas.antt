@@ -103,15 +103,11 @@ module _ {A : Type 0} where
 -- ---- the first record after one that may have other columns
 
 not_after : (a b c r s : Ordering) → is_le r ≡ true → is_le (ordering_then a (ordering_then b (ordering_then c r))) ≡ false → is_lt (ordering_then a (ordering_then b (ordering_then c s))) ≡ false
-not_after Less b c r s le h = cc
 not_after Greater b c r s le h = refl
-not_after Equal Less c r s le h = cc
 not_after Equal Greater c r s le h = refl
-not_after Equal Equal Less r s le h = cc
 not_after Equal Equal Greater r s le h = refl
 not_after Equal Equal Equal Less s le h = cc
-not_after Equal Equal Equal Equal s le h = cc
-not_after Equal Equal Equal Greater s le h = cc
+not_after a b c r s le h = cc
 
 passed : (k q : RecordValue) → HasThreeColumns q → is_le (record_cmp (record { seq = k.seq; start = k.start; stop = k.stop; name = []; score = []; strand = None; width = 3 }) q) ≡ false → is_lt (record_cmp k q) ≡ false
 passed k q three = not_after (nat_cmp k.seq q.seq) (nat_cmp k.start q.start) (nat_cmp k.stop q.stop) _ _ (empty-before 3 q (omega (arith, three)))

@@ -1,5 +1,5 @@
 //! The entries of a track: its different records, each with the number of its copies.
-ghost use Rattle.std.specs.Prelude.{◌≡◌, ◌≢◌, ◌<◌, ◌-◌, ◌^◌, [], None, All, length, IfOk, IfErr, MatchOption, OnErr, OnOk, Some};
+ghost use Rattle.std.specs.Prelude.{◌≡◌, ◌≢◌, ◌<◌, ◌-◌, ◌^◌, [], None, All, length, IfOk, IfErr, OnErr, OnOk, Some};
 ghost use Rattle.std.specs.BTreeMap.{insert_entry, is_at};
 ghost use Rattle.std.specs.List.{filter, find};
 ghost use Rattle.std.specs.Map.{keys_of, remove_entry, set_value};
@@ -94,7 +94,7 @@ impl<A: Allocator + Copy> Entries<A> {
     {
         match &self.storage {
             Storage::Full(ledger) => ledger.get(feature, meter).copied(),
-            Storage::Bed3(ledger) => match bed3_of(feature) {
+            Storage::Bed3(ledger) => match feature.to_bed3() {
                 Some(feature) => ledger.get(&feature, meter).copied(),
                 None => {
                     meter.tick();
@@ -164,7 +164,7 @@ impl<A: Allocator + Copy> Entries<A> {
     {
         match &mut self.storage {
             Storage::Full(ledger) => ledger.set(feature, copies, meter),
-            Storage::Bed3(ledger) => match bed3_of(feature) {
+            Storage::Bed3(ledger) => match feature.to_bed3() {
                 Some(feature) => ledger.set(&feature, copies, meter),
                 None => {
                     // The entries are in order.
@@ -186,7 +186,7 @@ impl<A: Allocator + Copy> Entries<A> {
             Storage::Full(ledger) => {
                 ledger.take(feature, meter);
             }
-            Storage::Bed3(ledger) => match bed3_of(feature) {
+            Storage::Bed3(ledger) => match feature.to_bed3() {
                 Some(feature) => {
                     ledger.take(&feature, meter);
                 }
@@ -314,24 +314,13 @@ fn interval_of<A: Allocator>(feature: &Record<A>) -> Bed3Record
     Bed3Record::new(feature.seq(), feature.start() as u32, feature.stop() as u32)
 }
 
-/// The same record as one of three columns, `None` if it has more or fewer.
-fn bed3_of<A: Allocator>(feature: &Record<A>) -> Option<Bed3Record>
-    ensures { MatchOption result (feature.now.width ≢ 3) (λ r. r ≡ feature.now) }
-{
-    if feature.width() != 3 {
-        return None;
-    }
-    feature.as_ref().lemma_of_columns();
-    Some(interval_of(feature))
-}
-
 /// The same record as one of three columns. If it has more or fewer, it is given back.
 pub(crate) fn into_bed3<A: Allocator + Copy>(feature: Record<A>) -> Result<Bed3Record, Record<A>>
     ensures same { IfOk result (λ r. r ≡ feature) }
     ensures back { IfErr result (λ r. (r ≡ feature) × (feature.width ≢ 3)) }
 {
-    match bed3_of(&feature) {
-        Some(feature) => Ok(feature),
+    match feature.to_bed3() {
+        Some(bed3) => Ok(bed3),
         None => Err(feature),
     }
 }

@@ -241,6 +241,15 @@ impl<K: Ord + Abbreviated + Drop, V: Drop, A: Allocator + Clone + Drop> Ledger<K
         }
     }
 
+    /// All entries, in order. Beginning is one step, and each call of the walk's `next` another.
+    pub fn walk_all(&self, meter: &mut Meter) -> Walk<'_, K, V, A>
+        ensures entries { result ≡ self.now }
+        ensures step { meter.new ≡ ticked meter.old }
+    {
+        meter.tick();
+        self.all()
+    }
+
     /// The entries from a key on, in order. Beginning is one step, and each call of the walk's `next` another.
     pub fn walk(&self, key: &K, meter: &mut Meter) -> Walk<'_, K, V, A>
         ensures entries { result ≡ filter (λ e. is_le (K.cmp key.now e.0)) self.now }

@@ -1,5 +1,6 @@
 //! About how long the records of a track are.
 ghost use Rattle.std.specs.Prelude.{◌≡◌, ◌+◌, ◌-◌, ◌^◌, ◌<◌, ◌≤◌, ℕ, [], All, length, slice_index_or, slice_set};
+ghost use Rattle.std.specs.Int.Count.{count_leading_zeros};
 ghost use Rattle.std.specs.Map.{keys_of};
 ghost use Rattle.iv_lines.specs.RecordValue.{IsPlaced};
 ghost use Rattle.iv_track.specs.Copies.{expanded};
@@ -17,7 +18,8 @@ pub(crate) fn length_class<A: Allocator + Copy>(feature: &Record<A>) -> usize
     ensures is { result ≡ length_class feature.now }
     ensures within { result < 33 }
 {
-    lent_class(Lent::Full(feature))
+    feature.lemma_of_interval();
+    class_of_length(feature.stop() - feature.start())
 }
 
 /// How many binary digits the number of a lent record's positions has, 1 to 32.
@@ -28,7 +30,16 @@ fn lent_class<A: Allocator + Copy>(lent: Lent<'_, A>) -> usize
 {
     let feature = TrackRecord::of(lent);
     feature.lemma_of_interval();
-    let positions = (feature.stop() - feature.start()) as u32;
+    class_of_length(feature.stop() - feature.start())
+}
+
+/// How many binary digits a number of positions has, which is below 2^32.
+fn class_of_length(positions: u64) -> usize
+    requires { positions < 2 ^ 32 }
+    ensures is { result ≡ 32 - count_leading_zeros 32 positions }
+    ensures within { result < 33 }
+{
+    let positions = positions as u32;
     (32 - positions.leading_zeros()) as usize
 }
 

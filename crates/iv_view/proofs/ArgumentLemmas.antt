@@ -3,9 +3,10 @@ use Rattle.std.proofs.Common.{◌≡◌, ◌∙◌, ℕ, zero, suc, ◌+◌, ◌
 use Rattle.std.specs.Prelude.{◌==◌, IsTrue, IfOk, Result, Ok, Err, ◌&&◌, nat_lt, if◌then◌else◌, option_and_then, codes}
 use Rattle.std.specs.Str.{bytes_eq}
 use Rattle.std.proofs.lemmas.List.{take_all, length-take-le}
-use Rattle.std.proofs.lemmas.Bool.{cases_lt, ne_eqb}
+use Rattle.std.proofs.lemmas.Bool.{cases_lt}
 use Rattle.std.proofs.lemmas.Option.{none-some, same_Some}
 use Rattle.iv_lines.specs.declared.fault.Fault.{Fault}
+use Rattle.iv_lines.proofs.ListLemmas.{some-cons}
 use Rattle.iv_view.specs.Merge.{MergeArgs, said_by, with_flag, with_option, unless_given, nothing_said}
 use Rattle.iv_view.specs.Flags.{only_flag, beside_flag, genomecov_rows, intersect_said, fasta_said}
 use Rattle.iv_view.specs.NarrowedViews.{as_merge}
@@ -112,12 +113,9 @@ intersect-cut arguments = flag-cut (codes "-wa") intersect_said intersect_others
 fasta-cut : (arguments : List (List ℕ)) → beside_flag (codes "-s") fasta_said (take 8 arguments) ≡ beside_flag (codes "-s") fasta_said arguments
 fasta-cut arguments = flag-cut (codes "-s") fasta_said getfasta_others arguments
 
-not-empty : (argument : List ℕ) (arguments : List (List ℕ)) → (length (argument ∷ arguments) == 0) ≡ false
-not-empty argument arguments = ne_eqb (length (argument ∷ arguments)) 0 (λ e. omega (arith, e))
-
 records-cut : (arguments : List (List ℕ)) → (length (take 8 arguments) == 0) ≡ (length arguments == 0)
 records-cut [] = refl
-records-cut (argument ∷ arguments) = not-empty argument (take 7 arguments) ∙ sym (not-empty argument arguments)
+records-cut (argument ∷ arguments) = some-cons argument (take 7 arguments) ∙ sym (some-cons argument arguments)
 
 -- arguments after the ninth change nothing: no view has as many
 pub words-cut : (width : ℕ) (has_second has_bases : Bool) (arguments : List (List ℕ))

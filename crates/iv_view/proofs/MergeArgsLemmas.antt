@@ -1,18 +1,11 @@
 -- Options that are read one after another.
-use Rattle.std.proofs.Common.{◌≡◌, ℕ, ◌-◌, ◌≤◌, true, false, List, [], ◌∷◌, Option, None, Some, map, length, take, drop, get_or, sym, ap, ◌∙◌, arith}
+use Rattle.std.proofs.Common.{◌≡◌, ℕ, ◌-◌, ◌≤◌, true, false, List, [], ◌∷◌, Option, None, Some, map, length, take, drop, get_or, sym, ap, ◌∙◌}
 use Rattle.std.specs.Prelude.{codes, option_and_then}
 use Rattle.std.specs.Str.{bytes_eq}
 use Rattle.std.specs.Borrow.{Bor}
 use Rattle.std.proofs.lemmas.Bool.{cond-true, cond-false}
-use Rattle.std.proofs.lemmas.List.{take_all}
+use Rattle.iv_lines.proofs.ListLemmas.{one-up}
 use Rattle.iv_view.specs.Merge.{MergeArgs, said_by, with_flag, with_option}
-
--- a list of at least one begins with it
-pub one-up : {A : Type 0} (f : A → List ℕ) (xs : List A) (d : A) → 1 ≤ length xs → map f xs ≡ f (get_or xs 0 d) ∷ map f (take (length xs - 1) (drop 1 xs))
-one-up f [] d h = absurd (omega (arith, h))
-one-up f (x ∷ xs) d h =
-    let n : length (x ∷ xs) - 1 ≡ length xs = omega arith in
-    rw n (ap (λ l. f x ∷ map f l) (sym (take_all (length xs) xs (omega arith))))
 
 -- a flag
 pub said-flag : (argument : List ℕ) (arguments : List (List ℕ)) (said : MergeArgs) → bytes_eq argument (codes "-s") ≡ true → said.stranded ≡ false

@@ -2,14 +2,14 @@
 use Rattle.std.proofs.Common.{◌≡◌, ◌≢◌, ℕ, zero, suc, ◌+◌, ◌-◌, ◌*◌, ◌/◌, ◌%◌, ◌^◌, ◌<◌, ◌≤◌, inl, inr, Bool, true, false, not, ◌==◌, ◌&&◌, ◌||◌, nat_le, nat_lt, cond, List, [], ◌∷◌, ◌++◌, Option, None, Some, Result, Ok, Err, All, MatchOption, length, length-append, take, map, find, flat_map, position, get_or, get_or-take, length-take, refl, sym, ap, subst, ◌∙◌, arith, append_assoc, append-nil, codes, decimal, unwrap_or}
 use Rattle.std.specs.Char.{is_ascii_digit}
 use Rattle.std.specs.Io.BufRead.{strip_last}
-use Rattle.std.specs.List.{AllByRecursion, onto_first, list_any, join_with_byte}
+use Rattle.std.specs.List.{onto_first, list_any, join_with_byte}
 use Rattle.std.specs.Option.{is_none}
 use Rattle.std.specs.Str.{all_ascii_digits, bytes_eq}
-use Rattle.std.proofs.lemmas.Bool.{and_cases, and_parts, cases_lt, cond-false, cond-true, eq-eqb, eqb-true, false≢true, le-ltb, leb-false, leb-true, lt-leb, ne_eqb, or_from, or_parts}
+use Rattle.std.proofs.lemmas.Bool.{and_cases, and_parts, cases_lt, cond-false, cond-true, eq-eqb, false≢true, le-ltb, leb-false, leb-true, lt-leb, ne_eqb, or_from, or_parts}
 use Rattle.std.proofs.lemmas.Bool.Decides.{nat_tests}
 use Rattle.std.proofs.lemmas.Fmt.{decimal_by_steps, decimal_nonempty, length-decimal-le}
 use Rattle.std.proofs.lemmas.List.{get_or_past}
-use Rattle.std.proofs.lemmas.List.Elements.{All-nil, All-cons, All-head, All-tail, All-take, All-append, All-weaker, All-push, All-from_recursion, recursion_from_All}
+use Rattle.std.proofs.lemmas.List.Elements.{All-nil, All-cons, All-head, All-tail, All-take, All-append, All-weaker, All-push}
 use Rattle.std.proofs.lemmas.List.Quantifiers.{position-Some}
 use Rattle.std.proofs.lemmas.List.Splits.{join_with_byte-slice_split}
 use Rattle.std.proofs.lemmas.Option.{slice_get-map, slice_get-get_or}
@@ -39,11 +39,12 @@ use Rattle.iv_lines.specs.declared.record_ref.Strand.{Strand}
 use Rattle.iv_lines.specs.declared.record_ref.Strand.TheVariants.{Plus, Minus, Dot}
 use Rattle.iv_text.proofs.BedLemmas.{row-unread, row-columns, row-taken}
 use Rattle.iv_lines.proofs.FileMeaningLemmas.{same-ok, ok-err}
-use Rattle.iv_lines.proofs.LineLemmas.{lines-line, strip-is, strip-more}
+use Rattle.iv_lines.proofs.LineLemmas.{lines-line, strip-front, strip-kept}
 use Rattle.iv_lines.proofs.NumberLemmas.{decimal-more, digits-more, number-is, digit-bound, bound-more, powers-grow}
 use Rattle.iv_lines.proofs.FieldLemmas.{column-more, column-last}
 use Rattle.iv_text.proofs.OnePassLemmas.{read-ranked}
-use Rattle.iv_lines.proofs.OrderedLemmas.{all-all_added, length-all_added}
+use Rattle.iv_lines.proofs.OrderedLemmas.{length-all_added, ordered-all}
+use Rattle.iv_lines.proofs.ReadLemmas.{count-sound, passed, read-parts}
 use Rattle.iv_view.specs.Inside.RowsAgain.{IsOfLine, IsBedRow}
 use Rattle.iv_pair.specs.IntersectRows.{record_line}
 use Rattle.iv_view.specs.Inside.Texts.{records_text}
@@ -183,24 +184,6 @@ alike g w cs ds long first start stop name score strand = λ i. unless_fault (fi
 
 -- ---- columns without a fault
 
-passed : {X : Type 0} (t : X → Bool) (xs : List X) → find t xs ≡ None → AllByRecursion (λ x. t x ≡ false) xs
-passed t [] none = tt
-passed {X} t (x ∷ xs) none = by (t x) refl (passed t xs)
-  where
-    some_none : (y : X) → ◌≡◌ {A = Option X} (Some y) None → ⊥
-    some_none y e = cc
-
-    by : (b : Bool) → t x ≡ b → (find t xs ≡ None → AllByRecursion (λ y. t y ≡ false) xs) → AllByRecursion (λ y. t y ≡ false) (x ∷ xs)
-    by true is rest = absurd (some_none x (sym (cond-true _ _ _ is) ∙ none))
-    by false is rest = (is, rest (sym (cond-false _ _ _ is) ∙ none))
-
-same_count : (a b : ℕ) → not (a == b) ≡ false → a ≡ b
-same_count a b h = eqb-true a b (by (a == b) h)
-  where
-    by : (t : Bool) → not t ≡ false → t ≡ true
-    by true e = refl
-    by false e = sym e
-
 some-is : (o : Option ℕ) → is_none o ≡ false → o ≡ Some (unwrap_or o 0)
 some-is None none = cc
 some-is (Some n) none = refl
@@ -236,7 +219,7 @@ unfolding text_of
 row-again g w cs low high plain none =
     let free = passed (has_fault g w cs) faults none in
     let r : RecordValue = feature g w cs in
-    let many : length cs ≡ w = same_count (length cs) w free.0 in
+    let many : length cs ≡ w = count-sound g w cs none in
     let named : sequence_name g r.seq ≡ column cs 0 = name-at g (column cs 0) r.seq (some-is (name_index g (column cs 0)) free.1.0) in
     let starts : number (column cs 1) ≡ Some r.start = some-is (number (column cs 1)) free.1.1.0 in
     let stops : number (column cs 2) ≡ Some r.stop = some-is (number (column cs 2)) free.1.1.1.0 in
@@ -254,20 +237,10 @@ row-again g w cs low high plain none =
     (cell-at (w - 3) cells 2 (λ c. strand_of c ≡ strand_of (column cs 5)) (λ _. strand-back (strand_of (column cs 5))) (λ past. ap strand_of (sym (get_or_past cs 5 [] (omega arith)))))
     ∙ ap (λ (o : Option Fault). unless_fault o (Ok r)) none
 
-or_fault-parts : (o : Option Fault) (q r : RecordValue) → unless_fault o (Ok q) ≡ Ok r → (o ≡ None) × (q ≡ r)
-or_fault-parts None q r is = (refl, same is)
-  where
-    same : ◌≡◌ {A = Result RecordValue Fault} (Ok q) (Ok r) → q ≡ r
-    same e = cc
-or_fault-parts (Some f) q r is = absurd (apart is)
-  where
-    apart : ◌≡◌ {A = Result RecordValue Fault} (Err f) (Ok r) → ⊥
-    apart e = cc
-
 -- the text of the record of a line means it again
 pub line-again : (g : Sequences) (w : ℕ) (line : List ℕ) (r : RecordValue) → 3 ≤ w → w ≤ 6 → read g w line ≡ Ok r → read g w (record_text g r) ≡ Ok r
 line-again g w line r low high reads =
-    let parts = or_fault-parts (find (has_fault g w (columns line)) faults) (feature g w (columns line)) r reads in
+    let parts = read-parts g w line r reads in
     subst (λ (q : RecordValue). read g w (record_text g q) ≡ Ok q) parts.1 (row-again g w (columns line) low high (columns-tab line) parts.0)
 
 -- ---- other lengths
@@ -277,7 +250,7 @@ pub line-lengths : (g h : Sequences) (w : ℕ) (line : List ℕ) (r : RecordValu
 line-lengths g h w line r named fits reads = (λ i. unless_fault (find (λ f. same f i) faults) (Ok (records i))) ∙ reads
   where
     parts : (find (has_fault g w (columns line)) faults ≡ None) × (feature g w (columns line) ≡ r)
-    parts = or_fault-parts (find (has_fault g w (columns line)) faults) (feature g w (columns line)) r reads
+    parts = read-parts g w line r reads
 
     ranks : name_index h (column (columns line) 0) ≡ name_index g (column (columns line) 0)
     ranks = ap (position (bytes_eq (column (columns line) 0))) named
@@ -360,7 +333,7 @@ unfolding text_of
 row-parts g w cs none =
     let free = passed (has_fault g w cs) faults none in
     let r : RecordValue = feature g w cs in
-    let many : length cs ≡ w = same_count (length cs) w free.0 in
+    let many : length cs ≡ w = count-sound g w cs none in
     let start_low : r.start < 10 ^ 10 = number-small (column cs 1) r.start (some-is (number (column cs 1)) free.1.1.0) in
     let stop_low : r.stop < 10 ^ 10 = number-small (column cs 2) r.stop (some-is (number (column cs 2)) free.1.1.1.0) in
     let cells : List (List ℕ) = r.name ∷ r.score ∷ strand_text r.strand ∷ [] in
@@ -378,17 +351,8 @@ row-parts g w cs none =
 
 line-parts : (g : Sequences) (w : ℕ) (r : RecordValue) → IsOfLine g w r → AreParts g r
 line-parts g w r of =
-    let parts = or_fault-parts (find (has_fault g w (columns of.0)) faults) (feature g w (columns of.0)) r of.1 in
+    let parts = read-parts g w of.0 r of.1 in
     subst (AreParts g) parts.1 (row-parts g w (columns of.0) parts.0)
-
-strip-front : (xs : List ℕ) (b : ℕ) (bs : List ℕ) → strip_last 13 (xs ++ b ∷ bs) ≡ xs ++ strip_last 13 (b ∷ bs)
-strip-front [] b bs = refl
-strip-front (x ∷ []) b bs = strip-more x b bs
-strip-front (x ∷ y ∷ xs) b bs = strip-more x y (xs ++ b ∷ bs) ∙ ap (λ t. x ∷ t) (strip-front (y ∷ xs) b bs)
-
-strip-kept : (x : ℕ) (xs : List ℕ) → All IsPlain (x ∷ xs) → strip_last 13 (x ∷ xs) ≡ x ∷ xs
-strip-kept x [] plain = strip-is x [] ∙ cond-false _ _ _ (ne_eqb x 13 (not-return x (All-head IsPlain x [] plain)))
-strip-kept x (y ∷ xs) plain = strip-more x y xs ∙ ap (λ t. x ∷ t) (strip-kept y xs (All-tail IsPlain x (y ∷ xs) plain))
 
 -- the row of such a record is one line
 row-line : (g : Sequences) (w : ℕ) (r : RecordValue) (more : List ℕ) → IsBedRow g w r → lines (record_line g r ++ more) ≡ record_text g r ∷ lines more
@@ -397,7 +361,7 @@ row-line g w r more is =
     let name : List ℕ = sequence_name g r.seq in
     let tail : All IsPlain (9 ∷ parts.rest) = All-cons IsPlain 9 parts.rest refl parts.plain in
     let plain : HasNoFeed (name ++ 9 ∷ parts.rest) = All-append (λ b. b ≢ 10) name (9 ∷ parts.rest) is.one_line (All-weaker IsPlain (λ b. b ≢ 10) not-feed (9 ∷ parts.rest) tail) in
-    let kept : strip_last 13 (name ++ 9 ∷ parts.rest) ≡ name ++ 9 ∷ parts.rest = strip-front name 9 parts.rest ∙ ap (λ t. name ++ t) (strip-kept 9 parts.rest tail) in
+    let kept : strip_last 13 (name ++ 9 ∷ parts.rest) ≡ name ++ 9 ∷ parts.rest = strip-front name 9 parts.rest ∙ ap (λ t. name ++ t) (strip-kept (9 ∷ parts.rest) (All-weaker IsPlain (λ b. b ≢ 13) not-return (9 ∷ parts.rest) tail)) in
     lines-line (record_text g r) more (subst HasNoFeed (sym parts.text_is) plain)
     ∙ ap (λ (l : List ℕ). l ∷ lines more) (subst (λ (t : List ℕ). strip_last 13 t ≡ t) (sym parts.text_is) kept)
 
@@ -408,11 +372,6 @@ rows-lines g w (r ∷ records) are =
     ∙ ap (λ (ls : List (List ℕ)). record_text g r ∷ ls) (rows-lines g w records (All-tail (IsBedRow g w) r records are))
 
 -- ---- the file of such rows
-
-read-width : (g : Sequences) (w : ℕ) (line : List ℕ) (r : RecordValue) → read g w line ≡ Ok r → w ≡ length (columns line)
-read-width g w line r reads =
-    let parts = or_fault-parts (find (has_fault g w (columns line)) faults) (feature g w (columns line)) r reads in
-    sym (same_count (length (columns line)) w (passed (has_fault g w (columns line)) faults parts.0).0)
 
 -- the next step, from what one more line gives
 step : (g : Sequences) (limit n : ℕ) (d : Draft) (line : List ℕ) (rest : List (List ℕ)) (r : Result Draft LoadCause) → after_record g limit d line ≡ r
@@ -442,7 +401,7 @@ module _ (g : Sequences) (limit w : ℕ) (low : 3 ≤ w) (high : w ≤ 6) where
   file-again empty [] are some room = absurd (omega arith)
   file-again empty (r ∷ records) are some room =
       let first = All-head (IsBedRow g w) r records are in
-      let wide : w ≡ length (columns (record_text g r)) = read-width g w (record_text g r) r (line-again g w first.of_line.0 r low high first.of_line.1) in
+      let wide : w ≡ length (columns (record_text g r)) = sym (count-sound g w (columns (record_text g r)) (read-parts g w (record_text g r) r (line-again g w first.of_line.0 r low high first.of_line.1)).0) in
       ap (λ (ls : List (List ℕ)). finished empty (after_records g limit 1 (record { width = None; records = [] }) ls)) (rows-lines g w (r ∷ records) are)
       ∙ ap (finished empty)
       (step g limit 1 (record { width = None; records = [] }) (record_text g r) (map (record_text g) records) (Ok (record { width = Some w; records = r ∷ [] }))
@@ -492,9 +451,9 @@ unread-same name xs ys =
 line-row : (g : Sequences) (w : ℕ) (line : List ℕ) (r : RecordValue) → 3 ≤ w → HasNoFeed line → is_skipped_line line ≡ false → read g w line ≡ Ok r → IsBedRow g w r
 line-row g w line r low plain unread reads =
     let cs : List (List ℕ) = columns line in
-    let parts = or_fault-parts (find (has_fault g w cs) faults) (feature g w cs) r reads in
+    let parts = read-parts g w line r reads in
     let free = passed (has_fault g w cs) faults parts.0 in
-    let many : length cs ≡ w = same_count (length cs) w free.0 in
+    let many : length cs ≡ w = count-sound g w cs parts.0 in
     let named : sequence_name g r.seq ≡ column cs 0 = name-at g (column cs 0) r.seq (read-ranked g w line r reads) in
     let whole = joined cs (omega arith) in
     let line_is : line ≡ sequence_name g r.seq ++ 9 ∷ whole.0 = sym (join_with_byte-slice_split 9 line) ∙ whole.1 ∙ ap (λ t. t ++ 9 ∷ whole.0) (sym named) in
@@ -552,25 +511,18 @@ module _ (g : Sequences) (limit : ℕ) where
       by (Ok more) was rest = rest more (known-line d more line (All-head HasNoFeed line ls plain) known was) (sym (step g limit n d line ls (Ok more) was) ∙ is)
       by (Err c) was rest = absurd (ok-err e (record { line = n; cause = c }) (sym is ∙ step g limit n d line ls (Err c) was))
 
--- all records that are in order, from all records
-all-ordered : (P : RecordValue → Type 0) (records : List RecordValue) → All P records → All P (ordered records)
-all-ordered P records all = All-from_recursion P (ordered records) (all-all_added record_cmp P records [] (recursion_from_All P records all) tt)
-
 -- the records of a file in order, printed and read again, are the same records
 pub bed-again : (g : Sequences) (empty limit : ℕ) (text : List ℕ) (b : Bed) → bed_of g empty limit text ≡ Ok b
     → bed_of g empty limit (records_text g (ordered b.records)) ≡ Ok (record { width = b.width; records = ordered b.records })
 bed-again g empty limit text b is = by (after_records g limit 1 (record { width = None; records = [] }) (lines text)) refl
   where
-    Goal : Bed → Type 0
-    Goal c = bed_of g empty limit (records_text g (ordered c.records)) ≡ Ok (record { width = c.width; records = ordered c.records })
-
     again : (o : Option ℕ) (records : List RecordValue) → MatchOption o (records ≡ []) (λ w. (3 ≤ w) × (w ≤ 6) × (0 < length records) × All (IsBedRow g w) records) → length records ≤ limit
         → bed_of g empty limit (records_text g (ordered records)) ≡ Ok (record { width = unwrap_or o empty; records = ordered records })
     again None records none few =
         subst (λ (l : List RecordValue). bed_of g empty limit (records_text g (ordered l)) ≡ Ok (record { width = empty; records = ordered l })) (sym none) refl
     again (Some w) records some few =
         let size : length (ordered records) ≡ length records = length-all_added record_cmp records [] ∙ omega arith in
-        file-again g limit w some.0 some.1 empty (ordered records) (all-ordered (IsBedRow g w) records some.3) (omega (arith, some.2)) (omega arith)
+        file-again g limit w some.0 some.1 empty (ordered records) (ordered-all (IsBedRow g w) records some.3) (omega (arith, some.2)) (omega arith)
 
     by : (x : Result Draft LoadFault) → after_records g limit 1 (record { width = None; records = [] }) (lines text) ≡ x → bed_of g empty limit (records_text g (ordered b.records)) ≡ Ok (record { width = b.width; records = ordered b.records })
     by (Err f) was = absurd (ok-err b f (sym is ∙ ap (finished empty) was))

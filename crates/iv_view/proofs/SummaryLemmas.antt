@@ -1,5 +1,5 @@
 -- Summaries that are asked for one after another.
-use Rattle.std.proofs.Common.{◌≡◌, ℕ, zero, suc, ◌+◌, ◌-◌, ◌<◌, ◌≤◌, List, [], ◌∷◌, ◌++◌, Option, Some, None, length, map, drop, replicate, get_or, set, refl, sym, ap, ap₂, ◌∙◌, arith, append_assoc, length-append}
+use Rattle.std.proofs.Common.{◌≡◌, ℕ, suc, ◌+◌, ◌-◌, ◌<◌, List, [], ◌∷◌, ◌++◌, Option, Some, None, length, map, drop, replicate, get_or, set, sym, ap, ap₂, ◌∙◌, arith, append_assoc, length-append, drop-cons, add-one}
 use Rattle.std.proofs.Math.Seq.{set-append_seam}
 use Rattle.std.specs.List.{zip}
 use Rattle.std.specs.Option.{option_map}
@@ -15,12 +15,7 @@ use Rattle.iv_view.proofs.ListLemmas.{with_rest, rest-more, rest-ends}
 
 -- the rest of a list begins with its next item
 drop-here : {A : Type 0} (i : ℕ) (xs : List A) (d : A) → i < length xs → drop i xs ≡ get_or xs i d ∷ drop (i + 1) xs
-drop-here i [] d h = absurd (omega arith)
-drop-here zero (x ∷ xs) d h = refl
-drop-here (suc i) (x ∷ xs) d h = drop-here i xs d (omega arith) ∙ ap (λ (n : ℕ). get_or xs i d ∷ drop n (x ∷ xs)) (on i)
-  where
-    on : (i : ℕ) → suc (i + 1) ≡ suc i + 1
-    on i = omega arith
+drop-here i xs d within = drop-cons xs i d within ∙ ap (λ (n : ℕ). get_or xs i d ∷ drop n xs) (sym (add-one i))
 
 pushed-filled : (done : List ColumnSummary) (s : ColumnSummary) → length done < 16 → pushed (filled done) s ≡ filled (done ++ s ∷ [])
 pushed-filled done s few =
@@ -68,9 +63,3 @@ module _ (width : ℕ) (columns : List ℕ) (ops : List Op) (place : ℕ) (now :
         ∙ ap (λ (l : List (ℕ × Op)). with_rest asked.done (all_some (map (summary_within width) l))) (sym next-is)
         ∙ asked.rest;
   }
-
-drop-all : {A : Type 0} (xs : List A) (n : ℕ) → length xs ≤ n → drop n xs ≡ []
-drop-all [] zero h = refl
-drop-all [] (suc n) h = refl
-drop-all (x ∷ xs) zero h = absurd (omega arith)
-drop-all (x ∷ xs) (suc n) h = drop-all xs n (omega arith)

@@ -2,13 +2,14 @@
 ghost use Rattle.std.specs.Prelude.{◌≡◌, ◌∷◌, [], codes, map};
 ghost use Rattle.std.specs.Option.{option_map};
 ghost use Rattle.std.specs.Str.{bytes_eq};
+ghost use Rattle.iv_pair.specs.declared.pair_rows.PairOutput.TheVariants.{Subtract};
 ghost use Rattle.iv_view.specs.Flags.{only_flag as flag_alone, beside_flag, genomecov_rows, intersect_said, fasta_said};
 ghost use Rattle.iv_view.specs.declared.view.KeptView.TheVariants.{Complement};
 
 use crate::view::KeptView;
 use iv_depth::DepthOutput;
 use iv_fasta::FastaOutput;
-use iv_pair::IntersectOutput;
+use iv_pair::{IntersectOutput, PairOutput};
 
 /// The view that the arguments after `complement` ask for: with `-L` only sequences with a record are shown.
 pub(crate) fn read_complement(arguments: &[&[u8]]) -> Option<KeptView>
@@ -86,11 +87,12 @@ fn intersect_rows_of(option: &[u8], whole: bool) -> Option<IntersectOutput>
     }
 }
 
-/// Whether the arguments after `subtract` ask that only whole records be taken: `-A`, or nothing.
-pub(crate) fn read_subtract(arguments: &[&[u8]]) -> Option<bool>
-    ensures { result ≡ flag_alone (codes "-A") (map (λ argument. argument.now) arguments.now) }
+/// The rows that the arguments after `subtract` ask for: with `-A` only whole records are taken away.
+pub(crate) fn read_subtract(arguments: &[&[u8]]) -> Option<PairOutput>
+    ensures { result ≡ option_map Subtract (flag_alone (codes "-A") (map (λ argument. argument.now) arguments.now)) }
 {
-    only_flag(b"-A", arguments)
+    let whole = only_flag(b"-A", arguments)?;
+    Some(PairOutput::Subtract { whole })
 }
 
 /// Whether the arguments are this flag alone, or nothing.

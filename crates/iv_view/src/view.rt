@@ -101,7 +101,7 @@ impl View {
                 read_intersect(options).map(PairOutput::Intersect),
             )
         } else if *argument == b"subtract".as_slice() {
-            beside_second(EVERYTHING, read_subtract(options).map(PairOutput::Subtract))
+            beside_second(EVERYTHING, read_subtract(options))
         } else if *argument == b"getfasta".as_slice() {
             beside_fasta(EVERYTHING, read_getfasta(options))
         } else if *argument == b"records".as_slice() && options.is_empty() {

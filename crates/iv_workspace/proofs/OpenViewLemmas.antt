@@ -8,6 +8,7 @@ use Rattle.std.specs.Str.{bytes_eq}
 use Rattle.std.proofs.lemmas.List.{length-append, map-append}
 use Rattle.iv_lines.proofs.NamedLemmas.{set_value_at}
 use Rattle.iv_lines.specs.RecordValue.{RecordValue}
+use Rattle.iv_lines.proofs.FieldLemmas.{empty-is}
 use Rattle.iv_view.specs.KeptStates.{repair_steps_of}
 use Rattle.iv_view.specs.declared.view.View.{View}
 use Rattle.iv_workspace.specs.Inside.ViewStates.{all_seen, seen}
@@ -92,14 +93,10 @@ written-at {V} (e ∷ es) (suc index) v w found =
 -- all entries are done
 pub midway-end : {V : Type 0} (Done : List (List ℕ × V) → List (List ℕ × V) → Type 0) (old now : List (List ℕ × V)) (index : ℕ) → Midway Done old now index → length now ≤ index → Done old now
 midway-end {V} Done old now index mid past =
-    let none : mid.rest ≡ [] = nil_of mid.rest (omega (arith, mid.done_is, past, ap length mid.now_is, length-append mid.done mid.rest)) in
+    let none : mid.rest ≡ [] = empty-is mid.rest (omega (arith, mid.done_is, past, ap length mid.now_is, length-append mid.done mid.rest)) in
     let old_is : old ≡ mid.front = mid.old_is ∙ ap (λ (l : List (List ℕ × V)). mid.front ++ l) none ∙ append-nil mid.front in
     let now_is : now ≡ mid.done = mid.now_is ∙ ap (λ (l : List (List ℕ × V)). mid.done ++ l) none ∙ append-nil mid.done in
     subst (λ (l : List (List ℕ × V)). Done l now) (sym old_is) (subst (λ (l : List (List ℕ × V)). Done mid.front l) (sym now_is) mid.does)
-  where
-    nil_of : (xs : List (List ℕ × V)) → length xs ≡ 0 → xs ≡ []
-    nil_of [] e = refl
-    nil_of (x ∷ xs) e = absurd (omega arith)
 
 -- ---- views that become stale
 

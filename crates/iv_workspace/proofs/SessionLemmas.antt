@@ -5,12 +5,10 @@ use Rattle.std.specs.Option.{is_some}
 use Rattle.std.proofs.lemmas.Bool.{lt-leb}
 use Rattle.iv_lines.specs.Genome.{Sequences}
 use Rattle.iv_text.specs.BedFile.{Bed}
-use Rattle.iv_lines.specs.Ordered.{ordered}
 use Rattle.iv_lines.specs.Read.{Fits}
-use Rattle.iv_lines.specs.RecordValue.{RecordValue, record_cmp}
+use Rattle.iv_lines.specs.RecordValue.{RecordValue}
+use Rattle.iv_lines.proofs.OrderedLemmas.{ordered-all}
 use Rattle.iv_pair.proofs.LengthLemmas.{few-ordered}
-use Rattle.iv_lines.proofs.OrderedLemmas.{all-all_added}
-use Rattle.std.proofs.lemmas.List.Elements.{All-from_recursion, recursion_from_All}
 use Rattle.iv_track.specs.Tracked.{Tracked}
 use Rattle.iv_view.specs.declared.kept_state.StateKey.{StateKey}
 use Rattle.iv_view.specs.declared.view.View.{View}
@@ -131,7 +129,7 @@ track-of_file g file limit known fit few =
     record {
       low = known.0;
       high = known.1;
-      fit = All-from_recursion F (ordered file.records) (all-all_added record_cmp F file.records [] (recursion_from_All F file.records fit) tt);
+      fit = ordered-all F file.records fit;
       few = few-ordered file.records limit few;
     }
 

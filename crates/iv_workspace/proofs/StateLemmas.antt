@@ -8,6 +8,7 @@ use Rattle.std.specs.Map.{keys_of, values_of, lookup, remove_entry}
 use Rattle.std.specs.Str.{bytes_eq}
 use Rattle.std.proofs.lemmas.List.{map-append}
 use Rattle.std.proofs.lemmas.List.Quantifiers.{position-Some}
+use Rattle.std.proofs.lemmas.Bool.{and_parts}
 use Rattle.iv_lines.proofs.NamedLemmas.{set_value_at, unnamed}
 use Rattle.iv_lines.specs.Named.{name_index}
 use Rattle.iv_lines.specs.RecordValue.{RecordValue}
@@ -88,11 +89,6 @@ steps-append : (xs ys : List (List ℕ × Shown)) (records : List RecordValue) (
 steps-append [] ys records r = omega arith
 steps-append (x ∷ xs) ys records r = omega (arith, steps-append xs ys records r)
 
-both-true : (a b : Bool) → a && b ≡ true → (a ≡ true) × (b ≡ true)
-both-true true true e = (refl, refl)
-both-true true false e = absurd (cc (e))
-both-true false b e = absurd (cc (e))
-
 module _ {A : Type 0} (names : List (List ℕ)) (records with_r : List RecordValue) (r : RecordValue) where
   pub repaired-none : (before : ℕ) → AreRepaired {A = A} names records with_r r true [] [] before before
   repaired-none before = record { unless = λ e. (refl, refl); stales = tt; right = tt; steps = record { no_less = omega arith; at_most = omega arith } }
@@ -108,7 +104,7 @@ module _ {A : Type 0} (names : List (List ℕ)) (records with_r : List RecordVal
       ap (λ (l : List (List ℕ × Shown)). all_steps l with_r r) seen_old ∙ steps-append (all_seen old) ((n, seen v) ∷ []) with_r r in
       record {
         unless = λ e.
-            let both = both-true kept also e in
+            let both = and_parts kept also e in
             let before = all.unless both.0 in
             let here = one.unless both.1 in
             let shown : seen w ≡ seen v = ap₂ (λ (x : View) (b : Bool). record { view = x; stale = b }) one.same here.0 in (

@@ -52,17 +52,10 @@ named-within part inside s name old mid new v view same found is steps within =
 
 none-taken : (part : Option Region) (v : View) (g : Sequences) (records : List RecordValue) (n : ℕ) → ViewPrintsWithin part v g records n n
 none-taken None (view.Kept (kept.Merge options)) g records n = record { no_less = omega arith; at_most = omega arith }
-none-taken None (view.Kept (kept.Cluster distance)) g records n = record { no_less = omega arith; at_most = omega arith }
-none-taken None (view.Kept (kept.Complement limited)) g records n = record { no_less = omega arith; at_most = omega arith }
-none-taken None (view.Kept (kept.Genomecov shown)) g records n = record { no_less = omega arith; at_most = omega arith }
 none-taken None (view.Written (written.Paired shown)) g records n = tt
 none-taken None (view.Written (written.Getfasta shown)) g records n = tt
-none-taken None (view.Written written.Records) g records n = record { no_less = omega arith; at_most = omega arith }
 none-taken (Some at) (view.Kept (kept.Merge options)) g records n = record { no_less = omega arith; at_most = omega arith }
-none-taken (Some at) (view.Kept (kept.Cluster distance)) g records n = record { no_less = omega arith; at_most = omega arith }
-none-taken (Some at) (view.Kept (kept.Complement limited)) g records n = record { no_less = omega arith; at_most = omega arith }
-none-taken (Some at) (view.Kept (kept.Genomecov shown)) g records n = record { no_less = omega arith; at_most = omega arith }
-none-taken (Some at) (view.Written v) g records n = record { no_less = omega arith; at_most = omega arith }
+none-taken part v g records n = record { no_less = omega arith; at_most = omega arith }
 
 -- a print that ends before them takes nothing for these
 pub nothing-taken : (part : Option Region) (views : List (List ℕ × Shown)) (g : Sequences) (records : List RecordValue) (n : ℕ) → AllPrintWithin part views g records n n

@@ -96,19 +96,6 @@ impl<A: Allocator + Copy> Views<A> {
         self.views.at(index)
     }
 
-    /// How many views are stale.
-    pub(crate) fn stale(&self) -> u32
-        ensures { result ≡ stale_count (all_seen self.now) }
-    {
-        let mut count = 0;
-        for index in 0..self.views.len() {
-            if self.views[index].stale {
-                count += 1;
-            }
-        }
-        count
-    }
-
     /// Opens a view, the last, of a track as it is. Its state is built, unless another view has it. An error changes nothing.
     pub(crate) fn open(
         &mut self,

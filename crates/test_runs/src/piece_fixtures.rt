@@ -63,12 +63,15 @@ pub(crate) fn run_over<A: Allocator + Copy, S: Source>(
     let Some(view) = IntervalsView::of_plan(plan) else {
         return Err(Fail::new("a view of more than places"));
     };
-    let on = RunGenome::begin(alloc, plan, setting.sizes, setting.records);
-    let first: Result<HeldRecords<Span, A>, FileFault> = on.read(source, u64::from(setting.bytes));
+    let run_genome = RunGenome::begin(alloc, plan, setting.sizes, setting.records);
+    let first: Result<HeldRecords<Span, A>, FileFault> = run_genome.read(
+        source,
+        u64::from(setting.bytes),
+    );
     match first {
         Ok(first) => {
             let files = RunFiles {
-                on,
+                run_genome,
                 first,
                 second: None,
                 fasta: None,

@@ -30,33 +30,33 @@ pub(crate) const WHOLE: Pieces = Pieces {
 
 /// What is held of a file that comes so.
 fn read_pieces<A: Allocator + Copy>(
-    on: &RunGenome<A>,
+    run_genome: &RunGenome<A>,
     text: &[u8],
     pieces: Pieces,
 ) -> Result<HeldRecords<Record<A>, A>, FileFault>
-    ensures { IfOk result (IsOn (λ r. r) on.now.genome on.now.limit) }
+    ensures { IfOk result (IsOn (λ r. r) run_genome.now.genome run_genome.now.limit) }
 {
     let mut source = MemSource::new(text, pieces.good, pieces.piece.max(1));
-    on.read(&mut source, u64::from(pieces.most))
+    run_genome.read(&mut source, u64::from(pieces.most))
 }
 
 /// What is held of the second file, if there is one.
 fn read_second<A: Allocator + Copy>(
-    on: &RunGenome<A>,
+    run_genome: &RunGenome<A>,
     text: Option<&[u8]>,
     pieces: Pieces,
 ) -> Result<Option<HeldRecords<Record<A>, A>>, FileFault>
-    ensures { IfOk result (λ held. IfSome held (IsOn (λ r. r) on.now.genome on.now.limit)) }
+    ensures { IfOk result (λ held. IfSome held (IsOn (λ r. r) run_genome.now.genome run_genome.now.limit)) }
 {
     match text {
-        Some(text) => Ok(Some(read_pieces(on, text, pieces)?)),
+        Some(text) => Ok(Some(read_pieces(run_genome, text, pieces)?)),
         None => Ok(None),
     }
 }
 
 /// What is held of the FASTA file, if there is one. It comes in pieces of three bytes.
 fn read_fasta<A: Allocator + Copy>(
-    on: &RunGenome<A>,
+    run_genome: &RunGenome<A>,
     first: &HeldRecords<Record<A>, A>,
     text: Option<Vec<u8, A>>,
 ) -> Result<Option<HeldFasta<A>>, FileFault> {
@@ -64,7 +64,7 @@ fn read_fasta<A: Allocator + Copy>(
         return Ok(None);
     };
     let mut source = MemSource::new(text.as_slice(), WHOLE.good, WHOLE.piece);
-    Ok(Some(on.read_fasta(first, &mut source, u64::from(WHOLE.most))?))
+    Ok(Some(run_genome.read_fasta(first, &mut source, u64::from(WHOLE.most))?))
 }
 
 /// The session of a plan's files, of which the first one and the second one come in pieces.
@@ -78,12 +78,12 @@ pub(crate) fn load_in_pieces<A: Allocator + Copy>(
 ) -> Result<Result<Session<A>, CliFault>, FileFault>
     requires { limit ≤ 4000000 }
 {
-    let on = RunGenome::begin(alloc, plan, inputs.sizes, limit);
-    let first = read_pieces(&on, inputs.first, pieces[0])?;
-    let second = read_second(&on, inputs.other, pieces[1])?;
-    let fasta = read_fasta(&on, &first, bases)?;
+    let run_genome = RunGenome::begin(alloc, plan, inputs.sizes, limit);
+    let first = read_pieces(&run_genome, inputs.first, pieces[0])?;
+    let second = read_second(&run_genome, inputs.other, pieces[1])?;
+    let fasta = read_fasta(&run_genome, &first, bases)?;
     Ok(begin_session(RunFiles {
-        on,
+        run_genome,
         first,
         second,
         fasta,

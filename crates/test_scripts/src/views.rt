@@ -69,8 +69,8 @@ fn words_of_written_views(rt: HostRuntime) {
             &[b"intersect", b"-c", b"-wa"],
             PairOutput::Intersect(IntersectOutput::Count),
         ),
-        (&[b"subtract"], PairOutput::Subtract(false)),
-        (&[b"subtract", b"-A"], PairOutput::Subtract(true)),
+        (&[b"subtract"], PairOutput::Subtract { whole: false }),
+        (&[b"subtract", b"-A"], PairOutput::Subtract { whole: true }),
     ] {
         let want = ViewWords::Written(WrittenView::Paired(want));
         assert!(rt; view_of(&rt, words) == Ok(want));

@@ -106,5 +106,10 @@ fn counts_beside_many_records_at_one_position(rt: HostRuntime) -> Result<(), Fai
 #[test]
 fn parts_beside_many_records_at_one_position(rt: HostRuntime) -> Result<(), Fail> {
     let want = uncovered(&rt)?;
-    check(&rt, PairOutput::Subtract(false), 1, want.as_bytes())
+    check(
+        &rt,
+        PairOutput::Subtract { whole: false },
+        1,
+        want.as_bytes(),
+    )
 }

@@ -38,8 +38,8 @@ const ROWS: &[(PairOutput, &[u8])] = &[
         PairOutput::Intersect(IntersectOutput::Count),
         b"chr1\t10\t20\t3\n",
     ),
-    (PairOutput::Subtract(false), b"chr1\t12\t15\n"),
-    (PairOutput::Subtract(true), b""),
+    (PairOutput::Subtract { whole: false }, b"chr1\t12\t15\n"),
+    (PairOutput::Subtract { whole: true }, b""),
 ];
 
 /// Puts rows of that record.
@@ -53,7 +53,7 @@ fn put(
     let hits = second.hits(0, 10, 20);
     match shown {
         PairOutput::Intersect(shown) => put_intersect(shown, genome, feature, hits, sink),
-        PairOutput::Subtract(whole) => put_subtract(whole, genome, feature, hits, sink),
+        PairOutput::Subtract { whole } => put_subtract(whole, genome, feature, hits, sink),
     }
 }
 

@@ -24,7 +24,7 @@ mod long_ledgers;
 #[cfg(test)]
 mod many_places;
 #[cfg(test)]
-mod nearly;
+mod neighbors;
 #[cfg(test)]
 mod parse_refusals;
 #[cfg(test)]

@@ -3,6 +3,7 @@ use crate::fixtures::holds;
 use iv_lines::{BedRecord, Genome, LoadCause, LoadFault, RecordFault, Strand};
 use iv_locators::{BedText, TextRecord, TextRecords};
 use std::alloc::Allocator;
+use std::borrow::CowSlice;
 use std::mem::size_of;
 use std::test::Fail;
 
@@ -19,7 +20,7 @@ pub(crate) fn bed_text<'t, A: Allocator + Copy>(
     if text.len() >= 4_294_967_296 {
         return Err(LoadFault::at(1, LoadCause::TooMany));
     }
-    BedText::parse(alloc, genome, 5, limit, text)
+    BedText::parse(alloc, genome, 5, limit, CowSlice::Borrowed(text))
 }
 
 /// What a text has: its width, how many records it has and where the last one is, or the fault.

@@ -18,7 +18,7 @@ ahead_of (Some b) entries = b ∷ map interval_of entries
 
 -- the block starts at this position of the sequence of this rank, or before it
 abbrev pub starts_until : ℕ → ℕ → Block → Bool
-starts_until rank position b = nat_lt b.sequence rank || ((b.sequence == rank) && nat_le b.start position)
+starts_until seq position b = nat_lt b.sequence seq || ((b.sequence == seq) && nat_le b.start position)
 
 -- the first block, if there is one, doesn't pass the test
 abbrev pub BeginsElse : (Block → Bool) → List Block → Type 0
@@ -50,11 +50,11 @@ gaps_between shown from to (b ∷ blocks) = gap_between from b.start ++ gaps_bet
 
 -- the rows of the gaps of one sequence, with these blocks on it
 abbrev pub sequence_text : Bool → Sequences → ℕ → List Block → List ℕ
-sequence_text wanted g rank blocks = flat_map (gap_row (sequence_name g rank)) (gaps_between wanted 0 (sequence_length g rank) blocks)
+sequence_text wanted g seq blocks = flat_map (gap_row (sequence_name g seq)) (gaps_between wanted 0 (sequence_length g seq) blocks)
 
 -- the rows of the gaps of so many sequences from this rank on, with the blocks that remain
 unfoldable pub texts : Bool → Sequences → ℕ → ℕ → List Block → List ℕ
-texts wanted g rank zero blocks = []
-texts wanted g rank (suc n) blocks =
-    sequence_text wanted g rank (take_while (starts_until rank (sequence_length g rank)) blocks)
-    ++ texts wanted g (rank + 1) n (drop_while (starts_until rank (sequence_length g rank)) blocks)
+texts wanted g seq zero blocks = []
+texts wanted g seq (suc n) blocks =
+    sequence_text wanted g seq (take_while (starts_until seq (sequence_length g seq)) blocks)
+    ++ texts wanted g (seq + 1) n (drop_while (starts_until seq (sequence_length g seq)) blocks)

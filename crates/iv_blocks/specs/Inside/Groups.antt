@@ -28,7 +28,7 @@ is_on s r = is_on_side (is_apart s) (is_minus s) r
 
 -- the record is on the sequence of this rank, and on this side
 abbrev pub is_in_group : Bool → ℕ → Bool → RecordValue → Bool
-is_in_group stranded rank minus r = (r.seq == rank) && is_on_side stranded minus r
+is_in_group stranded seq minus r = (r.seq == seq) && is_on_side stranded minus r
 
 -- the record starts at `from` or after, and below `to`
 abbrev pub starts_between : ℕ → ℕ → RecordValue → Bool
@@ -40,11 +40,11 @@ between from to records = filter (starts_between from to) records
 
 -- those of them on the sequence of this rank, of any strand
 abbrev pub between_on : ℕ → ℕ → ℕ → List RecordValue → List RecordValue
-between_on rank from to records = filter (λ r. (r.seq == rank) && starts_between from to r) records
+between_on seq from to records = filter (λ r. (r.seq == seq) && starts_between from to r) records
 
 -- those of them in the group
 abbrev pub members_between : Group → ℕ → ℕ → List RecordValue → List RecordValue
-members_between g from to records = filter (λ r. is_in_group (is_apart g.side) g.rank (is_minus g.side) r && starts_between from to r) records
+members_between g from to records = filter (λ r. is_in_group (is_apart g.side) g.seq (is_minus g.side) r && starts_between from to r) records
 
 -- an entry that holds no summary
 abbrev pub unused : ColumnSummary

@@ -12,17 +12,17 @@ use Rattle.iv_blocks.specs.declared.group.Group.{Group}
 
 -- the key of a group's block that starts at x
 abbrev pub key_of : Group → ℕ → Key
-key_of g x = (g.rank, is_minus g.side, x)
+key_of g x = (g.seq, is_minus g.side, x)
 
 -- the key is of another group
 abbrev pub IsOfOther : Group → Key → Type 0
-IsOfOther g k = (k.0 ≢ g.rank) ⊎ (k.1 ≢ is_minus g.side)
+IsOfOther g k = (k.0 ≢ g.seq) ⊎ (k.1 ≢ is_minus g.side)
 
 -- what is kept, with a group's block from start to stop inserted over what was there
 abbrev pub with_block : KeptBlocks → Sequences → List RecordValue → Group → ℕ → ℕ → KeptBlocks
 with_block kept genome records g start stop = record kept {
   entries = insert_entry key_cmp kept.entries (key_of g start)
-      (kept_block (sequence_name genome g.rank) (listed kept.options.summaries) (stop, members_between g start stop records));
+      (kept_block (sequence_name genome g.seq) (listed kept.options.summaries) (stop, members_between g start stop records));
 }
 
 -- the blocks of a group's records are inserted over what was there, and nothing else is changed
@@ -33,8 +33,8 @@ pub record AreInserted (g : Group) (names : List (List ℕ)) (records : List Rec
   pub others : (k : Key) → IsOfOther g k → value_at key_cmp new.entries k ≡ value_at key_cmp old.entries k
 
 -- the blocks of the records on one sequence, of both sides, are inserted over what was there, and nothing else is changed
-pub record AreInsertedOn (rank : ℕ) (names : List (List ℕ)) (records : List RecordValue) (old new : KeptBlocks) : Type 0 where
+pub record AreInsertedOn (seq : ℕ) (names : List (List ℕ)) (records : List RecordValue) (old new : KeptBlocks) : Type 0 where
   pub options : new.options ≡ old.options
   pub ordered : IsLedger key_cmp new.entries
-  pub here : (minus : Bool) (x : ℕ) → value_at key_cmp new.entries (rank, minus, x) ≡ option_or (kept_at old.options names records (rank, minus, x)) (value_at key_cmp old.entries (rank, minus, x))
-  pub others : (k : Key) → k.0 ≢ rank → value_at key_cmp new.entries k ≡ value_at key_cmp old.entries k
+  pub here : (minus : Bool) (x : ℕ) → value_at key_cmp new.entries (seq, minus, x) ≡ option_or (kept_at old.options names records (seq, minus, x)) (value_at key_cmp old.entries (seq, minus, x))
+  pub others : (k : Key) → k.0 ≢ seq → value_at key_cmp new.entries k ≡ value_at key_cmp old.entries k

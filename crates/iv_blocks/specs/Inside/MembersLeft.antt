@@ -10,9 +10,9 @@ pub record MembersLeft : Type 0 where
   pub passed_records : ℕ
 
 -- the records that a walk has left are in order, and none is on a sequence before this one
-pub record IsAhead (rank : ℕ) (records : List RecordValue) : Type 0 where
+pub record IsAhead (seq : ℕ) (records : List RecordValue) : Type 0 where
   pub ordered : AreInOrder records
-  pub ranks : AllByRecursion (λ r. rank ≤ r.seq) records
+  pub ranks : AllByRecursion (λ r. seq ≤ r.seq) records
 
 -- a call that gives none takes one step more, to find the end
 abbrev pub end_step : {A : Type 0} → Option A → ℕ

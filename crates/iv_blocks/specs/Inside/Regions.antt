@@ -16,7 +16,7 @@ pub record ReachesFrom (look : ℕ → Option Kept) (position low : ℕ) : Type 
 
 -- what is kept of the block of a sequence that starts at x, if there is one and strands are together
 abbrev pub kept_on : Entries → ℕ → ℕ → Option Kept
-kept_on entries rank x = value_at key_cmp entries (rank, false, x)
+kept_on entries seq x = value_at key_cmp entries (seq, false, x)
 
 -- a gap may begin at `low`: a block stops there, or it is the start of the sequence and no block starts there
 abbrev pub BeginsGap : (ℕ → Option Kept) → ℕ → Type 0
@@ -24,7 +24,7 @@ BeginsGap look low = ((low ≡ 0) × (look 0 ≡ None)) ⊎ ((x : ℕ) × (b : K
 
 -- the gaps from `low` on that share a position with the region; none if the sequence isn't shown
 abbrev pub gaps_from : Bool → Sequences → List RecordValue → ℕ → ℕ → ℕ → ℕ → List Run
-gaps_from limited g records rank start stop low =
-    if is_shown limited records rank
-    then filter (λ gap. shares start stop gap.start gap.stop) (empty_runs (depth records rank) low (sequence_length g rank))
+gaps_from limited g records seq start stop low =
+    if is_shown limited records seq
+    then filter (λ gap. shares start stop gap.start gap.stop) (empty_runs (depth records seq) low (sequence_length g seq))
     else []

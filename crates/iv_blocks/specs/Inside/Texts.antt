@@ -13,16 +13,16 @@ use Rattle.iv_blocks.specs.declared.options.BlockOptions.{BlockOptions}
 
 -- the rows of the blocks of one side of a sequence
 abbrev pub side_rows : BlockOptions → Sequences → List RecordValue → ℕ → Bool → List ℕ
-side_rows o g records rank minus = flat_map (block_row (sequence_name g rank) (listed o.summaries)) (side_blocks o g records rank minus)
+side_rows o g records seq minus = flat_map (block_row (sequence_name g seq) (listed o.summaries)) (side_blocks o g records seq minus)
 
 -- all rows of a merge: those of each sequence by rank, and within it of each side
 abbrev pub merge_text : BlockOptions → Sequences → List RecordValue → List ℕ
-merge_text o g records = flat_map (λ rank. flat_map (side_rows o g records rank) (sides o.stranded)) (range_with_len 0 (seq_count g))
+merge_text o g records = flat_map (λ seq. flat_map (side_rows o g records seq) (sides o.stranded)) (range_with_len 0 (seq_count g))
 
 -- those of the blocks that share a position with a region
 abbrev pub merge_text_in : BlockOptions → Sequences → List RecordValue → ℕ → ℕ → ℕ → List ℕ
-merge_text_in o g records rank start stop =
-    flat_map (λ minus. flat_map (block_row (sequence_name g rank) (listed o.summaries)) (side_blocks_in o g records rank start stop minus)) (sides o.stranded)
+merge_text_in o g records seq start stop =
+    flat_map (λ minus. flat_map (block_row (sequence_name g seq) (listed o.summaries)) (side_blocks_in o g records seq start stop minus)) (sides o.stranded)
 
 -- the number of a record's block, from 1: how many blocks there are up to its own
 abbrev pub block_number : ℕ → Sequences → List RecordValue → RecordValue → ℕ
@@ -34,11 +34,11 @@ cluster_text d g records = flat_map (cluster_row d g records) records
 
 -- those of the records that share a position with a region, with the numbers that they have among all
 abbrev pub cluster_text_in : ℕ → Sequences → List RecordValue → ℕ → ℕ → ℕ → List ℕ
-cluster_text_in d g records rank start stop = flat_map (cluster_row d g records) (hits records rank start stop)
+cluster_text_in d g records seq start stop = flat_map (cluster_row d g records) (hits records seq start stop)
 
 -- the sequence of this rank is shown: each is, or if only some are, those with a record
 abbrev pub is_shown : Bool → List RecordValue → ℕ → Bool
-is_shown limited records rank = not limited || list_any (λ r. r.seq == rank) records
+is_shown limited records seq = not limited || list_any (λ r. r.seq == seq) records
 
 -- all rows of a complement: those of each sequence, by rank
 abbrev pub complement_text : Bool → Sequences → List RecordValue → List ℕ
@@ -46,4 +46,4 @@ complement_text limited g records = flat_map (gap_rows None limited g records) (
 
 -- those of the gaps that share a position with a region
 abbrev pub complement_text_in : Bool → Sequences → List RecordValue → ℕ → ℕ → ℕ → List ℕ
-complement_text_in limited g records rank start stop = flat_map (gap_row (sequence_name g rank)) (gaps_in limited g records rank start stop)
+complement_text_in limited g records seq start stop = flat_map (gap_row (sequence_name g seq)) (gaps_in limited g records seq start stop)

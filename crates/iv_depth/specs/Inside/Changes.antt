@@ -23,4 +23,4 @@ pub record Bumps (old new : Entries) (key : ChangeKey) (by : ℤ) : Type 0 where
 pub record Shifts (r : RecordValue) (by : ℤ) (old new : Entries) : Type 0 where
   pub ordered : IsLedger pair_cmp new
   pub changes : All (λ z. z ≢ pos 0) (values_of old) → All (λ z. z ≢ pos 0) (values_of new)
-  pub sums : (rank p : ℕ) → total (reaches rank p) new ≡ total (reaches rank p) old +ℤ (if covers rank p r then by else pos 0)
+  pub sums : (seq p : ℕ) → total (reaches seq p) new ≡ total (reaches seq p) old +ℤ (if covers seq p r then by else pos 0)

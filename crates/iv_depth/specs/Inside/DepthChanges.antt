@@ -17,9 +17,9 @@ pub record IsChange (f : ℕ → ℕ) (from length d : ℕ) (c : ℕ × ℤ) : T
 -- a call gave the next change on the sequence of this rank, or there is none
 abbrev pub Gives : {T : Type 0} → (T → Sequences → (ℕ → ℕ → ℕ) → ℕ → ℕ → ℕ → Type 0) → (T → Sequences → (ℕ → ℕ → ℕ) → ℕ → Type 0)
     → ℕ → T → Option (ℕ × ℤ) → T → Type 0
-Gives are_of are_past rank old (Some c) new =
-    (g : Sequences) (f : ℕ → ℕ → ℕ) (from d : ℕ) → are_of old g f rank from d
-    → IsChange (f rank) from (sequence_length g rank) d c × are_of new g f rank c.0 (f rank c.0)
-Gives are_of are_past rank old None new =
-    (g : Sequences) (f : ℕ → ℕ → ℕ) (from d : ℕ) → are_of old g f rank from d
-    → ((q : ℕ) → from ≤ q → f rank q ≡ d) × are_past new g f (rank + 1)
+Gives are_of are_past seq old (Some c) new =
+    (g : Sequences) (f : ℕ → ℕ → ℕ) (from d : ℕ) → are_of old g f seq from d
+    → IsChange (f seq) from (sequence_length g seq) d c × are_of new g f seq c.0 (f seq c.0)
+Gives are_of are_past seq old None new =
+    (g : Sequences) (f : ℕ → ℕ → ℕ) (from d : ℕ) → are_of old g f seq from d
+    → ((q : ℕ) → from ≤ q → f seq q ≡ d) × are_past new g f (seq + 1)

@@ -18,7 +18,7 @@ rows_between EachPosition name f from to = flat_map (λ p. position_row name p (
 
 -- the rows of a sequence, of a depth by rank and position
 abbrev pub sequence_text : DepthOutput → Sequences → (ℕ → ℕ → ℕ) → ℕ → List ℕ
-sequence_text output g f rank = rows_between output (sequence_name g rank) (f rank) 0 (sequence_length g rank)
+sequence_text output g f seq = rows_between output (sequence_name g seq) (f seq) 0 (sequence_length g seq)
 
 -- all rows: those of each sequence, by rank
 abbrev pub text_by : DepthOutput → Sequences → (ℕ → ℕ → ℕ) → List ℕ
@@ -36,4 +36,4 @@ rows_in EachPosition name f length start stop = flat_map (λ p. position_row nam
 
 -- those of the records' depth
 abbrev pub depth_text_in : DepthOutput → Sequences → List RecordValue → ℕ → ℕ → ℕ → List ℕ
-depth_text_in output g records rank start stop = rows_in output (sequence_name g rank) (depth records rank) (sequence_length g rank) start stop
+depth_text_in output g records seq start stop = rows_in output (sequence_name g seq) (depth records seq) (sequence_length g seq) start stop

@@ -14,12 +14,12 @@ ahead_of (Some e) entries = e ∷ entries
 
 -- the depth to which changes sum up to p
 abbrev pub depth_by : Entries → ℕ → ℕ → ℕ
-depth_by entries rank p = unsigned_abs (total (reaches rank p) entries)
+depth_by entries seq p = unsigned_abs (total (reaches seq p) entries)
 
 -- the entries of one sequence, as positions and changes
 abbrev pub on : ℕ → Entries → List (ℕ × ℤ)
-on rank [] = []
-on rank (e ∷ entries) = if e.0.0 == rank then (e.0.1, e.1) ∷ on rank entries else on rank entries
+on seq [] = []
+on seq (e ∷ entries) = if e.0.0 == seq then (e.0.1, e.1) ∷ on seq entries else on seq entries
 
 -- the sum of the changes at p and before
 abbrev pub level : List (ℕ × ℤ) → ℕ → ℤ
@@ -37,12 +37,12 @@ Follows f from value breaks = (p : ℕ) → from ≤ p → value +ℤ level brea
 
 -- the entries are the changes of the depth f by rank and position, which is 0 from the end of each sequence on: from this position of
 -- the sequence of this rank on, up to which the depth is d
-pub record AreAhead (g : Sequences) (f : ℕ → ℕ → ℕ) (rank from d : ℕ) (entries : Entries) : Type 0 where
+pub record AreAhead (g : Sequences) (f : ℕ → ℕ → ℕ) (seq from d : ℕ) (entries : Entries) : Type 0 where
   pub ordered : IsLedger pair_cmp entries
   pub changes : All (λ z. z ≢ pos 0) (values_of entries)
-  pub ranks : AllByRecursion (λ e. rank ≤ e.0.0) entries
-  pub breaks : AreBreaks from (sequence_length g rank) (on rank entries)
-  pub follows : Follows (f rank) from (pos d) (on rank entries)
-  pub later : (other p : ℕ) → rank < other → total (reaches other p) entries ≡ pos (f other p)
+  pub ranks : AllByRecursion (λ e. seq ≤ e.0.0) entries
+  pub breaks : AreBreaks from (sequence_length g seq) (on seq entries)
+  pub follows : Follows (f seq) from (pos d) (on seq entries)
+  pub later : (other p : ℕ) → seq < other → total (reaches other p) entries ≡ pos (f other p)
   pub small : (other p : ℕ) → f other p < 2 ^ 32
   pub ends : (other p : ℕ) → sequence_length g other ≤ p → f other p ≡ 0

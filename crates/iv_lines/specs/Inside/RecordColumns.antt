@@ -9,7 +9,7 @@ use Rattle.iv_lines.specs.declared.record_columns.RecordColumns.TheVariants.{Emp
 -- the record of these columns; its name and its score are a pair
 abbrev pub record_of : StrandAndWidth → Interval → List ℕ × List ℕ → RecordValue
 record_of beside interval texts = record {
-  seq = interval.rank;
+  seq = interval.seq;
   start = interval.start;
   stop = interval.stop;
   name = texts.0;

@@ -1,5 +1,5 @@
 -- Files that are not read to their end.
-use Rattle.std.specs.Prelude.{◌≡◌, ◌<◌, ◌⊎◌, ◌++◌, ℕ, List, Bool, true, false, IfSome, Some, length}
+use Rattle.std.specs.Prelude.{◌≡◌, ◌<◌, ◌⊎◌, ◌++◌, ℕ, List, Bool, true, false, Option, IfSome, Some, length}
 use Rattle.std.specs.List.{All}
 use Rattle.std.specs.Option.{option_to_list}
 use Rattle.iv_args.specs.Arguments.{RunPlan, file_of}
@@ -11,7 +11,7 @@ use Rattle.iv_cli.specs.declared.exit_reason.ExitReason.{ExitReason}
 use Rattle.iv_cli.specs.declared.exit_reason.ExitReason.TheVariants as exit_reason
 use Rattle.iv_program.specs.Files.{FilesState, IsText, after_one, after_reading}
 use Rattle.iv_program.specs.Limits.{most_file_bytes}
-use Rattle.iv_program.specs.Texts.{names_before}
+use Rattle.iv_program.specs.Texts.{IsTextIfNamed, names_before}
 
 -- why the file of this name was not read to its end, and the files afterwards: just this one was opened and closed, and it failed; or it
 -- has too many bytes; or an allocation failed
@@ -27,6 +27,11 @@ HasText files name = (text : List ℕ) × IsText files name text
 -- the names of all its files, in the order in which they are read
 abbrev pub names_of : RunPlan → List (List ℕ)
 names_of plan = names_before plan Bases ++ option_to_list plan.bases
+
+-- the file of this name, if there is one, was read to its end and has this text
+pub record ReadsNamed (old : FilesState) (name text : Option (List ℕ)) (new : FilesState) : Type 0 where
+  pub is_text : IsTextIfNamed old name text
+  pub after : new ≡ after_reading (option_to_list name) old
 
 -- the files of a plan before the one of this slot were read, in the order of their slots, and none of them failed; then the one of this
 -- slot was opened, and not read to its end; no other file was opened

@@ -24,8 +24,8 @@ use Rattle.iv_program.specs.Texts.{Texts, AreTexts}
 -- the files of a plan, once they are read, are those of these texts, if what is held of a BED file is so of its text, and if beside such
 -- a first file it is enough to hold these sequences of the FASTA file
 pub record HasTexts {H : Type 0} (is_of : Sequences → ℕ → ℕ → List ℕ → H → Type 0) (is_enough : Wanted → H → Type 0) (plan : RunPlan) (texts : Texts) (files : FilesRead H) : Type 0 where
-  pub width_is : files.on.width ≡ plan.width
-  pub limit_is : files.on.limit ≡ plan.limit
+  pub width_is : files.run_genome.width ≡ plan.width
+  pub limit_is : files.run_genome.limit ≡ plan.limit
   pub are : AreOf is_of is_enough texts.sizes texts.first texts.other texts.bases files
 
 -- the view of a plan was printed for its texts, or its first fault is reported

@@ -1,4 +1,4 @@
-//! The states of open views: which view has one, and its repair after an edit.
+//! The states of open views: which view has one, its repair after an edit, and how many views are stale.
 ghost use Rattle.std.specs.Prelude.{◌≡◌, ◌≢◌, ◌↔◌, ◌<◌, ◌∷◌, ℕ, List, None, Some, IfSome, IfOk, OnOk, MatchOption, All, length, IsTrue, true, false};
 ghost use Rattle.std.specs.List.{slice_get};
 ghost use Rattle.iv_lines.specs.Named.{names_of};
@@ -6,7 +6,7 @@ ghost use Rattle.iv_lines.specs.Read.{Fits};
 ghost use Rattle.iv_lines.specs.RecordValue.{RecordValue};
 ghost use Rattle.iv_track.specs.Steps.{TakesUpTo};
 ghost use Rattle.iv_view.specs.KeptStates.{built_for, state_key_of, IsRight, repair_steps};
-ghost use Rattle.iv_workspace.specs.OpenViews.{Stales, all_steps};
+ghost use Rattle.iv_workspace.specs.OpenViews.{Stales, all_steps, stale_count};
 ghost use Rattle.iv_workspace.specs.Inside.ViewStates.{AreMarked, AreOwnRight, AreRepaired, AreRight, HaveStates, IsKept, IsMissing, IsOwned, IsOwnRight, IsRepaired, NoneNeeds, WasRight, all_owned, all_seen, kept_with, owned, with_edited};
 
 use super::{OpenView, Views};
@@ -254,5 +254,18 @@ impl<A: Allocator + Copy> Views<A> {
             let opened = &mut self.views[index];
             opened.stale |= !kept;
         }
+    }
+
+    /// How many views are stale.
+    pub(crate) fn stale(&self) -> u32
+        ensures { result ≡ stale_count (all_seen self.now) }
+    {
+        let mut count = 0;
+        for index in 0..self.views.len() {
+            if self.views[index].stale {
+                count += 1;
+            }
+        }
+        count
     }
 }

@@ -5,8 +5,8 @@ use Rattle.iv_blocks.proofs.cluster.count_until.Given as goal
 
 abbrev pub invariant-loop-count : goal.invariant-loop-count
 invariant-loop-count g l = record {
-  count : l.count + length (take_while (starts_until l.rank l.position) l.ahead) ≡ length (take_while (starts_until l.rank l.position) l.fn.ahead);
-  past : drop_while (starts_until l.rank l.position) l.fn.ahead ≡ drop_while (starts_until l.rank l.position) l.ahead;
+  count : l.count + length (take_while (starts_until l.seq l.position) l.ahead) ≡ length (take_while (starts_until l.seq l.position) l.fn.ahead);
+  past : drop_while (starts_until l.seq l.position) l.fn.ahead ≡ drop_while (starts_until l.seq l.position) l.ahead;
   steps : TakesForEach l.fn.meter l.meter l.fn.ahead l.ahead;
 }
 

@@ -4,15 +4,15 @@ use Rattle.iv_cover.proofs.EmptyMeanings.{empty-bare, empty-all, empty-apart, em
 use Rattle.iv_blocks.proofs.lemmas.gaps_are_maximal.Goals as goal
 
 pub returns-clause-bare : goal.returns-clause-bare
-returns-clause-bare c = λ records rank length gap there.
-    let bare = empty-bare (depth records rank) 0 length gap there in
+returns-clause-bare c = λ records seq length gap there.
+    let bare = empty-bare (depth records seq) 0 length gap there in
     (bare.1, bare.2, bare.3)
 
 pub returns-clause-all : goal.returns-clause-all
-returns-clause-all c = λ records rank length p low none. empty-all (depth records rank) 0 length p (omega arith) low none
+returns-clause-all c = λ records seq length p low none. empty-all (depth records seq) 0 length p (omega arith) low none
 
 pub returns-clause-apart : goal.returns-clause-apart
-returns-clause-apart c = λ records rank length a b here there low. empty-apart (depth records rank) 0 length a b here there low
+returns-clause-apart c = λ records seq length a b here there low. empty-apart (depth records seq) 0 length a b here there low
 
 pub returns-clause-once : goal.returns-clause-once
-returns-clause-once c = λ records rank length a b here there same. empty-once (depth records rank) 0 length a b here there same
+returns-clause-once c = λ records seq length a b here there same. empty-once (depth records seq) 0 length a b here there same

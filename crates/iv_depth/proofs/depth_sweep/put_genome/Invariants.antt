@@ -8,9 +8,9 @@ use Rattle.iv_depth.proofs.Genomes.{texts_from}
 use Rattle.iv_depth.proofs.depth_sweep.put_genome.Given as goal
 
 -- the rows of the sequences from this rank on remain to be written, and their records are left
-abbrev pub invariant-loop-rank : goal.invariant-loop-rank
-invariant-loop-rank g l = record {
-  put : Underway (g.S.Sink.state l.fn.sink) (g.S.Sink.state l.sink) (texts_from l.output l.genome (depth (span_records l.spans)) l.rank) (depth_text l.output l.genome (span_records l.spans));
-  left_is : span_records l.left ≡ filter (is_from l.rank) (span_records l.spans);
+abbrev pub invariant-loop-seq : goal.invariant-loop-seq
+invariant-loop-seq g l = record {
+  put : Underway (g.S.Sink.state l.fn.sink) (g.S.Sink.state l.sink) (texts_from l.output l.genome (depth (span_records l.spans)) l.seq) (depth_text l.output l.genome (span_records l.spans));
+  left_is : span_records l.left ≡ filter (is_from l.seq) (span_records l.spans);
   len : length l.stops ≡ length l.fn.stops;
 }

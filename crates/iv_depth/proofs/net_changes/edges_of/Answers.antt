@@ -1,5 +1,7 @@
-use Rattle.std.proofs.Common.{◌∙◌, ℕ, ◌∷◌, sym, ap}
+use Rattle.std.proofs.Common.{◌∙◌, ℕ, ◌∷◌, List, sym, ap, subst}
+use Rattle.std.proofs.lemmas.List.{with_items_is}
 use Rattle.std.proofs.lemmas.List.Sorted.{IsPermutation-trans}
+use Rattle.std.specs.List.Sorted.{IsPermutation}
 use Rattle.iv_lines.specs.RecordValue.{RecordValue}
 use Rattle.iv_track.proofs.WalkLemmas.{filter-from_first}
 use Rattle.iv_depth.specs.Inside.NetChanges.{key_of}
@@ -21,6 +23,11 @@ loop-feature-preserved g c =
 
 pub returns : goal.returns
 returns g c =
+    let stops = c.loop-feature.stops in
+    let near = c.order_neighbors.new.items in
+    let sorted = c.sort_unstable-2.new.self.items in
+    let first : IsPermutation stops.items near = rw c.as_mut_slice.ensures.value at c.order_neighbors.ensures.permutation in
+    let second = subst (λ (l : List ℕ). IsPermutation l sorted) (with_items_is stops near (c.order_neighbors.ensures.len ∙ c.as_mut_slice.ensures.len)) c.sort_unstable-2.ensures.permutation in
     gathered-all c.args.track.now.records c.loop-feature.records c.loop-feature.starts.items c.loop-feature.stops.items c.sort_unstable.new.self.items c.sort_unstable-2.new.self.items
     c.in_default.ensures.feature.0 c.loop-feature.invariant
-    c.sort_unstable.ensures.permutation c.sort_unstable.ensures.sorted (IsPermutation-trans _ _ _ c.order_neighbors.ensures c.sort_unstable-2.ensures.permutation) c.sort_unstable-2.ensures.sorted
+    c.sort_unstable.ensures.permutation c.sort_unstable.ensures.sorted (IsPermutation-trans stops.items near sorted first second) c.sort_unstable-2.ensures.sorted

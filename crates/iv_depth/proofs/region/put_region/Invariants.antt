@@ -11,10 +11,10 @@ use Rattle.iv_depth.proofs.region.put_region.Given as goal
 abbrev pub invariant-loop-from : goal.invariant-loop-from
 invariant-loop-from g l = record {
   put : Underway (g.S.Sink.state l.fn.sink) (g.S.Sink.state l.sink)
-      (rows_from l.output l.name (depth_by l.changes l.rank) l.length l.start l.stop l.from)
-      (rows_in l.output l.name (depth_by l.changes l.rank) l.length l.start l.stop);
-  walk : IsWalking (depth_by l.changes l.rank) l.rank l.length l.start l.stop
-      (l.fn.meter + (3 + 2 * length (covered_runs_in (depth_by l.changes l.rank) l.length l.start l.stop)))
+      (rows_from l.output l.name (depth_by l.changes l.seq) l.length l.start l.stop l.from)
+      (rows_in l.output l.name (depth_by l.changes l.seq) l.length l.start l.stop);
+  walk : IsWalking (depth_by l.changes l.seq) l.seq l.length l.start l.stop
+      (l.fn.meter + (3 + 2 * length (covered_runs_in (depth_by l.changes l.seq) l.length l.start l.stop)))
       l.from l.depth l.left l.fn.meter l.meter;
 }
 

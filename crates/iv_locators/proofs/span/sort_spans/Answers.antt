@@ -1,6 +1,7 @@
-use Rattle.std.proofs.Common.{subst, rules}
+use Rattle.std.proofs.Common.{◌∙◌, List, subst, rules}
+use Rattle.std.proofs.lemmas.List.{with_items_is}
 use Rattle.std.proofs.lemmas.List.Sorted.{IsPermutation-refl, IsPermutation-trans}
-use Rattle.std.specs.List.Sorted.{IsSortedBy}
+use Rattle.std.specs.List.Sorted.{IsPermutation, IsSortedBy}
 use Rattle.iv_locators.specs.Inside.Spans.{record_of_span, span_lt}
 use Rattle.iv_locators.specs.declared.span.Span.{Span}
 use Rattle.iv_locators.proofs.OrderLemmas.{sorted-rows, sorted-by-rows}
@@ -18,6 +19,9 @@ returns-then-are_in_order g c =
 pub returns : goal.returns
 returns g c =
     let spans = c.args.spans.now.items in
-    let moved = IsPermutation-trans spans c.order_neighbors.new.items.items c.sort_unstable_by.new.self.items c.order_neighbors.ensures c.sort_unstable_by.ensures.permutation in
-    sorted-rows record_of_span none spans c.sort_unstable_by.new.self.items moved
-    (sorted-by-rows record_of_span c.sort_unstable_by.new.self.items c.sort_unstable_by.ensures.sorted (λ a r f' k. search rules))
+    let near = c.order_neighbors.new.items in
+    let sorted = c.sort_unstable_by.new.self.items in
+    let first : IsPermutation spans near = rw c.as_mut_slice.ensures.value at c.order_neighbors.ensures.permutation in
+    let second = subst (λ (l : List Span). IsPermutation l sorted) (with_items_is c.args.spans.now near (c.order_neighbors.ensures.len ∙ c.as_mut_slice.ensures.len)) c.sort_unstable_by.ensures.permutation in
+    sorted-rows record_of_span none spans sorted (IsPermutation-trans spans near sorted first second)
+    (sorted-by-rows record_of_span sorted c.sort_unstable_by.ensures.sorted (λ a r f' k. search rules))

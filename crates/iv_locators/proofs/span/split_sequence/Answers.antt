@@ -8,11 +8,11 @@ use Rattle.iv_locators.proofs.span.split_sequence.Goals as goal
 pub returns-clause-here : goal.returns-clause-here
 returns-clause-here c =
     ap span_records c.split_at.ensures.front ∙ sym (take-map record_of_span c.partition_point.result c.args.spans.now)
-    ∙ (split-rows record_of_span c.args.rank c.args.spans.now (span_records c.args.spans.now) c.partition_point.result refl c.requires.order c.requires.from c.partition_point.ensures.bound
-    (λ parted. IsPartitionPoint-from_clause (λ locator. nat_le locator.seq c.args.rank) c.args.spans.now c.partition_point.result c.partition_point.ensures.partitioned parted (λ a r q k. search rules))).0
+    ∙ (split-rows record_of_span c.args.seq c.args.spans.now (span_records c.args.spans.now) c.partition_point.result refl c.requires.order c.requires.from c.partition_point.ensures.bound
+    (λ parted. IsPartitionPoint-from_clause (λ locator. nat_le locator.seq c.args.seq) c.args.spans.now c.partition_point.result c.partition_point.ensures.partitioned parted (λ a r q k. search rules))).0
 
 pub returns-clause-later : goal.returns-clause-later
 returns-clause-later c =
     ap span_records c.split_at.ensures.back ∙ sym (drop-map record_of_span c.partition_point.result c.args.spans.now)
-    ∙ (split-rows record_of_span c.args.rank c.args.spans.now (span_records c.args.spans.now) c.partition_point.result refl c.requires.order c.requires.from c.partition_point.ensures.bound
-    (λ parted. IsPartitionPoint-from_clause (λ locator. nat_le locator.seq c.args.rank) c.args.spans.now c.partition_point.result c.partition_point.ensures.partitioned parted (λ a r q k. search rules))).1
+    ∙ (split-rows record_of_span c.args.seq c.args.spans.now (span_records c.args.spans.now) c.partition_point.result refl c.requires.order c.requires.from c.partition_point.ensures.bound
+    (λ parted. IsPartitionPoint-from_clause (λ locator. nat_le locator.seq c.args.seq) c.args.spans.now c.partition_point.result c.partition_point.ensures.partitioned parted (λ a r q k. search rules))).1

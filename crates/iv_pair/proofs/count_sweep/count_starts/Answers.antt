@@ -1,9 +1,9 @@
 use Rattle.std.proofs.Common.{◌≡◌, ◌≤◌, length, drop, true, false, rules}
 use Rattle.std.specs.List.Sorted.{IsPartitionPoint}
 use Rattle.std.proofs.lemmas.List.Sorted.{IsPartitionPoint-from_clause}
-use Rattle.iv_locators.specs.declared.locator.Locator.{Locator}
+use Rattle.iv_lines.proofs.PieceLemmas.{rest-whole}
 use Rattle.iv_pair.specs.Inside.Counts.{place_before}
-use Rattle.iv_pair.proofs.FrontLemmas.{split_up-drop, searched-past, slice-rest}
+use Rattle.iv_pair.proofs.FrontLemmas.{split_up-drop, searched-past}
 use Rattle.iv_pair.proofs.count_sweep.count_starts.Goals as goal
 
 pub returns : goal.returns
@@ -12,7 +12,7 @@ returns c =
     let locators = c.args.locators.now in
     let passed = c.pass_starts-passed.result in
     let split_up = c.requires.ordered c.args.seq c.args.at in
-    let whole = slice-rest {X = Locator} passed locators in
+    let whole = rest-whole locators passed in
     let point : IsPartitionPoint (λ locator. p locator ≡ true) (λ locator. p locator ≡ false) (drop passed locators) c.partition_point.result =
     IsPartitionPoint-from_clause p (drop passed locators) c.partition_point.result
     (rw whole at c.partition_point.ensures.partitioned) (split_up-drop p locators passed split_up) (λ a r q k. search rules) in

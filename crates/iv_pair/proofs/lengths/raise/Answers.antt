@@ -1,11 +1,8 @@
-use Rattle.std.proofs.Common.{◌≡◌, ◌∙◌, ap, arith}
-use Rattle.std.proofs.Common.{Result, Ok, Err}
-use Rattle.std.specs.Prelude.{unwrap_or, OnErr}
-use Rattle.iv_lines.specs.Inside.Ordered.{copies_by}
-use Rattle.iv_track.specs.Copies.{expanded}
+use Rattle.std.proofs.Common.{◌∙◌, ap, arith}
+use Rattle.std.specs.Prelude.{unwrap_or}
 use Rattle.iv_track.proofs.StepLemmas.{takes_none, takes_one_more}
+use Rattle.iv_track.proofs.RoomLemmas.{always_on_err}
 use Rattle.iv_pair.proofs.LengthLemmas.{count_at, raised_rows, raised_tally}
-use Rattle.iv_track.specs.Entries.{pair_cmp}
 use Rattle.iv_pair.proofs.lengths.raise.Goals as goal
 
 pub overflow_add-count : goal.overflow_add-count
@@ -22,14 +19,9 @@ returns-clause-ok g c =
 pub returns-clause-steps : goal.returns-clause-steps
 returns-clause-steps g c = takes_one_more _ _ _ 1 (takes_one_more _ _ _ 0 (takes_none _) c.get.ensures.step) c.put.ensures.step
 
--- what holds holds after a refusal
-after_refusal : {X E : Type 0} (res : Result X E) (P : Type 0) → P → OnErr res P
-after_refusal (Ok x) P p = tt
-after_refusal (Err e) P p = p
-
 pub returns-in_err-put-clause-memory : goal.returns-in_err-put-clause-memory
 returns-in_err-put-clause-memory g c =
-    after_refusal c.from_residual.result (copies_by pair_cmp (expanded c.args.lengths.now) c.args.key ≡ 0)
+    always_on_err c.from_residual.result
     (count_at c.args.lengths.now c.args.lengths.now c.args.key c.requires.tally ∙ ap (λ o. unwrap_or o 0) c.in_err-put.ensures.absent)
 
 pub returns-in_err-put-clause-steps : goal.returns-in_err-put-clause-steps

@@ -5,7 +5,7 @@ use Rattle.iv_pair.proofs.pair_printer.copy_for.Goals as goal
 
 pub returns-in_ok-cover-in-Subtract-false : goal.returns-in_ok-cover-in-Subtract-false
 returns-in_ok-cover-in-Subtract-false g c =
-    rw (c.in-Subtract-false.is, c.in-Subtract-false.field-0-test)
+    rw (c.in-Subtract-false.is, c.in-Subtract-false.whole-test)
     (λ g' a some. uncovered-alike g' a c.in_ok-cover-in-Subtract-false.cover.records c.args.second.now.records c.in_ok-cover-in-Subtract-false.ensures)
 
 pub returns-in_ok-counts-in-Intersect-Count : goal.returns-in_ok-counts-in-Intersect-Count

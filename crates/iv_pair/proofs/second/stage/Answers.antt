@@ -1,13 +1,12 @@
-use Rattle.std.proofs.Common.{◌≡◌, ◌∙◌, ℕ, sym, ap, subst, arith}
-use Rattle.std.proofs.Common.{Result, Ok, Err}
-use Rattle.std.specs.Prelude.{OnErr}
-use Rattle.iv_lines.specs.Ordered.{added_by, copies}
+use Rattle.std.proofs.Common.{◌∙◌, ℕ, sym, ap, subst, arith}
+use Rattle.iv_lines.specs.Ordered.{added_by}
 use Rattle.iv_lines.specs.Inside.Ordered.{copies_by}
 use Rattle.iv_track.specs.Copies.{expanded}
 use Rattle.iv_track.specs.Tracked.{Tracked}
 use Rattle.iv_pair.specs.Inside.Lengths.{AreLengths}
 use Rattle.iv_pair.proofs.LengthLemmas.{AreLengths-room, AreLengths-added, AreLengths-back, absent-uncounted, raised-there}
 use Rattle.iv_track.specs.Entries.{pair_cmp}
+use Rattle.iv_track.proofs.RoomLemmas.{always_on_err}
 use Rattle.iv_pair.proofs.second.stage.Goals as goal
 
 pub raise-requires-clause-room : goal.raise-requires-clause-room
@@ -17,14 +16,9 @@ raise-requires-clause-room g c =
 pub lower-requires-clause-there : goal.lower-requires-clause-there
 lower-requires-clause-there g c = raised-there c.args.lengths.now c.raise.new.lengths c.length_of-length.result c.in_ok-raise.ensures.ok.1
 
--- what holds holds after a refusal
-after_refusal : {X E : Type 0} (res : Result X E) (P : Type 0) → P → OnErr res P
-after_refusal (Ok x) P p = tt
-after_refusal (Err e) P p = p
-
 pub returns-in_err-raise-clause-memory : goal.returns-in_err-raise-clause-memory
 returns-in_err-raise-clause-memory g c =
-    after_refusal c.from_residual.result (copies c.args.track.now.records c.args.feature ≡ 0)
+    always_on_err c.from_residual.result
     (absent-uncounted c.args.lengths.now c.args.track.now.records c.args.feature c.requires.counted c.len-few.ensures.ordered
     (ap (λ (k : ℕ × ℕ). copies_by pair_cmp (expanded c.args.lengths.now) k) (sym c.length_of-length.ensures.is) ∙ c.in_err-raise.ensures.memory))
 

@@ -1,28 +1,19 @@
 use Rattle.std.proofs.Common.{◌≡◌, List, ℕ, Option, Some, subst, sym}
-use Rattle.std.specs.Option.{option_to_list}
-use Rattle.std.proofs.lemmas.Result.{err_from_is_err_and}
-use Rattle.iv_program.specs.Files.{after_reading}
-use Rattle.iv_program.specs.Texts.{IsTextIfNamed}
+use Rattle.iv_lines.proofs.PieceLemmas.{handed-on}
+use Rattle.iv_program.specs.Inside.Files.{ReadsNamed}
 use Rattle.iv_program.proofs.files.read_second.Goals as goal
 
 pub returns-in_ok-in_slot-in-Some-clause-ok : goal.returns-in_ok-in_slot-in-Some-clause-ok
 returns-in_ok-in_slot-in-Some-clause-ok g c =
     let read = rw c.in_ok-in_slot-in-Some.ensures.ok at c.read_held.ensures.ok in
     let named : Some c.in-Some.name.now ≡ c.args.plan.now.other = c.in-Some.ensures in
-    (Some read.0, subst (λ (o : Option (List ℕ)). IsTextIfNamed (g.F.InputFiles.state c.args.files.now) o (Some read.0)) named read.1, read.2)
+    (Some read.0, subst (λ (o : Option (List ℕ)). ReadsNamed (g.F.InputFiles.state c.args.files.now) o (Some read.0) (g.F.InputFiles.state c.read_held.new.files)) named read.1, read.2)
 
 pub returns-in_err-in_slot-in-Some-clause-err : goal.returns-in_err-in_slot-in-Some-clause-err
 returns-in_err-in_slot-in-Some-clause-err g c =
-    let p = err_from_is_err_and c.from_residual.result c.from_residual.ensures.1 in
     let why = c.in_err-in_slot-in-Some.ensures.err in
     let named : Some c.in-Some.name.now ≡ c.args.plan.now.other = c.in-Some.ensures in
-    rw (p.1, p.2) (why.0, (c.in-Some.name.now, sym named, rw why.1 at c.read_held.ensures.err))
+    handed-on c.from_residual.result _ _ c.from_residual.ensures.1 (why.0, (c.in-Some.name.now, sym named, rw why.1 at c.read_held.ensures.err))
 
 pub returns-in_ok-in_slot-in-Some-clause-is_on : goal.returns-in_ok-in_slot-in-Some-clause-is_on
 returns-in_ok-in_slot-in-Some-clause-is_on g c = rw c.in_ok-in_slot-in-Some.ensures.ok at c.read_held.ensures.is_on
-
-pub returns-in_ok-in_slot-in-Some-clause-after : goal.returns-in_ok-in_slot-in-Some-clause-after
-returns-in_ok-in_slot-in-Some-clause-after g c =
-    let named : Some c.in-Some.name.now ≡ c.args.plan.now.other = c.in-Some.ensures in
-    subst (λ (o : Option (List ℕ)). g.F.InputFiles.state c.read_held.new.files ≡ after_reading (option_to_list o) (g.F.InputFiles.state c.args.files.now)) named
-    (rw c.in_ok-in_slot-in-Some.ensures.ok at c.read_held.ensures.after)

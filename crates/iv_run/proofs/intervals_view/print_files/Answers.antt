@@ -3,10 +3,9 @@ use Rattle.std.specs.Prelude.{All}
 use Rattle.iv_lines.specs.Ordered.{AreInOrder, ordered}
 use Rattle.iv_lines.specs.Read.{IsOnGenome}
 use Rattle.iv_lines.specs.RecordValue.{RecordValue}
-use Rattle.iv_lines.proofs.OrderedLemmas.{ordered-in_order}
+use Rattle.iv_lines.proofs.OrderedLemmas.{ordered-in_order, ordered-all}
 use Rattle.iv_locators.specs.Inside.Spans.{span_records}
 use Rattle.iv_locators.proofs.BareLemmas.{kept-on_genome}
-use Rattle.iv_locators.proofs.SortedLemmas.{ordered-all}
 use Rattle.iv_view.specs.Views.{kept_text}
 use Rattle.iv_run.specs.Loading.{Parsed}
 use Rattle.iv_run.specs.Inside.Prints.{Prints}

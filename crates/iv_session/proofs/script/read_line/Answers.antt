@@ -1,13 +1,12 @@
 use Rattle.std.proofs.Common.{◌≡◌, length, drop, arith, ◌≤◌, ◌<◌, ◌≢◌, rules, ap, ◌∙◌}
 use Rattle.std.proofs.lemmas.List.Elements.{All-take}
-use Rattle.std.proofs.lemmas.Result.{err_from_is_err_and}
+use Rattle.iv_lines.proofs.PieceLemmas.{handed-on}
 use Rattle.iv_session.proofs.ReadLemmas.{InLine-more, ReadsLine-break, StopsInLine-input, StopsInLine-full, StopsInLine-part, ends-feed, ends-nothing}
 use Rattle.iv_session.proofs.script.read_line.Goals as goal
 
 pub returns-in_err-fill-clause-err : goal.returns-in_err-fill-clause-err
 returns-in_err-fill-clause-err g c =
-    let p = err_from_is_err_and c.from_residual.result c.from_residual.ensures.1 in
-    rw (p.1, p.2)
+    handed-on c.from_residual.result _ _ c.from_residual.ensures.1
     (StopsInLine-input _ _ c.fill.new.self _ _ _ _ _ _ c.loop-held.invariant c.in_err-fill.ensures.reads
     c.in_err-fill.ensures.none c.in_err-fill.ensures.err)
 
@@ -20,11 +19,10 @@ returns-then-left-eq0-clause-err g c =
 
 pub returns-in_err-take_part-in-Some-clause-err : goal.returns-in_err-take_part-in-Some-clause-err
 returns-in_err-take_part-in-Some-clause-err g c =
-    let p = err_from_is_err_and c.from_residual-in_err-take_part-in-Some.result c.from_residual-in_err-take_part-in-Some.ensures.1 in
     let found = rw c.bytes-bytes.ensures at c.in-Some.ensures in
     let some : 0 < length c.fill.new.self = search rules in
     let room : 0 < c.args.left = omega (arith, c.if-left-eq0.false) in
-    rw (p.1, p.2)
+    handed-on c.from_residual-in_err-take_part-in-Some.result _ _ c.from_residual-in_err-take_part-in-Some.ensures.1
     (StopsInLine-part _ _ c.fill.new.self _ _ _ _ _ c.loop-held.line.items c.in-Some.n _ c.loop-held.invariant c.in_ok-fill.ensures.reads
     (rw c.if-branch.true at c.in_ok-fill.ensures.ok) room some (omega (arith, found.0)) found.2 (ends-feed c.fill.new.self c.in-Some.n found.0 found.1)
     c.fill.ensures.few c.in_err-take_part-in-Some.ensures.err)
@@ -51,14 +49,13 @@ loop-held-preserved g c =
 
 pub returns-in_err-take_part-in-None-clause-err : goal.returns-in_err-take_part-in-None-clause-err
 returns-in_err-take_part-in-None-clause-err g c =
-    let p = err_from_is_err_and c.from_residual-in_err-take_part-in-None.result c.from_residual-in_err-take_part-in-None.ensures.1 in
     let plain = rw c.bytes-bytes.ensures at c.in-None.ensures in
     let size : length c.bytes-bytes.result.now ≡ length c.fill.new.self = ap length c.bytes-bytes.ensures in
     let within : length c.bytes-bytes.result.now ≤ length c.fill.new.self = omega (arith, size) in
     let all : length c.fill.new.self ≤ length c.bytes-bytes.result.now = omega (arith, size) in
     let some : 0 < length c.fill.new.self = search rules in
     let room : 0 < c.args.left = omega (arith, c.if-left-eq0.false) in
-    rw (p.1, p.2)
+    handed-on c.from_residual-in_err-take_part-in-None.result _ _ c.from_residual-in_err-take_part-in-None.ensures.1
     (StopsInLine-part _ _ c.fill.new.self _ _ _ _ _ c.loop-held.line.items (length c.bytes-bytes.result.now) _ c.loop-held.invariant
     c.in_ok-fill.ensures.reads (rw c.if-branch.true at c.in_ok-fill.ensures.ok) room some within
     (All-take (λ b. b ≢ 10) (length c.bytes-bytes.result.now) c.fill.new.self plain)

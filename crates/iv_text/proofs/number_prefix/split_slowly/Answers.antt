@@ -4,7 +4,7 @@ use Rattle.std.specs.Char.{is_ascii_digit}
 use Rattle.std.specs.Str.{all_ascii_digits}
 use Rattle.iv_lines.specs.Inside.Number.{decimal_from}
 use Rattle.iv_lines.proofs.NumberLemmas.{decimal-more, digits-more, digit-bound, bound-more, number-is}
-use Rattle.iv_text.proofs.OnePassLemmas.{rest-whole}
+use Rattle.iv_text.proofs.OnePassLemmas.{parts-whole}
 use Rattle.iv_text.proofs.number_prefix.split_slowly.Goals as goal
 
 pub loop-count-preserved : goal.loop-count-preserved
@@ -26,4 +26,4 @@ pub returns : goal.returns
 returns c =
     let text = c.args.text.now in
     let k = c.loop-count.count in
-    (take k text, rest-whole text k, number-is (take k text) (omega (arith, length-take k text)) (omega (arith, length-take k text)) c.loop-count.invariant.digits ∙ ap Some (sym c.loop-count.invariant.value))
+    (take k text, parts-whole text k, number-is (take k text) (omega (arith, length-take k text)) (omega (arith, length-take k text)) c.loop-count.invariant.digits ∙ ap Some (sym c.loop-count.invariant.value))

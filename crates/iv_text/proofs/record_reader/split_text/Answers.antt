@@ -1,5 +1,5 @@
 use Rattle.std.proofs.Common.{◌∷◌, take, ap, ◌∙◌, arith, length-take}
-use Rattle.iv_text.proofs.OnePassLemmas.{rest-whole}
+use Rattle.iv_text.proofs.OnePassLemmas.{parts-whole}
 use Rattle.iv_text.proofs.FastLineLemmas.{cell-text}
 use Rattle.iv_text.proofs.record_reader.split_text.Goals as goal
 
@@ -8,4 +8,4 @@ returns c =
     let text = c.in_ok-cell.cell.now in
     let end = c.count_cell-end.result in
     let plain = c.count_cell-end.ensures.cell in
-    (c.in_ok-cell.ensures ∙ ap (λ t. 9 ∷ t) (rest-whole text end), plain, cell-text (take end text) (omega (arith, length-take end text)) plain)
+    (c.in_ok-cell.ensures ∙ ap (λ t. 9 ∷ t) (parts-whole text end), plain, cell-text (take end text) (omega (arith, length-take end text)) plain)

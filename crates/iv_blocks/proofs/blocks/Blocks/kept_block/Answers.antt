@@ -1,9 +1,16 @@
-use Rattle.std.proofs.Common.{◌≡◌, ◌∙◌, ℕ, List, ap}
+use Rattle.std.proofs.Common.{◌≡◌, ◌∙◌, ℕ, List, [], ap, sym}
 use Rattle.iv_blocks.specs.Inside.MembersLeft.{MembersLeft}
 use Rattle.iv_blocks.specs.KeptBlocks.{KeptBlocks}
 use Rattle.iv_blocks.specs.Groups.{listed}
 use Rattle.iv_blocks.specs.Inside.Groups.{members_between}
 use Rattle.iv_blocks.proofs.blocks.Blocks.kept_block.Goals as goal
+
+pub returns-then-not-has_results-clause-value : goal.returns-then-not-has_results-clause-value
+returns-then-not-has_results-clause-value g c =
+    let a = c.args in
+    let options : listed c.self.inside.options.summaries ≡ listed a.self.now.options.summaries = ap (λ (k : KeptBlocks). listed k.options.summaries) c.self.view_is in
+    let none : listed a.self.now.options.summaries ≡ [] = sym options ∙ c.self.invariant (sym c.if-not-has_results.ensures) in
+    rw none c.plain.ensures
 
 pub returns-clause-value : goal.returns-clause-value
 returns-clause-value g c =

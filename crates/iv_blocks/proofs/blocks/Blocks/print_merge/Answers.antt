@@ -1,18 +1,15 @@
-use Rattle.std.proofs.Common.{◌≡◌, ◌∙◌, ap, arith, ◌∷◌, length, false}
+use Rattle.std.proofs.Common.{◌≡◌, ◌∙◌, ap, arith, ◌∷◌, length}
 use Rattle.iv_bytes.proofs.PutLemmas.{Underway-begin, Underway-more, Underway-fails, Underway-ends, Puts-err}
 use Rattle.iv_track.proofs.StepLemmas.{takes_none, takes_one_more}
 use Rattle.iv_blocks.specs.KeptBlocks.{KeptBlocks, Entries}
 use Rattle.iv_blocks.specs.Inside.StoredBlocks.{entry_shown}
-use Rattle.iv_blocks.proofs.EntryLemmas.{from, from-first}
 use Rattle.iv_blocks.proofs.MergeLemmas.{rows-are, rows-next, count-is}
 use Rattle.iv_blocks.proofs.blocks.Blocks.print_merge.Goals as goal
 
 pub loop-block-init : goal.loop-block-init
 loop-block-init g c =
-    let begun : c.walk-walk.result ≡ from (0, false, 0) c.self.inside.ledger.entries = c.walk-walk.ensures.entries in
-    let all : c.walk-walk.result ≡ c.args.self.now.entries
-    = begun ∙ from-first c.self.inside.ledger.entries ∙ ap (λ (b : KeptBlocks). b.entries) c.self.view_is in
-    let one = takes_one_more _ _ _ 0 (takes_none c.args.meter.now) c.walk-walk.ensures.step in
+    let all : c.walk_all-walk.result ≡ c.args.self.now.entries = c.walk_all-walk.ensures.entries ∙ ap (λ (b : KeptBlocks). b.entries) c.self.view_is in
+    let one = takes_one_more _ _ _ 0 (takes_none c.args.meter.now) c.walk_all-walk.ensures.step in
     rw all (record {
       put = Underway-begin _ _;
       no_less = omega (arith, one);

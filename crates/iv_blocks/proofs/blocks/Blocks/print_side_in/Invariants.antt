@@ -18,13 +18,13 @@ use Rattle.iv_blocks.proofs.blocks.Blocks.print_side_in.Given as goal
 abbrev pub invariant-loop-block : goal.invariant-loop-block
 invariant-loop-block g l = record {
   put : Underway (g.S.Sink.state l.fn.sink) (g.S.Sink.state l.sink)
-      (flat_map (entry_row l.genome) (filter (is_early l.group.rank (is_minus l.group.side) l.stop) l.walk))
-      (flat_map (block_row (sequence_name l.genome l.group.rank) (listed l.self.options.summaries)) (side_blocks_in l.self.options l.genome l.track.records l.group.rank l.start l.stop (is_minus l.group.side)));
+      (flat_map (entry_row l.genome) (filter (is_early l.group.seq (is_minus l.group.side) l.stop) l.walk))
+      (flat_map (block_row (sequence_name l.genome l.group.seq) (listed l.self.options.summaries)) (side_blocks_in l.self.options l.genome l.track.records l.group.seq l.start l.stop (is_minus l.group.side)));
   ascends : Ascends l.walk;
   after : (f : Key × Kept) → Mem f l.walk → is_le (key_cmp (key_of l.group l.low) f.0) ≡ true;
   no_less : l.fn.meter ≤ l.meter;
-  at_most : l.meter + length (filter (is_early l.group.rank (is_minus l.group.side) l.stop) l.walk)
-      ≤ l.fn.meter + (2 + length (side_blocks_in l.self.options l.genome l.track.records l.group.rank l.start l.stop (is_minus l.group.side)));
+  at_most : l.meter + length (filter (is_early l.group.seq (is_minus l.group.side) l.stop) l.walk)
+      ≤ l.fn.meter + (2 + length (side_blocks_in l.self.options l.genome l.track.records l.group.seq l.start l.stop (is_minus l.group.side)));
 }
 
 abbrev pub decreases-loop-block : goal.decreases-loop-block

@@ -31,8 +31,8 @@ returns-in_default-clause-ok g c =
 pub returns-in_default-clause-steps : goal.returns-in_default-clause-steps
 returns-in_default-clause-steps g c =
     let a = c.args in
-    let passed_records : c.of-members.result.passed_records ≡ length (between_on a.group.rank c.first_near-from.result a.block.1 a.track.now.records) = ap (λ (m : MembersLeft). m.passed_records) c.of-members.ensures.members in
-    let fewer = count-later a.group.rank a.block.0 c.first_near-from.result a.block.1 a.track.now.records c.first_near-from.ensures.from in
+    let passed_records : c.of-members.result.passed_records ≡ length (between_on a.group.seq c.first_near-from.result a.block.1 a.track.now.records) = ap (λ (m : MembersLeft). m.passed_records) c.of-members.ensures.members in
+    let fewer = count-later a.group.seq a.block.0 c.first_near-from.result a.block.1 a.track.now.records c.first_near-from.ensures.from in
     record {
       no_less = omega (arith, c.of-members.ensures.steps.no_less, c.in_default.ensures.steps.no_less);
       at_most = omega (arith, c.of-members.ensures.steps.at_most, c.in_default.ensures.steps.at_most, passed_records, fewer);
@@ -48,8 +48,8 @@ feature-init g c =
     let steps = c.in-Some.ensures.steps in
     let all : members_between a.group from a.block.1 a.track.now.records ≡ r ∷ rest =
     sym (ap (λ (m : MembersLeft). m.members) c.of-members.ensures.members) ∙ c.in-Some.ensures.member in
-    let passed_records : c.of-members.result.passed_records ≡ length (between_on a.group.rank from a.block.1 a.track.now.records) = ap (λ (m : MembersLeft). m.passed_records) c.of-members.ensures.members in
-    let fewer = count-later a.group.rank a.block.0 from a.block.1 a.track.now.records c.first_near-from.ensures.from in
+    let passed_records : c.of-members.result.passed_records ≡ length (between_on a.group.seq from a.block.1 a.track.now.records) = ap (λ (m : MembersLeft). m.passed_records) c.of-members.ensures.members in
+    let fewer = count-later a.group.seq a.block.0 from a.block.1 a.track.now.records c.first_near-from.ensures.from in
     let placed : c.bounds_of-start.result ≡ (r.start, r.stop) = c.bounds_of-start.ensures ∙ ap (λ (q : RecordValue). (q.start, q.stop)) c.as_ref.ensures in
     let starts : c.bounds_of-start.result.0 ≡ r.start = ap (λ (p : ℕ × ℕ). p.0) placed in
     let stops : c.bounds_of-start.result.1 ≡ r.stop = ap (λ (p : ℕ × ℕ). p.1) placed in
@@ -90,7 +90,7 @@ returns-in_default-next-clause-steps g c =
     near-end a.self.now a.genome.now a.track.now.records a.group a.block a.gone known c.requires.rest c.feature.self c.feature.start c.feature.reached n in
     let long : c.feature.start < c.feature.reached = s.put.last.block.long in
     let pays = sweep-pays a.self.now a.genome.now a.track.now.records a.group a.block.0 a.block.1 known c.feature.self c.feature.start c.feature.reached [] s in
-    let within = count-within a.group.rank a.block.0 c.feature.reached a.block.1 a.track.now.records (omega (arith, s.above, long)) s.within in
+    let within = count-within a.group.seq a.block.0 c.feature.reached a.block.1 a.track.now.records (omega (arith, s.above, long)) s.within in
     let next = c.in_default-next.ensures.steps in
     record {
       no_less = omega (arith, i.no_less, next.no_less, c.insert_block.ensures.steps.no_less);
@@ -149,7 +149,7 @@ returns-in_err-insert_block-clause-steps g c =
         next.at_most,
         c.insert_block-else-from-joined.ensures.steps.at_most,
         sweep-pays a.self.now a.genome.now a.track.now.records a.group a.block.0 a.block.1 known c.feature.self c.feature.start c.feature.reached (r ∷ rest) s,
-        count-within a.group.rank a.block.0 c.feature.reached a.block.1 a.track.now.records (omega (arith, s.above, long)) s.within,
+        count-within a.group.seq a.block.0 c.feature.reached a.block.1 a.track.now.records (omega (arith, s.above, long)) s.within,
       );
     }
 
@@ -186,7 +186,7 @@ feature-preserved g c =
         next.at_most,
         c.insert_block-else-from-joined.ensures.steps.at_most,
         sweep-pays a.self.now a.genome.now a.track.now.records a.group a.block.0 a.block.1 known c.feature.self c.feature.start c.feature.reached (r ∷ rest) s,
-        count-within a.group.rank a.block.0 c.feature.reached c.bounds_of-next_start.result.0 a.track.now.records (omega (arith, s.above, long)) (omega (arith, parts, starts)),
+        count-within a.group.seq a.block.0 c.feature.reached c.bounds_of-next_start.result.0 a.track.now.records (omega (arith, s.above, long)) (omega (arith, parts, starts)),
       );
     }
 

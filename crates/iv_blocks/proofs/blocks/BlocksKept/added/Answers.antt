@@ -1,13 +1,13 @@
 use Rattle.std.proofs.Common.{◌≡◌, ◌∙◌, ℕ, refl, sym, ap, subst}
 use Rattle.iv_lines.specs.Named.{names_of}
-use Rattle.iv_track.specs.Entries.{IsLedger}
-use Rattle.iv_blocks.specs.KeptBlocks.{AreBlocksOf, key_cmp, KeptBlocks}
+use Rattle.iv_blocks.specs.KeptBlocks.{AreBlocksOf, KeptBlocks}
 use Rattle.iv_blocks.specs.Inside.Lookups.{kept_in}
 use Rattle.iv_blocks.specs.Inside.Insertion.{with_block}
 use Rattle.iv_blocks.specs.Inside.Repairs.{JoinsBefore, JoinsAfter}
 use Rattle.iv_blocks.specs.declared.options.BlockOptions.{BlockOptions}
-use Rattle.iv_blocks.proofs.GroupRepairLemmas.{IsEdit, edit-added, beside-added, added-all, added-takes, on-both}
+use Rattle.iv_blocks.proofs.GroupRepairLemmas.{IsEdit, edit-added, beside-added, added-all, added-takes}
 use Rattle.iv_blocks.proofs.blocks.BlocksKept.added.Given.{Over}
+use Rattle.iv_blocks.proofs.GroupSweeps.{on_ok_both}
 use Rattle.iv_blocks.proofs.blocks.BlocksKept.added.Goals as goal
 
 pub returns-in_default-clause-right : goal.returns-in_default-clause-right
@@ -49,14 +49,13 @@ returns-clause-right g c =
     let second = c.join_after-high in
     let all = c.insert_block.new.self in
     let done = with_block second.new.self a.genome.now a.track.now.records c.in-Some.group first.result.0 second.result in
-    on-both c.insert_block.result (all ≡ done) (IsLedger key_cmp all.entries) _
+    on_ok_both c.insert_block.result c.insert_block.ensures.ok c.insert_block.ensures.ordered
     (λ put sorted.
     let same : all.options ≡ a.self.now.options = ap (λ (b : KeptBlocks). b.options) {x = all} {y = done} put ∙ second.ensures.kept.options ∙ first.ensures.kept.options in
     subst (λ (o : BlockOptions). AreBlocksOf o (names_of a.genome.now) a.track.now.records all.entries) (sym same)
     (added-all a.self.now.options (names_of a.genome.now) c.in-Some.group a.feature.now c.requires.right.others a.track.now.records (edit g c)
     a.self.now first.new.self second.new.self first.result second.result c.requires.right.right (joined g c) (after g c)
     all a.genome.now refl first.ensures.kept second.ensures.kept first.ensures.kept.options put sorted))
-    c.insert_block.ensures.ok c.insert_block.ensures.ordered
 
 pub returns-clause-steps : goal.returns-clause-steps
 returns-clause-steps g c =

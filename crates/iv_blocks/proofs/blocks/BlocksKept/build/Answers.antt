@@ -83,22 +83,22 @@ returns-then-not-options-clause-right g c =
 
 -- ---- if they are apart
 
-pub loop-rank-init : goal.loop-rank-init
-loop-rank-init g c = built-none c.args.genome.now c.args.track.now.records (record { options = c.args.options; entries = c.new.result.entries }) (ap (λ (b : StoredBlocks). b.entries) c.new.ensures)
+pub loop-seq-init : goal.loop-seq-init
+loop-seq-init g c = built-none c.args.genome.now c.args.track.now.records (record { options = c.args.options; entries = c.new.result.entries }) (ap (λ (b : StoredBlocks). b.entries) c.new.ensures)
 
 pub insert_sequence-requires-clause-apart : goal.insert_sequence-requires-clause-apart
-insert_sequence-requires-clause-apart g c = ap (λ (o : BlockOptions). o.stranded) c.loop-rank.invariant.for_options ∙ c.if-not-options.false
+insert_sequence-requires-clause-apart g c = ap (λ (o : BlockOptions). o.stranded) c.loop-seq.invariant.for_options ∙ c.if-not-options.false
 
-pub loop-rank-preserved : goal.loop-rank-preserved
-loop-rank-preserved g c =
+pub loop-seq-preserved : goal.loop-seq-preserved
+loop-seq-preserved g c =
     let a = c.args in
-    built-next a.genome.now a.track.now.width a.track.now.records c.requires.fit a.options c.loop-rank.rank c.loop-rank.blocks c.insert_sequence.new.self c.loop-rank.invariant c.in_ok-insert_sequence.ensures
+    built-next a.genome.now a.track.now.width a.track.now.records c.requires.fit a.options c.loop-seq.seq c.loop-seq.blocks c.insert_sequence.new.self c.loop-seq.invariant c.in_ok-insert_sequence.ensures
 
 pub returns-clause-right : goal.returns-clause-right
 returns-clause-right g c =
     let a = c.args in
-    subst (λ (o : BlockOptions). AreBlocksOf o (names_of a.genome.now) a.track.now.records c.loop-rank.blocks.entries) (sym c.loop-rank.invariant.for_options)
-    (built-all a.genome.now a.track.now.width a.track.now.records c.requires.fit a.options c.loop-rank.rank c.loop-rank.blocks c.loop-rank.invariant (omega (arith, c.count-rank-end.ensures.value, c.loop-rank-test.false)))
+    subst (λ (o : BlockOptions). AreBlocksOf o (names_of a.genome.now) a.track.now.records c.loop-seq.blocks.entries) (sym c.loop-seq.invariant.for_options)
+    (built-all a.genome.now a.track.now.width a.track.now.records c.requires.fit a.options c.loop-seq.seq c.loop-seq.blocks c.loop-seq.invariant (omega (arith, c.count-seq-end.ensures.value, c.loop-seq-test.false)))
 
 pub returns-clause-built_for : goal.returns-clause-built_for
-returns-clause-built_for g c = c.loop-rank.invariant.for_options
+returns-clause-built_for g c = c.loop-seq.invariant.for_options

@@ -2,5 +2,5 @@ use Rattle.iv_blocks.proofs.Builds.{IsBuiltTo}
 use Rattle.iv_blocks.proofs.blocks.BlocksKept.build.Given as goal
 
 -- the sequences of lower ranks have their blocks
-abbrev pub invariant-loop-rank : goal.invariant-loop-rank
-invariant-loop-rank g l = IsBuiltTo l.genome l.track.records l.fn.options l.rank l.blocks
+abbrev pub invariant-loop-seq : goal.invariant-loop-seq
+invariant-loop-seq g l = IsBuiltTo l.genome l.track.records l.fn.options l.seq l.blocks

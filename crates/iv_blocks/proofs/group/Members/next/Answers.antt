@@ -16,7 +16,7 @@ loop-feature-init g c = record {
 }
 
 -- the record is past the range
-past : (g : Over) (c : goal.Joined-then-seq-self g) → (c.in-Some.feature.seq ≡ c.loop-feature.self-inside.group.rank → ⊥) ⊎ (c.loop-feature.self-inside.to ≤ c.in-Some.feature.start)
+past : (g : Over) (c : goal.Joined-then-seq-self g) → (c.in-Some.feature.seq ≡ c.loop-feature.self-inside.group.seq → ⊥) ⊎ (c.loop-feature.self-inside.to ≤ c.in-Some.feature.start)
 past g c = elim c.then-seq-self.branch [
   | then-seq-self-via-then-seq-self w ↦ inl (λ same. w.if-seq-self.true (c.seq.ensures ∙ same))
   | then-seq-self-via-else-seq-self+then-start-from w ↦ inr (omega (arith, w.if-start-from.true, w.start.ensures, w.from.ensures))
@@ -25,7 +25,7 @@ past g c = elim c.then-seq-self.branch [
 pub invariant_of-self : goal.invariant_of-self
 invariant_of-self g c =
     let m = c.loop-feature.self-inside in
-    ahead-rest m.group.rank c.in-Some.feature c.next.new.self (subst (λ (l : List RecordValue). IsAhead m.group.rank l) c.in-Some.ensures.feature c.loop-feature.invariant.ahead)
+    ahead-rest m.group.seq c.in-Some.feature c.next.new.self (subst (λ (l : List RecordValue). IsAhead m.group.seq l) c.in-Some.ensures.feature c.loop-feature.invariant.ahead)
 
 pub returns-then-seq-self-clause-member : goal.returns-then-seq-self-clause-member
 returns-then-seq-self-clause-member g c =
@@ -33,7 +33,7 @@ returns-then-seq-self-clause-member g c =
     let m = c.loop-feature.self-inside in
     let r = c.in-Some.feature in
     let rest = c.next.new.self in
-    let ahead : IsAhead m.group.rank (r ∷ rest) = subst (λ (l : List RecordValue). IsAhead m.group.rank l) c.in-Some.ensures.feature i.ahead in
+    let ahead : IsAhead m.group.seq (r ∷ rest) = subst (λ (l : List RecordValue). IsAhead m.group.seq l) c.in-Some.ensures.feature i.ahead in
     let none : members_between m.group 0 m.to (r ∷ rest) ≡ [] = past-members m.group m.to r rest ahead (past g c) in
     (sym i.members ∙ ap (members_between m.group 0 m.to) c.in-Some.ensures.feature ∙ none, rest-none _ r rest none)
 
@@ -43,8 +43,8 @@ returns-then-seq-self-clause-steps g c =
     let m = c.loop-feature.self-inside in
     let r = c.in-Some.feature in
     let rest = c.next.new.self in
-    let ahead : IsAhead m.group.rank (r ∷ rest) = subst (λ (l : List RecordValue). IsAhead m.group.rank l) c.in-Some.ensures.feature i.ahead in
-    let none : length (between_on m.group.rank 0 m.to rest) ≡ 0 = ap length (rest-none _ r rest (past-records m.group.rank m.to r rest ahead (past g c))) in
+    let ahead : IsAhead m.group.seq (r ∷ rest) = subst (λ (l : List RecordValue). IsAhead m.group.seq l) c.in-Some.ensures.feature i.ahead in
+    let none : length (between_on m.group.seq 0 m.to rest) ≡ 0 = ap length (rest-none _ r rest (past-records m.group.seq m.to r rest ahead (past g c))) in
     record {
       no_less = omega (arith, i.no_less, c.in-Some.ensures.steps.no_less);
       at_most = omega (arith, i.paid, c.in-Some.ensures.steps.at_most, none);
@@ -53,7 +53,7 @@ returns-then-seq-self-clause-steps g c =
 pub invariant_of-self-then-has : goal.invariant_of-self-then-has
 invariant_of-self-then-has g c =
     let m = c.loop-feature.self-inside in
-    ahead-rest m.group.rank c.in-Some.feature c.next.new.self (subst (λ (l : List RecordValue). IsAhead m.group.rank l) c.in-Some.ensures.feature c.loop-feature.invariant.ahead)
+    ahead-rest m.group.seq c.in-Some.feature c.next.new.self (subst (λ (l : List RecordValue). IsAhead m.group.seq l) c.in-Some.ensures.feature c.loop-feature.invariant.ahead)
 
 pub returns-then-has-clause-member : goal.returns-then-has-clause-member
 returns-then-has-clause-member g c =
@@ -71,8 +71,8 @@ returns-then-has-clause-steps g c =
     let r = c.in-Some.feature in
     let rest = c.next.new.self in
     let below : r.start < m.to = omega (arith, c.if-start-from.false, c.start.ensures, c.from.ensures) in
-    let passed : length (between_on m.group.rank 0 m.to (r ∷ rest)) ≡ length (between_on m.group.rank 0 m.to rest) + 1 = here-records m.group.rank m.to r rest (sym c.seq.ensures ∙ c.if-seq-self.false) below in
-    let before : length (between_on m.group.rank 0 m.to m.records) ≡ length (between_on m.group.rank 0 m.to (r ∷ rest)) = ap (λ (l : List RecordValue). length (between_on m.group.rank 0 m.to l)) c.in-Some.ensures.feature in
+    let passed : length (between_on m.group.seq 0 m.to (r ∷ rest)) ≡ length (between_on m.group.seq 0 m.to rest) + 1 = here-records m.group.seq m.to r rest (sym c.seq.ensures ∙ c.if-seq-self.false) below in
+    let before : length (between_on m.group.seq 0 m.to m.records) ≡ length (between_on m.group.seq 0 m.to (r ∷ rest)) = ap (λ (l : List RecordValue). length (between_on m.group.seq 0 m.to l)) c.in-Some.ensures.feature in
     record {
       no_less = omega (arith, i.no_less, c.in-Some.ensures.steps.no_less);
       at_most = omega (arith, i.paid, c.in-Some.ensures.steps.at_most, passed, before);
@@ -88,10 +88,10 @@ loop-feature-preserved g c =
     let r = c.in-Some.feature in
     let rest = c.next.new.self in
     let below : r.start < m.to = omega (arith, c.if-start-from.false, c.start.ensures, c.from.ensures) in
-    let passed : length (between_on m.group.rank 0 m.to (r ∷ rest)) ≡ length (between_on m.group.rank 0 m.to rest) + 1 = here-records m.group.rank m.to r rest (sym c.seq.ensures ∙ c.if-seq-self.false) below in
-    let before : length (between_on m.group.rank 0 m.to m.records) ≡ length (between_on m.group.rank 0 m.to (r ∷ rest)) = ap (λ (l : List RecordValue). length (between_on m.group.rank 0 m.to l)) c.in-Some.ensures.feature in
+    let passed : length (between_on m.group.seq 0 m.to (r ∷ rest)) ≡ length (between_on m.group.seq 0 m.to rest) + 1 = here-records m.group.seq m.to r rest (sym c.seq.ensures ∙ c.if-seq-self.false) below in
+    let before : length (between_on m.group.seq 0 m.to m.records) ≡ length (between_on m.group.seq 0 m.to (r ∷ rest)) = ap (λ (l : List RecordValue). length (between_on m.group.seq 0 m.to l)) c.in-Some.ensures.feature in
     record {
-      ahead = ahead-rest m.group.rank r rest (subst (λ (l : List RecordValue). IsAhead m.group.rank l) c.in-Some.ensures.feature i.ahead);
+      ahead = ahead-rest m.group.seq r rest (subst (λ (l : List RecordValue). IsAhead m.group.seq l) c.in-Some.ensures.feature i.ahead);
       members = sym (other-member m.group m.to r rest (sym c.has.ensures ∙ c.if-has.false)) ∙ sym (ap (members_between m.group 0 m.to) c.in-Some.ensures.feature) ∙ i.members;
       no_less = omega (arith, i.no_less, c.in-Some.ensures.steps.no_less);
       paid = omega (arith, i.paid, c.in-Some.ensures.steps.at_most, passed, before);
@@ -107,7 +107,7 @@ pub returns-clause-steps : goal.returns-clause-steps
 returns-clause-steps g c =
     let i = c.loop-feature.invariant in
     let m = c.loop-feature.self-inside in
-    let none : length (between_on m.group.rank 0 m.to c.next.new.self) ≡ 0 = ap (λ (l : List RecordValue). length (between_on m.group.rank 0 m.to l)) c.in_default.ensures.feature.1 in
+    let none : length (between_on m.group.seq 0 m.to c.next.new.self) ≡ 0 = ap (λ (l : List RecordValue). length (between_on m.group.seq 0 m.to l)) c.in_default.ensures.feature.1 in
     record {
       no_less = omega (arith, i.no_less, c.in_default.ensures.steps.no_less);
       at_most = omega (arith, i.paid, c.in_default.ensures.steps.at_most, none);

@@ -8,10 +8,10 @@ abbrev pub invariant-loop-feature : goal.invariant-loop-feature
 invariant-loop-feature g l =
     let m = l.self-inside in
     record {
-      ahead : IsAhead m.group.rank m.records;
+      ahead : IsAhead m.group.seq m.records;
       members : members_between m.group 0 m.to m.records ≡ l.fn.self.members;
       no_less : l.fn.meter ≤ l.meter;
-      paid : l.meter + length (between_on m.group.rank 0 m.to m.records) ≤ l.fn.meter + l.fn.self.passed_records;
+      paid : l.meter + length (between_on m.group.seq 0 m.to m.records) ≤ l.fn.meter + l.fn.self.passed_records;
     }
 
 abbrev pub decreases-loop-feature : goal.decreases-loop-feature

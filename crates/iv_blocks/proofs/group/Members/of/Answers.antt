@@ -7,7 +7,7 @@ use Rattle.iv_blocks.proofs.group.Members.of.Goals.{then-from-to, else-from-to}
 
 pub invariant_of-result : goal.invariant_of-result
 invariant_of-result g c =
-    subst (λ (l : List RecordValue). IsAhead c.args.group.rank l) (sym c.walk.ensures.records) (ahead-walked c.args.group.rank c.from.result c.args.track.now.records c.walk.ensures.ordered)
+    subst (λ (l : List RecordValue). IsAhead c.args.group.seq l) (sym c.walk.ensures.records) (ahead-walked c.args.group.seq c.from.result c.args.track.now.records c.walk.ensures.ordered)
 
 pub returns-clause-members : goal.returns-clause-members
 returns-clause-members g c =

@@ -14,8 +14,8 @@ use Rattle.iv_blocks.proofs.SideLemmas.{few}
 use Rattle.iv_blocks.proofs.TextLemmas.{rows-next}
 use Rattle.iv_blocks.proofs.merge_sweep.MergeSweep.print.Goals as goal
 
-pub loop-rank-init : goal.loop-rank-init
-loop-rank-init g c =
+pub loop-seq-init : goal.loop-seq-init
+loop-seq-init g c =
     let n : seq_count c.args.genome.now - 0 ≡ seq_count c.args.genome.now = omega arith in
     let records : c.self.inside.records ≡ c.args.self.now.1 = ap (λ (p : BlockOptions × List RecordValue). p.1) c.self.view_is in
     record {
@@ -28,50 +28,50 @@ loop-rank-init g c =
 
 pub split_sequence-here-requires-clause-order : goal.split_sequence-here-requires-clause-order
 split_sequence-here-requires-clause-order g c =
-    subst AreInOrder (sym c.loop-rank.invariant.left_is) (from-order c.loop-rank.rank c.args.self.now.1 c.requires.order)
+    subst AreInOrder (sym c.loop-seq.invariant.left_is) (from-order c.loop-seq.seq c.args.self.now.1 c.requires.order)
 
 pub split_sequence-here-requires-clause-from : goal.split_sequence-here-requires-clause-from
 split_sequence-here-requires-clause-from g c =
-    subst (λ (l : List RecordValue). All (λ r. c.loop-rank.rank ≤ r.seq) l) (sym c.loop-rank.invariant.left_is) (from-in c.loop-rank.rank c.args.self.now.1)
+    subst (λ (l : List RecordValue). All (λ r. c.loop-seq.seq ≤ r.seq) l) (sym c.loop-seq.invariant.left_is) (from-in c.loop-seq.seq c.args.self.now.1)
 
 pub put_sequence-requires : goal.put_sequence-requires
 put_sequence-requires g c =
-    let i = c.loop-rank.invariant in
+    let i = c.loop-seq.invariant in
     let records = c.args.self.now.1 in
-    let rank = c.loop-rank.rank in
-    let room : ℕ = vec_capacity c.loop-rank.self-inside.values in
-    let here : c.split_sequence-here.result.0 ≡ on rank records = c.split_sequence-here.ensures.here ∙ ap (on rank) i.left_is ∙ from-here rank records in
-    let fewer : length c.split_sequence-here.result.0 ≤ length records = omega (arith, ap (λ (l : List RecordValue). length l) here, few (λ (r : RecordValue). r.seq == rank) records) in
+    let seq = c.loop-seq.seq in
+    let room : ℕ = vec_capacity c.loop-seq.self-inside.values in
+    let here : c.split_sequence-here.result.0 ≡ on seq records = c.split_sequence-here.ensures.here ∙ ap (on seq) i.left_is ∙ from-here seq records in
+    let fewer : length c.split_sequence-here.result.0 ≤ length records = omega (arith, ap (λ (l : List RecordValue). length l) here, few (λ (r : RecordValue). r.seq == seq) records) in
     record {
-      room = room-more room room (length records) (length c.split_sequence-here.result.0) (listed c.loop-rank.self-inside.options.summaries) (omega arith) fewer
+      room = room-more room room (length records) (length c.split_sequence-here.result.0) (listed c.loop-seq.self-inside.options.summaries) (omega arith) fewer
           (subst (λ (o : BlockOptions). HasRoom room (length records) (listed o.summaries)) (sym i.options_are) i.room);
     }
 
 pub returns-in_err-put_sequence-clause-text : goal.returns-in_err-put_sequence-clause-text
 returns-in_err-put_sequence-clause-text g c =
-    let i = c.loop-rank.invariant in
+    let i = c.loop-seq.invariant in
     let records = c.args.self.now.1 in
-    let rank = c.loop-rank.rank in
+    let seq = c.loop-seq.seq in
     let genome = c.args.genome.now in
-    let low : rank < seq_count genome = omega (arith, c.loop-rank-test.true, c.count-rank-end.ensures.value) in
-    let here : c.split_sequence-here.result.0 ≡ on rank records = c.split_sequence-here.ensures.here ∙ ap (on rank) i.left_is ∙ from-here rank records in
-    let next = rows-next c.args.self.now.0 genome records c.requires.order c.requires.on_genome c.loop-rank.self-inside.options c.name_or_empty-name.result.now c.split_sequence-here.result.0 rank low i.options_are c.name_or_empty-name.ensures here in
+    let low : seq < seq_count genome = omega (arith, c.loop-seq-test.true, c.count-seq-end.ensures.value) in
+    let here : c.split_sequence-here.result.0 ≡ on seq records = c.split_sequence-here.ensures.here ∙ ap (on seq) i.left_is ∙ from-here seq records in
+    let next = rows-next c.args.self.now.0 genome records c.requires.order c.requires.on_genome c.loop-seq.self-inside.options c.name_or_empty-name.result.now c.split_sequence-here.result.0 seq low i.options_are c.name_or_empty-name.ensures here in
     Puts-err _ _ c.from_residual.result _ c.from_residual.ensures.0
     (Underway-failed _ _ _ _ _ _ _ next i.put c.in_err-put_sequence.ensures.text)
 
-pub loop-rank-preserved : goal.loop-rank-preserved
-loop-rank-preserved g c =
-    let i = c.loop-rank.invariant in
+pub loop-seq-preserved : goal.loop-seq-preserved
+loop-seq-preserved g c =
+    let i = c.loop-seq.invariant in
     let records = c.args.self.now.1 in
-    let rank = c.loop-rank.rank in
+    let seq = c.loop-seq.seq in
     let genome = c.args.genome.now in
-    let low : rank < seq_count genome = omega (arith, c.loop-rank-test.true, c.count-rank-end.ensures.value) in
-    let here : c.split_sequence-here.result.0 ≡ on rank records = c.split_sequence-here.ensures.here ∙ ap (on rank) i.left_is ∙ from-here rank records in
-    let next = rows-next c.args.self.now.0 genome records c.requires.order c.requires.on_genome c.loop-rank.self-inside.options c.name_or_empty-name.result.now c.split_sequence-here.result.0 rank low i.options_are c.name_or_empty-name.ensures here in
+    let low : seq < seq_count genome = omega (arith, c.loop-seq-test.true, c.count-seq-end.ensures.value) in
+    let here : c.split_sequence-here.result.0 ≡ on seq records = c.split_sequence-here.ensures.here ∙ ap (on seq) i.left_is ∙ from-here seq records in
+    let next = rows-next c.args.self.now.0 genome records c.requires.order c.requires.on_genome c.loop-seq.self-inside.options c.name_or_empty-name.result.now c.split_sequence-here.result.0 seq low i.options_are c.name_or_empty-name.ensures here in
     record {
       put = Underway-step _ _ _ _ _ _ _ next i.put c.in_ok-put_sequence.ensures.text;
-      left_is = c.split_sequence-here.ensures.later ∙ ap (λ (l : List RecordValue). filter (λ r. nat_lt rank r.seq) l) i.left_is ∙ from-later rank records;
+      left_is = c.split_sequence-here.ensures.later ∙ ap (λ (l : List RecordValue). filter (λ r. nat_lt seq r.seq) l) i.left_is ∙ from-later seq records;
       options_are = i.options_are;
       records_are = i.records_are;
-      room = room-more (vec_capacity c.loop-rank.self-inside.values) (vec_capacity c.put_sequence.new.values) (length records) (length records) (listed c.args.self.now.0.summaries) c.in_ok-put_sequence.ensures.room (omega arith) i.room;
+      room = room-more (vec_capacity c.loop-seq.self-inside.values) (vec_capacity c.put_sequence.new.values) (length records) (length records) (listed c.args.self.now.0.summaries) c.in_ok-put_sequence.ensures.room (omega arith) i.room;
     }

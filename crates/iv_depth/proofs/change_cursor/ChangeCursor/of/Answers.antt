@@ -1,6 +1,6 @@
 use Rattle.std.proofs.Common.{◌∙◌}
-use Rattle.iv_depth.proofs.RemainingLemmas.{ahead-read, filter-from_first}
+use Rattle.iv_depth.proofs.RemainingLemmas.{ahead-read}
 use Rattle.iv_depth.proofs.change_cursor.ChangeCursor.of.Goals as goal
 
 pub returns-clause-all : goal.returns-clause-all
-returns-clause-all g c = ahead-read _ _ _ c.read-ahead.ensures.next ∙ c.walk-walk.ensures.entries ∙ filter-from_first c.args.changes.now
+returns-clause-all g c = ahead-read _ _ _ c.read-ahead.ensures.next ∙ c.walk_all-walk.ensures.entries

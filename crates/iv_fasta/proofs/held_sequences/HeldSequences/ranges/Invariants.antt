@@ -6,9 +6,9 @@ use Rattle.iv_fasta.specs.Inside.BaseRanges.{placed, IsPlacedWithin}
 use Rattle.iv_fasta.specs.Inside.Drafts.{cut}
 use Rattle.iv_fasta.proofs.held_sequences.HeldSequences.ranges.Given as goal
 
-abbrev pub invariant-loop-rank : goal.invariant-loop-rank
-invariant-loop-rank g l = record {
+abbrev pub invariant-loop-seq : goal.invariant-loop-seq
+invariant-loop-seq g l = record {
   value : placed l.ranges.items l.self.bases.items
-      ≡ take l.rank (only (option_map (λ ranks. ranks.items) l.wanted) (held_by_rank l.genome (cut l.self.headers l.self.bases.items l.self.count)));
+      ≡ take l.seq (only (option_map (λ ranks. ranks.items) l.wanted) (held_by_rank l.genome (cut l.self.headers l.self.bases.items l.self.count)));
   within : All (IsPlacedWithin (length l.self.bases.items)) l.ranges.items;
 }

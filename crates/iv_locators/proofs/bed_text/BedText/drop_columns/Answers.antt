@@ -1,4 +1,5 @@
 use Rattle.std.proofs.Common.{List, map, ap, arith, ◌∙◌}
+use Rattle.std.specs.Cow.{cow_slice_items}
 use Rattle.iv_lines.specs.RecordValue.{RecordValue}
 use Rattle.iv_text.specs.BedFile.{Bed}
 use Rattle.iv_locators.specs.Locators.{bare}
@@ -11,11 +12,11 @@ invariant_of-self g c = record {
   low = omega arith;
   high = omega arith;
   some = c.self.invariant.some;
-  whole = three-whole c.self.inside.text.now c.self.inside.locators.items;
+  whole = three-whole (cow_slice_items c.self.inside.text) c.self.inside.locators.items;
 }
 
 pub returns : goal.returns
 returns g c =
     let with_rows : List RecordValue → Bed = λ records. record { width = 3; records = records } in
     let dropped : Bed → Bed = λ b. record { width = 3; records = map bare b.records } in
-    ap with_rows (rows-bare c.self.inside.width c.self.inside.text.now c.self.inside.locators.items) ∙ ap dropped c.self.view_is
+    ap with_rows (rows-bare c.self.inside.width (cow_slice_items c.self.inside.text) c.self.inside.locators.items) ∙ ap dropped c.self.view_is

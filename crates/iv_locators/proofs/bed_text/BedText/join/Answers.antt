@@ -1,4 +1,5 @@
 use Rattle.std.proofs.Common.{All, List, map, sym, ap, subst, ◌≡◌, ◌∙◌}
+use Rattle.std.specs.Cow.{cow_slice_items}
 use Rattle.iv_text.specs.BedFile.{Bed}
 use Rattle.iv_lines.specs.RecordValue.{RecordValue}
 use Rattle.iv_lines.specs.Ordered.{AreInOrder}
@@ -17,15 +18,15 @@ invariant_of-self g c = record {
   low = c.self.invariant.low;
   high = c.self.invariant.high;
   some = subst (All HasBase) (sym c.join_locators.ensures) (bases-joined c.self.inside.locators.items c.self.invariant.some);
-  whole = subst (All (HasAllColumns c.self.inside.width c.self.inside.text.now)) (sym c.join_locators.ensures)
-      (whole-joined c.self.inside.width c.self.inside.text.now c.self.inside.locators.items c.self.invariant.whole);
+  whole = subst (All (HasAllColumns c.self.inside.width (cow_slice_items c.self.inside.text))) (sym c.join_locators.ensures)
+      (whole-joined c.self.inside.width (cow_slice_items c.self.inside.text) c.self.inside.locators.items c.self.invariant.whole);
 }
 
 pub returns : goal.returns
 returns g c =
     let b = c.self.inside in
     let old = b.locators.items in
-    let text = b.text.now in
+    let text = cow_slice_items b.text in
     let new = c.join_locators.new.locators.items in
     let order : AreInOrder (records_at b.width text old) = subst (λ (bed : Bed). AreInOrder bed.records) (sym c.self.view_is) c.requires in
     let left : c.drop_columns.new.self.records ≡ map bare (records_at b.width text new) = ap (λ (bed : Bed). bed.records) c.drop_columns.ensures in

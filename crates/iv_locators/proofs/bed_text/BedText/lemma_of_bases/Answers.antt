@@ -1,4 +1,5 @@
 use Rattle.std.proofs.Common.{◌<◌, All, subst}
+use Rattle.std.specs.Cow.{cow_slice_items}
 use Rattle.std.proofs.lemmas.List.Elements.{All-map}
 use Rattle.iv_text.specs.BedFile.{Bed}
 use Rattle.iv_lines.specs.RecordValue.{RecordValue}
@@ -9,4 +10,4 @@ pub returns : goal.returns
 returns g c =
     let b = c.self.inside in
     subst (λ (bed : Bed). All (λ (r : RecordValue). r.start < r.stop) bed.records) c.self.view_is
-    (All-map (λ (r : RecordValue). r.start < r.stop) (record_at b.width b.text.now) b.locators.items c.self.invariant.some)
+    (All-map (λ (r : RecordValue). r.start < r.stop) (record_at b.width (cow_slice_items b.text)) b.locators.items c.self.invariant.some)

@@ -6,5 +6,5 @@ use Rattle.iv_run.proofs.run_files.RunGenome.parse_text.Goals as goal
 
 pub returns-clause-says : goal.returns-clause-says
 returns-clause-says g c =
-    subst (λ (on : GenomeRead). IsHeld on.genome on.width on.limit c.args.text.now c.parse.result) c.self.view_is
+    subst (λ (run_genome : GenomeRead). IsHeld run_genome.genome run_genome.width run_genome.limit c.args.text.now c.parse.result) c.self.view_is
     (answer-of c.parse.result _ c.parse.ensures.ok c.parse.ensures.err)

@@ -1,6 +1,7 @@
 use Rattle.std.proofs.Common.{IfOk, List, ℕ, subst}
 use Rattle.std.specs.Option.{option_map}
-use Rattle.std.proofs.lemmas.Result.{err_from_is_err_and, IfOk-weaker}
+use Rattle.std.proofs.lemmas.Result.{IfOk-weaker}
+use Rattle.iv_lines.proofs.PieceLemmas.{handed-on}
 use Rattle.iv_fasta.specs.FastaReading.{Wanted}
 use Rattle.iv_run.specs.Files.{ReadsWhole}
 use Rattle.iv_run.specs.RunFiles.{GenomeRead, IsEnoughOf, IsFasta}
@@ -9,8 +10,7 @@ use Rattle.iv_run.proofs.run_files.RunGenome.read_fasta.Goals as goal
 
 pub returns-in_err-wanted-clause-err : goal.returns-in_err-wanted-clause-err
 returns-in_err-wanted-clause-err g c =
-    let p = err_from_is_err_and c.from_residual.result c.from_residual.ensures.1 in
-    rw (p.1, p.2) (StopsReading-at_once (g.R.Source.state c.args.source.now) c.args.most)
+    handed-on c.from_residual.result _ _ c.from_residual.ensures.1 (StopsReading-at_once (g.R.Source.state c.args.source.now) c.args.most)
 
 pub returns-clause-ok : goal.returns-clause-ok
 returns-clause-ok g c =
@@ -18,7 +18,7 @@ returns-clause-ok g c =
     let new = g.R.Source.state c.read_fasta.new.source in
     let wanted = option_map (λ ranks. ranks.items) c.in_ok-wanted.wanted in
     let enough : Wanted → Type 0 = λ w. g.H.HoldsFile.is_enough w c.args.first.now in
-    subst (λ (on : GenomeRead). IfOk c.read_fasta.result (λ held. (text : List ℕ) × ReadsWhole old new c.args.most text × IsEnoughOf enough on.genome text held)) c.self.view_is
+    subst (λ (run_genome : GenomeRead). IfOk c.read_fasta.result (λ held. (text : List ℕ) × ReadsWhole old new c.args.most text × IsEnoughOf enough run_genome.genome text held)) c.self.view_is
     (IfOk-weaker c.read_fasta.result (λ held. (text : List ℕ) × ReadsWhole old new c.args.most text × IsFasta wanted c.self.inside.genome text held)
     (λ held. (text : List ℕ) × ReadsWhole old new c.args.most text × IsEnoughOf enough c.self.inside.genome text held)
     (λ held read. (read.0, read.1, (wanted, c.in_ok-wanted.ensures, read.2))) c.read_fasta.ensures.ok)

@@ -1,6 +1,7 @@
 use Rattle.std.proofs.Common.{◌≡◌, refl, sym, subst}
 use Rattle.std.specs.Prelude.{None, IfErr}
 use Rattle.std.specs.BTreeMap.{is_at}
+use Rattle.std.proofs.lemmas.Bool.{false≢true}
 use Rattle.iv_lines.specs.RecordValue.{RecordValue, record_cmp}
 use Rattle.iv_track.specs.Entries.{IsLedger, value_at}
 use Rattle.iv_track.specs.Inside.Stored.{IsStored, stored}
@@ -27,11 +28,11 @@ returns-clause-absent g c =
           (of-full (λ es. IfErr w.set.result (λ back. back ≡ n × (value_at record_cmp es feature ≡ None))) _ _ w.in-Full.ledger c.self.view_is w.in-Full.is w.set.ensures.absent)
       | in-Bed3+in-Some w ↦ subst (λ r. IfErr r (λ back. back ≡ n × (value_at record_cmp c.args.self.now feature ≡ None))) (sym w.result-is)
           (of-bed3 (λ es. IfErr w.set-in-Some.result (λ back. back ≡ n × (value_at record_cmp es feature ≡ None))) _ _ w.in-Bed3.ledger c.self.view_is w.in-Bed3.is
-          (subst (λ (k : RecordValue). IfErr w.set-in-Some.result (λ back. back ≡ n × (value_at record_cmp w.in-Bed3.ledger k ≡ None))) w.in-Some.ensures w.set-in-Some.ensures.absent))
+          (subst (λ (k : RecordValue). IfErr w.set-in-Some.result (λ back. back ≡ n × (value_at record_cmp w.in-Bed3.ledger k ≡ None))) w.in-Some.ensures.same w.set-in-Some.ensures.absent))
       | in-Bed3+in-None w ↦ subst (λ r. IfErr r (λ back. back ≡ n × (value_at record_cmp c.args.self.now feature ≡ None))) (sym w.result-is) (
         refl,
         of-bed3 (λ es. value_at record_cmp es feature ≡ None) _ _ w.in-Bed3.ledger c.self.view_is w.in-Bed3.is
-            (absent w.in-Bed3.ledger feature w.in-None.ensures (three-stored _ w.in-Bed3.ledger w.in-Bed3.is c.self.invariant)),
+            (absent w.in-Bed3.ledger feature (λ is. false≢true (w.in-None.ensures.three.1 is)) (three-stored _ w.in-Bed3.ledger w.in-Bed3.is c.self.invariant)),
       )
     ]
 

@@ -1,6 +1,7 @@
 use Rattle.std.proofs.Common.{◌≡◌, ◌∙◌, ap, sym, subst}
 use Rattle.std.specs.BTreeMap.{is_at}
 use Rattle.std.specs.Map.{remove_entry}
+use Rattle.std.proofs.lemmas.Bool.{false≢true}
 use Rattle.iv_lines.specs.RecordValue.{RecordValue, record_cmp}
 use Rattle.iv_track.specs.Entries.{IsLedger}
 use Rattle.iv_track.specs.Inside.Stored.{IsStored, stored}
@@ -25,10 +26,10 @@ returns-clause-rest g c =
           ∙ of-full (λ es. w.take.new.self ≡ remove_entry (is_at (record_cmp feature)) es) _ _ w.in-Full.ledger c.self.view_is w.in-Full.is w.take.ensures.rest
       | in-Bed3+in-Some w ↦ ap (λ i. stored i.storage) w.self-inside-is
           ∙ of-bed3 (λ es. w.take-in-Some.new.self ≡ remove_entry (is_at (record_cmp feature)) es) _ _ w.in-Bed3.ledger c.self.view_is w.in-Bed3.is
-          (w.take-in-Some.ensures.rest ∙ ap (λ (k : RecordValue). remove_entry (is_at (record_cmp k)) w.in-Bed3.ledger) w.in-Some.ensures)
+          (w.take-in-Some.ensures.rest ∙ ap (λ (k : RecordValue). remove_entry (is_at (record_cmp k)) w.in-Bed3.ledger) w.in-Some.ensures.same)
       | in-Bed3+in-None w ↦ ap (λ i. stored i.storage) w.self-inside-is
           ∙ of-bed3 (λ es. w.in-Bed3.ledger ≡ remove_entry (is_at (record_cmp feature)) es) _ _ w.in-Bed3.ledger c.self.view_is w.in-Bed3.is
-          (sym (absent-removed w.in-Bed3.ledger feature w.in-None.ensures (three-stored _ w.in-Bed3.ledger w.in-Bed3.is c.self.invariant)))
+          (sym (absent-removed w.in-Bed3.ledger feature (λ is. false≢true (w.in-None.ensures.three.1 is)) (three-stored _ w.in-Bed3.ledger w.in-Bed3.is c.self.invariant)))
     ]
 
 pub returns-clause-ordered : goal.returns-clause-ordered

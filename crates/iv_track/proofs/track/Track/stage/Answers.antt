@@ -1,6 +1,5 @@
 use Rattle.std.proofs.Common.{ℕ, ◌≡◌, ◌+◌, ◌<◌, ◌∙◌, sym, ap, arith, List, length, subst}
-use Rattle.std.proofs.Common.{Result, Ok, Err}
-use Rattle.std.specs.Prelude.{All, unwrap_or, OnErr, slice_index_or, slice_set}
+use Rattle.std.specs.Prelude.{All, unwrap_or, slice_index_or, slice_set}
 use Rattle.std.specs.Map.{keys_of}
 use Rattle.iv_lines.specs.RecordValue.{RecordValue, record_cmp}
 use Rattle.iv_track.specs.Entries.{value_at}
@@ -10,6 +9,7 @@ use Rattle.iv_track.specs.Copies.{expanded}
 use Rattle.iv_track.specs.Inside.LengthClasses.{AreClasses, length_class}
 use Rattle.iv_track.proofs.ClassLemmas.{classes-added, classes-room}
 use Rattle.iv_track.proofs.TrackLemmas.{count_here, count-le-len, len-rows, staged_rows, staged_track}
+use Rattle.iv_track.proofs.RoomLemmas.{always_on_err}
 use Rattle.iv_track.proofs.track.Track.stage.Goals as goal
 
 pub overflow_add-count : goal.overflow_add-count
@@ -43,15 +43,10 @@ returns-clause-ok g c =
     ap with_rows (staged_rows i.ledger c.put.new.self i.len i.width i.limit c.args.feature c.self.invariant.track c.unwrap_or-count.result e c.in_ok-put.ensures.ok)
     ∙ ap (λ (t : Tracked). record t { records = added t.records c.args.feature }) c.self.view_is
 
--- what holds holds after a refusal
-after_refusal : {X E : Type 0} (res : Result X E) (P : Type 0) → P → OnErr res P
-after_refusal (Ok x) P p = tt
-after_refusal (Err e) P p = p
-
 pub returns-in_err-put-clause-memory : goal.returns-in_err-put-clause-memory
 returns-in_err-put-clause-memory g c =
     let i = c.self.inside in
-    after_refusal c.from_residual.result (copies c.args.self.now.records c.args.feature ≡ 0) (
+    always_on_err c.from_residual.result (
     ap (λ (t : Tracked). copies t.records c.args.feature) (sym c.self.view_is)
     ∙ count_here i.ledger i.len i.width i.limit c.args.feature c.self.invariant.track
     ∙ ap (λ o. unwrap_or o 0) c.in_err-put.ensures.absent

@@ -1,6 +1,6 @@
 use Rattle.std.proofs.Common.{◌∙◌, refl}
 use Rattle.iv_locators.proofs.RankLemmas.{any-more, any-none}
-use Rattle.iv_locators.proofs.located_bed.marked.Goals as goal
+use Rattle.iv_locators.proofs.ranks.marked.Goals as goal
 
 pub loop-locator-init : goal.loop-locator-init
 loop-locator-init g c = λ seq. rw c.new-ranks.ensures.items refl

@@ -1,7 +1,7 @@
 use Rattle.std.proofs.Common.{◌≡◌, ◌||◌, ℕ, drop}
 use Rattle.std.specs.List.{list_any}
 use Rattle.iv_locators.specs.Inside.Ranks.{is_at, is_marked}
-use Rattle.iv_locators.proofs.located_bed.marked.Given as goal
+use Rattle.iv_locators.proofs.ranks.marked.Given as goal
 
 -- the marks and the locators that are left say of each rank what all locators say
 abbrev pub invariant-loop-locator : goal.invariant-loop-locator

@@ -1,9 +1,9 @@
 //! The hint on how a run has ended.
 use crate::damage::Damage;
-use crate::files::{FRONT_BYTES, HintFiles, NoFile, RunFiles};
 use crate::hint::{Escaped, Hint, say};
 use crate::losses::put_loss;
 use crate::options::{is_comma, value_after};
+use crate::plan_files::{FRONT_BYTES, HintFiles, NoFile, PlanFiles};
 use crate::words::put_words;
 use iv_args::{Plan, Slot};
 use iv_cli::ExitReason;
@@ -39,7 +39,11 @@ pub fn hint_of<F: HintFiles>(
         (ExitReason::Output, _) => put_output(line, &mut hint)?,
         (ExitReason::Memory, _) => hint.put(IN_PARTS)?,
         (_, Ok(plan)) => {
-            put_of_plan(exit_reason, &mut RunFiles { alloc, plan, files }, &mut hint)?;
+            put_of_plan(
+                exit_reason,
+                &mut PlanFiles { alloc, plan, files },
+                &mut hint,
+            )?;
         }
         (_, Err(_)) => {}
     }
@@ -83,7 +87,7 @@ fn put_output(line: u64, hint: &mut Hint) -> Result<(), AllocError> {
 /// Puts the hint of a run whose arguments ask for a plan.
 fn put_of_plan<F: HintFiles>(
     exit_reason: ExitReason,
-    files: &mut RunFiles<'_, '_, F>,
+    files: &mut PlanFiles<'_, '_, F>,
     hint: &mut Hint,
 ) -> Result<(), AllocError> {
     match exit_reason {
@@ -118,7 +122,7 @@ fn put_of_plan<F: HintFiles>(
 /// Puts which column is missing, of how many.
 fn put_columns<F: HintFiles>(
     fault: Fault,
-    files: &mut RunFiles<'_, '_, F>,
+    files: &mut PlanFiles<'_, '_, F>,
     hint: &mut Hint,
 ) -> Result<(), AllocError> {
     let (width, has_record) = files.width(Slot::First)?;
@@ -152,7 +156,7 @@ pub(crate) fn put_missing_column(
 fn put_damage<F: HintFiles>(
     slot: Slot,
     fault: LoadFault,
-    files: &mut RunFiles<'_, '_, F>,
+    files: &mut PlanFiles<'_, '_, F>,
     hint: &mut Hint,
 ) -> Result<(), AllocError> {
     let line = files.line(slot, fault.line)?;

@@ -1,5 +1,5 @@
 //! Numbers that are in order except for neighbours that are the wrong way round.
-use iv_locators::order_nearly;
+use iv_locators::order_neighbors;
 use std::test::Fail;
 
 /// How many runs of neighbours there are.
@@ -31,7 +31,7 @@ fn ascend(numbers: &[u32]) -> bool {
 /// Whether the call comes to the end, whether the numbers ascend then, and whether they do once they are sorted.
 fn ordered(rt: &HostRuntime, run: u32) -> Result<(bool, bool, bool), Fail> {
     let mut numbers = turned(rt, run)?;
-    let is_done = order_nearly(numbers.as_mut_slice(), |before, here| *before > *here);
+    let is_done = order_neighbors(numbers.as_mut_slice(), |before, here| *before > *here);
     let is_ordered = ascend(&numbers);
     numbers.sort_unstable();
     Ok((is_done, is_ordered, ascend(&numbers)))

@@ -49,13 +49,13 @@ pub(crate) struct Front {
 
 /// The files of a run, and what its arguments ask for.
 #[derive(Drop)]
-pub(crate) struct RunFiles<'a, 'f, F> {
+pub(crate) struct PlanFiles<'a, 'f, F> {
     pub(crate) alloc: Global,
     pub(crate) plan: Plan<'a>,
     pub(crate) files: &'f mut F,
 }
 
-impl<'a, F: HintFiles> RunFiles<'a, '_, F> {
+impl<'a, F: HintFiles> PlanFiles<'a, '_, F> {
     /// The name of a file, empty if the run has none.
     pub(crate) fn name(&self, slot: Slot) -> &'a [u8] {
         self.plan.file(slot).unwrap_or(b"")
