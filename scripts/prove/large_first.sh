@@ -1,9 +1,9 @@
 #!/usr/bin/env bash
-# Proves the crates that hold up most others, before `rt ci` proves all.
+# Proves the library crates below the program, before `rt ci` proves all.
 #
 # `rt ci` gives a crate the processors that are idle when it starts. A large one that starts beside others gets one, and holds up all
-# crates above it long after the others have ended. Here the large ones have half of the processors, one crate after another, and
-# smaller ones that don't need them the other half. `rt ci` then takes what was proved.
+# crates above it long after the others have ended. Here two runs go on side by side, each with half of the processors: one proves
+# the crates that hold up most, and the other those that don't wait for them. `rt ci` then takes what was proved.
 #
 # Nothing is done if the toolchain keeps no proofs for another run, or if a processor has less than 5 GB: a check takes up to 4.2.
 #
@@ -13,7 +13,6 @@
 set -eu
 rt=$(realpath "$(command -v "${RT:-rt}")")
 cd "$(dirname "$0")/../.."
-half=$((($(nproc) + 1) / 2))
 available=$(sed -n 's/^MemAvailable: *\([0-9]*\) kB$/\1/p' /proc/meminfo)
 if [ "$available" -lt $(($(nproc) * 5000000)) ] || ! "$rt" ci --help 2>&1 | grep -q -e --anew; then
     exit
@@ -39,7 +38,7 @@ prove() {
 }
 
 prove_beside() {
-    (copy "$@" && RT_JOBS=$half exec setsid "$rt" ci) &
+    (copy "$@" && exec setsid "$rt" ci) &
     beside=$!
 }
 
@@ -55,4 +54,13 @@ prove iv_cover
 await
 prove_beside iv_pair iv_depth
 prove iv_blocks
+await
+prove iv_view
+prove_beside iv_run
+prove iv_workspace
+prove iv_session
+await
+prove iv_cli
+prove_beside iv_program
+prove iv_hints
 await
