@@ -513,8 +513,8 @@ class Interrupted(Case):
         handler = signal.signal(signal.SIGALRM, lambda *_: signal.raise_signal(signal.SIGINT))
         self.addCleanup(signal.signal, signal.SIGALRM, handler)
         for _ in range(200):
-            signal.setitimer(signal.ITIMER_REAL, chance.random() * 0.01)
             try:
+                signal.setitimer(signal.ITIMER_REAL, chance.random() * 0.01)
                 chance.choice([
                     lambda: session.edit(f"add\tchr1\t{number}\t1000\tx" for number in range(chance.randrange(500))),
                     lambda: session.add("chr2", chance.randrange(100), 200, "y"),
