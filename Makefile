@@ -54,7 +54,7 @@ check:
 	python3 scripts/test/sizes.py $(UNPROVED)
 
 build:
-	RT=$(RT) scripts/prove/build.sh
+	RT=$(RT) python3 scripts/prove/build.py
 	mkdir -p build && cp crates/bedkeep/out/bedkeep $(PROGRAM)
 
 demo: build
@@ -81,10 +81,8 @@ uninstall:
 	rm -rf $(addprefix $(DESTDIR)$(datadir)/bedkeep/python/bedkeep/,__pycache__ review/__pycache__)
 	find $(DESTDIR)$(docdir) $(DESTDIR)$(datadir)/bedkeep -depth -type d -empty -delete 2> /dev/null || true
 
-# It builds for itself, since a release is linked from the object file of the program.
-dist:
-	RT=$(RT) scripts/prove/build.sh --object
-	mkdir -p build && cp crates/bedkeep/out/bedkeep $(PROGRAM)
+# A release is linked from the object file of the program, which the build leaves beside it.
+dist: build
 	RT=$(RT) scripts/release/pack.sh
 
 # rt ci leaves the program that it proved and built beside the crate.

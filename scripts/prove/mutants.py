@@ -7,7 +7,7 @@
 
 A function is proved from the contracts of what it calls, whatever their bodies do. So mutants of different functions are planted
 together, and each is refused if its own function isn't proved. One that such a run doesn't decide is tried alone, and is refused if
-the crate isn't proved. Nothing is changed here: a copy is checked, crate by crate, over what earlier checks on this machine left.
+the crate isn't proved. Nothing is changed here: a copy is checked, crate by crate, over what `make build` or `rt check` left here.
 RT names Rattle's command if it isn't on the path. Status 1 if a mutant is proved, or can't be planted or read.
 """
 import os
@@ -133,6 +133,9 @@ def main():
     with tempfile.TemporaryDirectory() as top:
         subprocess.run([TOP / "scripts/prove/copy_crates.sh", top, *chosen], check=True)
         uses = dict(line.split(":") for line in Path(top, "crates.txt").read_text().splitlines())
+        for name in uses:
+            if (TOP / "crates" / name / "out").is_dir():
+                shutil.copytree(TOP / "crates" / name / "out", Path(top, "crates", name, "out"))
         below = lambda name: {name}.union(*(below(other) for other in uses[name].split() if other in uses))
         # All above a crate come before it, so that none is checked over one of its mutants.
         for name in sorted(chosen, key=lambda name: -len(below(name))):
