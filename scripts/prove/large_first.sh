@@ -56,11 +56,8 @@ prove_beside iv_pair iv_depth
 prove iv_blocks
 await
 prove iv_view
-prove_beside iv_run
+prove_beside iv_hints
 prove iv_workspace
 prove iv_session
 await
-prove iv_cli
-prove_beside iv_program
-prove iv_hints
-await
+prove iv_program

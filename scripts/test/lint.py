@@ -2,7 +2,7 @@
 """Searches in the crates for two things that no contract can say and that only reading shows.
 
 Memory: a value that says that memory ran out is made only where an allocation failure is turned into a fault, in a
-block `impl From<..> for FAULT`; all other code hands it on by `?`. A contract cannot tell a call that met a refusal
+block `impl From<..> for FAULT`; all other code hands it on by `?`, or by an arm that makes one out-of-memory value of another. A contract cannot tell a call that met a refusal
 from one that gave up, since an allocator's refusals have no place in the logic. So the names NoMemory, Memory and
 AllocError may stand in patterns, comparisons, types, declarations and `use` lines, and as values in those blocks
 alone. AllocError itself is made in `test_faults` alone, the allocator that refuses on purpose, and where FULL_COUNTS says
@@ -142,6 +142,12 @@ def conversions(code):
             yield body
 
 
+def handed_on(code):
+    """The arms that look at an out-of-memory value alone, and make another one of it."""
+    for m in re.finditer(r"[{,]\s*(?:\w+::)*(?:NoMemory|Memory)\s*=>\s*(?:\w+::)+(?:NoMemory|Memory)\s*(?=[,}])", code):
+        yield m.span()
+
+
 def full_counts(place, code):
     """The blocks that are for a count which can't grow."""
     test, constant = FULL_COUNTS.get(place, (r"(?!)", ""))
@@ -165,7 +171,7 @@ def is_in(at, stretches):
 def memory_made(place, code):
     """The places where a value is made that says that memory ran out."""
     crate = crate_of(place)
-    allowed = [*patterns(code), *declarations(code), *conversions(code), *full_counts(place, code)]
+    allowed = [*patterns(code), *declarations(code), *conversions(code), *handed_on(code), *full_counts(place, code)]
     for m in REFUSED.finditer(code):
         only_named = crate.startswith("test_") and m.group() != "AllocError"
         if crate != "test_faults" and not only_named and not is_in(m.start(), allowed):
@@ -242,6 +248,9 @@ PLANTED = [
     ("iv_text", "enum Why { TooMany, Memory }\nfn f(c: Why) -> bool { if let Why::Memory = c { true } else { false } }", None),
     ("iv_text", "impl From<AllocError> for Why { fn from(_: AllocError) -> Why { Why::Memory } }", None),
     ("iv_cli", "impl From<Why> for Fault { fn from(why: Why) -> Fault { match why { Why::Memory => Fault::Memory, _ => Fault::Other } } }", None),
+    ("iv_cli", "fn f(why: Why) -> Fault { match why { Why::Memory => Fault::Memory, _ => Fault::Other } }", None),
+    ("iv_cli", "fn f(why: Why) -> Fault { match why { Why::Memory | Why::Other => Fault::Memory, _ => Fault::Other } }", MADE),
+    ("iv_cli", "fn f(why: Why) -> Fault { match why { Why::Other => Fault::Memory, _ => Fault::Other } }", MADE),
     ("iv_cli", "fn f(why: Why) -> bool { why == Why::Memory || matches!(why, Why::Memory | Why::Other) }", None),
     ("test_text_and_track", "fn f() -> bool { g() == Err(EditFault::NoMemory) }", None),
     ("iv_depth", "fn f() -> u64 { let meter = Meter::new(); meter.steps() }", METERS),

@@ -1,5 +1,5 @@
 //! The rows of a merge.
-ghost use Rattle.std.specs.Prelude.{◌≡◌, ◌++◌, ◌+◌, All, length, codes, decimal};
+ghost use Rattle.std.specs.Prelude.{◌++◌, ◌+◌, All, length, codes, decimal};
 ghost use Rattle.iv_bytes.specs.Sinks.{Puts};
 ghost use Rattle.iv_lines.specs.Named.{names_of};
 ghost use Rattle.iv_lines.specs.Read.{Fits};

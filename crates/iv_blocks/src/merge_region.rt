@@ -1,5 +1,5 @@
 //! The rows of a merge in one region.
-ghost use Rattle.std.specs.Prelude.{◌≡◌, ◌+◌, ◌*◌, ◌<◌, All, length};
+ghost use Rattle.std.specs.Prelude.{◌+◌, ◌*◌, ◌<◌, All, length};
 ghost use Rattle.std.specs.List.{flat_map};
 ghost use Rattle.iv_bytes.specs.Sinks.{Puts};
 ghost use Rattle.iv_lines.specs.Genome.{sequence_name};

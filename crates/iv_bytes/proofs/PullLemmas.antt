@@ -6,7 +6,7 @@ use Rattle.std.proofs.lemmas.Slice.{take-put_mid}
 use borrow.Rule.Slice.PartMut.{put_mid}
 use lib.Seq.{take_at}
 use Rattle.std.proofs.KnownBytes.{Consumes-nil, Consumes-trans}
-use Rattle.iv_bytes.specs.Sources.{SourceState, Gives, Reads}
+use Rattle.iv_bytes.specs.Sources.{SourceState, Reads}
 use Rattle.iv_bytes.proofs.PutLemmas.{tail_is}
 
 -- a piece of the bytes in memory was copied to the front of a buffer

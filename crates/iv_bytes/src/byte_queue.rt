@@ -1,7 +1,7 @@
 //! A queue of bytes in a fixed array.
 ghost use Rattle.std.specs.Prelude.{◌≡◌, ◌↔◌, false, if◌then◌else◌, [], ℕ, ◌-◌, ◌++◌, ◌<◌, ◌≤◌, List, length, take, drop, slice_range, true, IfOk, OnErr, IsTrue};
 ghost use Rattle.std.specs.Io.KnownBytes.{IsAtEnd};
-ghost use Rattle.iv_bytes.specs.Sources.{SourceState, Gives, Reads, answered, answers};
+ghost use Rattle.iv_bytes.specs.Sources.{Reads, answered, answers};
 
 use crate::source::{ReadFault, Source};
 use std::marker::Model;

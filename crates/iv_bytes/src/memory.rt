@@ -1,5 +1,5 @@
 //! Sinks and sources over memory.
-ghost use Rattle.std.specs.Prelude.{◌≡◌, ◌↔◌, false, true, [], ℕ, ◌<◌, ◌≤◌, length, take, vec_capacity, IfOk, OnErr, IsErr, IsTrue, ◌⊎◌};
+ghost use Rattle.std.specs.Prelude.{◌≡◌, ◌↔◌, false, true, [], ◌<◌, ◌≤◌, length, take, vec_capacity, IfOk, OnErr, IsErr, IsTrue, ◌⊎◌};
 ghost use Rattle.std.specs.Io.KnownBytes.{IsAtEnd};
 ghost use Rattle.iv_bytes.specs.Sinks.{Takes, FailsIn, in_memory};
 ghost use Rattle.iv_bytes.specs.Sources.{Gives, answered, from_memory};

@@ -1,5 +1,5 @@
 //! Sinks, which take bytes in pieces, putting whole texts into them, and a buffer above a sink.
-ghost use Rattle.std.specs.Prelude.{◌≡◌, [], ◌<◌, ◌≤◌, length, take, IfOk, IfSome, OnErr, IsErr, IsTrue, false, ℕ, Ok, OnOk};
+ghost use Rattle.std.specs.Prelude.{◌≡◌, [], ◌<◌, ◌≤◌, length, take, IfOk, IfSome, OnErr, IsErr, IsTrue, Ok, OnOk};
 ghost use Rattle.std.specs.List.{flat_map};
 ghost use Rattle.iv_bytes.specs.Sinks.{SinkState, Takes, FailsIn, Puts, buffered, waiting};
 

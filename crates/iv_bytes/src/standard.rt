@@ -1,7 +1,6 @@
 //! Sinks and sources over std's writers and readers.
 ghost use Rattle.std.specs.Prelude.{◌≡◌, false};
 ghost use Rattle.iv_bytes.specs.Sinks.{unbuffered};
-ghost use Rattle.iv_bytes.specs.Sources.{SourceState};
 
 use crate::sink::{Flush, Sink, WriteFault};
 use crate::source::{ReadFault, Source, counted};

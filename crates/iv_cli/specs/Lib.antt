@@ -1,2 +1,2 @@
-pub mod ExitReasons
 pub mod Loading
+pub mod ScriptEndings

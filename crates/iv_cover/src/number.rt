@@ -1,9 +1,9 @@
 //! Numbers among the values of a column, and how they are combined.
-ghost use Rattle.std.specs.Prelude.{◌≡◌, ◌≤◌, ◌+◌, ◌<◌, ◌^◌, ◌∷◌, List, ℕ, None, unsigned_abs, IfOk, IfSome, OnErr, decimal};
+ghost use Rattle.std.specs.Prelude.{◌≡◌, ◌≤◌, ◌+◌, ◌<◌, ◌^◌, None, unsigned_abs, IfSome, decimal};
 ghost use Rattle.std.specs.List.{reduce};
 ghost use Rattle.std.specs.Option.{option_and_then};
 ghost use Rattle.iv_cover.specs.Columns.{column_value};
-ghost use Rattle.iv_cover.specs.Inside.NumberFolds.{both_of, with_number, size, going};
+ghost use Rattle.iv_cover.specs.Inside.NumberFolds.{both_of, with_number, size};
 ghost use Rattle.iv_cover.specs.ParsedNumber.{IsShort, spelled};
 ghost use Rattle.iv_cover.specs.Summaries.{number_of, numbers_of};
 

@@ -1,5 +1,5 @@
 //! What is held of a FASTA file of which some bytes were read.
-ghost use Rattle.std.specs.Prelude.{◌≡◌, ◌≢◌, ◌≤◌, ◌<◌, ◌+◌, ◌^◌, ◌⊎◌, ◌++◌, ◌==◌, ◌||◌, not, ℕ, List, Bool, cond, [], None, Some, false, true, Ok, Err, IfOk, IfErr, OnOk, All, length, slice_index};
+ghost use Rattle.std.specs.Prelude.{◌≡◌, ◌≢◌, ◌<◌, ◌+◌, ◌^◌, ◌⊎◌, ◌++◌, ◌==◌, ℕ, List, Bool, [], None, Some, false, true, Ok, Err, IfOk, IfErr, OnOk, All, length, slice_index};
 ghost use Rattle.std.specs.Option.{option_map};
 ghost use Rattle.iv_lines.specs.declared.fault.LoadCause.TheVariants as cause;
 ghost use Rattle.iv_lines.specs.Genome.{Sequences};

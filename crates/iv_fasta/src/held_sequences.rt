@@ -1,10 +1,9 @@
 //! The sequences of a FASTA file, and those of their bases that are held.
-ghost use Rattle.std.specs.Prelude.{◌≡◌, ◌≤◌, ◌<◌, ◌+◌, ◌^◌, ◌++◌, ◌∷◌, ◌==◌, false, [], None, Ok, Err, OnOk, OnErr, IfOk, IfErr, IfSome, All, length, slice_get, find};
+ghost use Rattle.std.specs.Prelude.{◌≡◌, ◌<◌, ◌+◌, ◌^◌, ◌++◌, ◌∷◌, ◌==◌, false, [], None, Ok, Err, OnOk, OnErr, IfOk, IfErr, IfSome, All, length, slice_get, find};
 ghost use Rattle.std.specs.Map.{lookup};
 ghost use Rattle.std.specs.Option.{option_map, is_some};
 ghost use Rattle.std.specs.Str.{bytes_eq};
 ghost use Rattle.iv_lines.specs.Named.{name_index};
-ghost use Rattle.iv_lines.specs.declared.fault.LoadCause.TheVariants as cause;
 ghost use Rattle.iv_fasta.specs.Fasta.{bases_of};
 ghost use Rattle.iv_fasta.specs.FastaReading.{Summary, Wanted, is_wanted, only, with_part, has_other_count, held_by_rank, ended};
 ghost use Rattle.iv_fasta.specs.Inside.FastaMeaning.{differs as differs_in};

@@ -6,8 +6,8 @@ use crate::options::{is_comma, value_after};
 use crate::plan_files::{FRONT_BYTES, HintFiles, NoFile, PlanFiles};
 use crate::words::put_words;
 use iv_args::{Plan, Slot};
-use iv_cli::ExitReason;
 use iv_lines::{Fault, LoadCause, LoadFault, read_number};
+use iv_run::ExitReason;
 use std::alloc::{AllocError, Global};
 
 /// Which page says how larger data is cut.

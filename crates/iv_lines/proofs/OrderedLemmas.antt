@@ -1,9 +1,8 @@
 -- Lists in order: their copies, one more, and that the copies determine the list.
-use Rattle.std.proofs.Common.{◌≡◌, ℕ, ◌+◌, ◌<◌, ◌≤◌, Bool, true, false, cond, List, [], ◌∷◌, zero, suc, length, refl, sym, ap, ◌∙◌, subst, arith, All}
-use Rattle.std.specs.Prelude.{fold, insert}
-use Rattle.std.specs.List.{AllByRecursion, AllWithin, slice_index_or}
-use Rattle.std.specs.List.Sorted.{IsSorted, IsPermutation, IsPartitionedBy}
-use Rattle.std.proofs.lemmas.Bool.{cond-true, cond-false, false≢true}
+use Rattle.std.proofs.Common.{◌≡◌, ℕ, ◌+◌, ◌<◌, Bool, true, false, cond, List, [], ◌∷◌, suc, length, refl, sym, ap, ◌∙◌, subst, arith, All}
+use Rattle.std.specs.Prelude.{fold}
+use Rattle.std.specs.List.{AllByRecursion, slice_index_or}
+use Rattle.std.specs.List.Sorted.{IsSorted, IsPermutation}
 use Rattle.std.proofs.lemmas.List.Sorted.{sum_by-IsPermutation}
 use Rattle.std.specs.declared.cmp.Ordering.{Ordering}
 use Rattle.std.specs.declared.cmp.Ordering.TheVariants.{Less, Equal, Greater}

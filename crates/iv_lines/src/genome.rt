@@ -4,7 +4,6 @@ ghost use Rattle.std.specs.Option.{option_map, option_copied};
 ghost use Rattle.iv_lines.specs.Genome.{seq_count, name_at, length_at, sequence_name, sequence_length, most_length, with_length, AreRanked};
 ghost use Rattle.iv_lines.specs.Named.{name_index};
 ghost use Rattle.iv_lines.specs.Fields.{columns as columns_of};
-ghost use Rattle.iv_lines.specs.Lines.{lines};
 ghost use Rattle.iv_lines.specs.GenomeFile.{bad_name, is_skipped as is_skipped_line, has_cause, causes, sequence, after_line, genome_of};
 ghost use Rattle.iv_lines.specs.declared.fault.LoadCause.TheVariants as cause;
 

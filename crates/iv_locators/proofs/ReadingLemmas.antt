@@ -13,7 +13,6 @@ use Rattle.iv_lines.specs.Lines.{lines}
 use Rattle.iv_lines.specs.Read.{read, feature, column, Fits}
 use Rattle.iv_lines.specs.RecordValue.{RecordValue, strand_of}
 use Rattle.iv_text.specs.BedFile.{Draft, bed_of}
-use Rattle.iv_lines.specs.declared.fault.Fault.TheVariants as fault
 use Rattle.iv_lines.specs.declared.fault.LoadFault.{LoadFault}
 use Rattle.iv_lines.proofs.ReadLemmas.{count-sound, read-parts}
 use Rattle.iv_locators.proofs.LocatorLemmas.{line-is, line-whole}

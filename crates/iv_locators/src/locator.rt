@@ -60,9 +60,9 @@ impl<A: Allocator + Copy> FromRecord<A> for Locator {
     }
 }
 
-/// The columns of a record after the third. Those beyond the width are empty.
+/// The columns of a record after the third, as records are compared by them. Those beyond the width are empty.
 #[derive(Clone, Copy)]
-pub(crate) struct OptionalColumns<'t> {
+pub(crate) struct ComparedColumns<'t> {
     pub(crate) name: &'t [u8],
     pub(crate) score: &'t [u8],
     pub(crate) strand: Option<Strand>,
@@ -77,7 +77,7 @@ fn next_or_empty<'t>(columns: &mut Fields<'t>) -> &'t [u8]
 }
 
 /// Name, score and strand of a line, as far as the width goes.
-fn optional_columns_in(line: &[u8], width: u8) -> OptionalColumns<'_>
+fn compared_columns_in(line: &[u8], width: u8) -> ComparedColumns<'_>
     requires { 4 ≤ width }
     ensures name { result.name.now ≡ column (columns_of line.now) 3 }
     ensures score { result.score.now ≡ cond (nat_le 5 width) (column (columns_of line.now) 4) [] }
@@ -87,7 +87,7 @@ fn optional_columns_in(line: &[u8], width: u8) -> OptionalColumns<'_>
     let _seq = next_or_empty(&mut columns);
     let _start = next_or_empty(&mut columns);
     let _stop = next_or_empty(&mut columns);
-    let mut beside = OptionalColumns {
+    let mut beside = ComparedColumns {
         name: next_or_empty(&mut columns),
         score: &[],
         strand: None,
@@ -102,19 +102,19 @@ fn optional_columns_in(line: &[u8], width: u8) -> OptionalColumns<'_>
 }
 
 /// Name, score and strand of the record of a locator. At width 3 its line isn't looked at.
-pub(crate) fn optional_columns_of(text: &[u8], locator: Locator, width: u8) -> OptionalColumns<'_>
+pub(crate) fn compared_columns_of(text: &[u8], locator: Locator, width: u8) -> ComparedColumns<'_>
     ensures name { result.name.now ≡ (record_at width text.now locator).name }
     ensures score { result.score.now ≡ (record_at width text.now locator).score }
     ensures strand { result.strand ≡ (record_at width text.now locator).strand }
 {
     if width < 4 {
-        return OptionalColumns {
+        return ComparedColumns {
             name: &[],
             score: &[],
             strand: None,
         };
     }
-    optional_columns_in(line_from(text, locator.line_start), width)
+    compared_columns_in(line_from(text, locator.line_start), width)
 }
 
 /// The columns after the third of a locator's line, with a TAB between two of them, if it has so many. At width 3 its line isn't

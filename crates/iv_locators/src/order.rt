@@ -1,5 +1,5 @@
 //! The order of a track among locators into a text, and the sorts by it.
-ghost use Rattle.std.specs.Prelude.{◌≡◌, ◌↔◌, IsTrue, ◌≤◌, IfOk, length, map, ◌<◌};
+ghost use Rattle.std.specs.Prelude.{◌≡◌, ◌↔◌, IsTrue, IfOk, length, map, ◌<◌};
 ghost use Rattle.std.specs.List.Sorted.{IsPermutation};
 ghost use Rattle.std.specs.Cmp.Lexicographic.{slice_cmp};
 ghost use Rattle.std.specs.Option.{option_cmp};
@@ -9,13 +9,13 @@ ghost use Rattle.iv_lines.specs.Inside.RecordValue.{strand_cmp, beside_cmp};
 ghost use Rattle.iv_locators.specs.Inside.Drafts.{AreInOrder, locator_of};
 ghost use Rattle.iv_locators.specs.Inside.Locators.{record_at};
 
-use crate::locator::{Locator, OptionalColumns, optional_columns_of};
+use crate::locator::{ComparedColumns, Locator, compared_columns_of};
 use crate::span::compare_spans;
 use std::alloc::{AllocError, Allocator};
 use std::cmp::Ordering;
 
 /// Name, score and strand in the order of a track.
-fn compare_columns(first: &OptionalColumns<'_>, second: &OptionalColumns<'_>) -> Ordering
+fn compare_columns(first: &ComparedColumns<'_>, second: &ComparedColumns<'_>) -> Ordering
     ensures { result ≡ ordering_then (slice_cmp nat_cmp first.now.name.now second.now.name.now) (ordering_then (slice_cmp nat_cmp first.now.score.now second.now.score.now) (option_cmp strand_cmp first.now.strand second.now.strand)) }
 {
     let scores = first.score.cmp(second.score);
@@ -31,8 +31,8 @@ fn compare_beside(text: &[u8], width: u8, first: &Locator, second: &Locator) -> 
         return Ordering::Equal;
     }
     compare_columns(
-        &optional_columns_of(text, *first, width),
-        &optional_columns_of(text, *second, width),
+        &compared_columns_of(text, *first, width),
+        &compared_columns_of(text, *second, width),
     )
 }
 
@@ -134,7 +134,7 @@ fn with_prefix_keys<A: Allocator + Copy>(
     let mut keyed = Vec::with_capacity(alloc, locators.len())?;
     for locator in locators {
         keyed.push(PrefixKeyed {
-            head: key_of(optional_columns_of(text, *locator, width).name, shared),
+            head: key_of(compared_columns_of(text, *locator, width).name, shared),
             locator: *locator,
         })?;
     }
@@ -146,12 +146,12 @@ fn shared_by_all(text: &[u8], width: u8, locators: &[Locator]) -> usize {
     let Some((first, others)) = locators.split_first() else {
         return 0;
     };
-    let first = optional_columns_of(text, *first, width).name;
+    let first = compared_columns_of(text, *first, width).name;
     let mut shared = first.len();
     for locator in others {
         shared = shared_by_two(
             first,
-            optional_columns_of(text, *locator, width).name,
+            compared_columns_of(text, *locator, width).name,
             shared,
         );
     }

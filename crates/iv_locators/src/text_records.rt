@@ -6,7 +6,7 @@ ghost use Rattle.iv_lines.specs.Ordered.{AreInOrder};
 ghost use Rattle.iv_lines.specs.CoveredPositions.{on};
 ghost use Rattle.iv_locators.specs.Inside.Locators.{HasAllColumns, HasBase, record_at, records_at, span_in, span_of};
 
-use crate::locator::{Locator, joined_columns_of, optional_columns_of};
+use crate::locator::{Locator, compared_columns_of, joined_columns_of};
 use crate::span::Span;
 use iv_lines::{BedRecord, RecordRef, Strand};
 use std::marker::Model;
@@ -72,7 +72,7 @@ impl<'t> TextRecord<'t> {
     pub fn strand(&self) -> Option<Strand>
         ensures { result ≡ self.now.strand }
     {
-        optional_columns_of(self.text, self.locator, self.width).strand
+        compared_columns_of(self.text, self.locator, self.width).strand
     }
 
     /// The record with all its columns: those after the third as they are in its line.

@@ -21,9 +21,10 @@ use Rattle.iv_args.specs.declared.notice.Notice.{Notice}
 use Rattle.iv_run.specs.Shots.{Shows, shown}
 use Rattle.iv_run.specs.declared.fault.CliFault.{CliFault}
 use Rattle.iv_run.specs.declared.fault.CliFault.TheVariants as fault
-use Rattle.iv_cli.specs.ExitReasons.{ending_of, ending_of_cause, is_through, status_of}
-use Rattle.iv_cli.specs.declared.exit_reason.ExitReason.{ExitReason}
-use Rattle.iv_cli.specs.declared.exit_reason.ExitReason.TheVariants as exit_reason
+use Rattle.iv_run.specs.ExitReasons.{ending_of, is_through, status_of}
+use Rattle.iv_cli.specs.ScriptEndings.{ending_of_cause}
+use Rattle.iv_run.specs.declared.exit_reason.ExitReason.{ExitReason}
+use Rattle.iv_run.specs.declared.exit_reason.ExitReason.TheVariants as exit_reason
 use Rattle.iv_program.specs.Limits.{most_line_bytes}
 use Rattle.iv_program.specs.Outcomes.{DoesAll, DoesAllWith, RunsAll}
 use Rattle.iv_program.specs.Program.{Runs, Serves}

@@ -31,9 +31,10 @@ use Rattle.iv_run.specs.RunFiles.{AreAllWanted, AreOf, FilesRead, IsParsed}
 use Rattle.iv_run.specs.declared.fault.CliFault.{CliFault}
 use Rattle.iv_run.specs.declared.fault.FileFault.{FileFault}
 use Rattle.iv_run.specs.declared.fault.FileFault.TheVariants as file
-use Rattle.iv_cli.specs.ExitReasons.{ending_after, ending_of_cause, ending_of_file, ending_of_run, ending_of_arguments, is_through, name_meant}
-use Rattle.iv_cli.specs.declared.exit_reason.ExitReason.{ExitReason}
-use Rattle.iv_cli.specs.declared.exit_reason.ExitReason.TheVariants as exit_reason
+use Rattle.iv_run.specs.ExitReasons.{ending_after, ending_of_file, ending_of_arguments, is_through, name_meant}
+use Rattle.iv_cli.specs.ScriptEndings.{ending_of_cause, ending_of_run}
+use Rattle.iv_run.specs.declared.exit_reason.ExitReason.{ExitReason}
+use Rattle.iv_run.specs.declared.exit_reason.ExitReason.TheVariants as exit_reason
 use Rattle.iv_program.specs.Files.{FilesState, IsText, after_one, after_reading}
 use Rattle.iv_program.specs.Limits.{most_file_bytes}
 use Rattle.iv_program.specs.Program.{Finishes, Runs, Serves, world}

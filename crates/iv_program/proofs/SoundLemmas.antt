@@ -13,9 +13,9 @@ use Rattle.iv_args.specs.declared.plan.Slot.TheVariants.{Sizes, First, Other, Ba
 use Rattle.iv_run.specs.Shots.{Shows, shown}
 use Rattle.iv_run.specs.declared.fault.CliFault.{CliFault}
 use Rattle.iv_run.specs.declared.fault.CliFault.TheVariants as fault
-use Rattle.iv_cli.specs.ExitReasons.{ending_of, is_through, line_of, name_meant, status_of}
-use Rattle.iv_cli.specs.declared.exit_reason.ExitReason.{ExitReason}
-use Rattle.iv_cli.specs.declared.exit_reason.ExitReason.TheVariants as exit_reason
+use Rattle.iv_run.specs.ExitReasons.{ending_of, is_through, line_of, name_meant, status_of}
+use Rattle.iv_run.specs.declared.exit_reason.ExitReason.{ExitReason}
+use Rattle.iv_run.specs.declared.exit_reason.ExitReason.TheVariants as exit_reason
 use Rattle.iv_program.specs.Files.{FilesState, after_one, after_reading}
 use Rattle.iv_program.specs.Limits.{most_file_bytes}
 use Rattle.iv_program.specs.Outcomes.{IsSound, HasBytes, Hold, PrintsJust}

@@ -7,9 +7,9 @@ use Rattle.iv_args.specs.Notices.{notice_of}
 use Rattle.iv_args.specs.Texts.{notice_text}
 use Rattle.iv_args.specs.Arguments.{RunPlan, IsPlan}
 use Rattle.iv_args.specs.declared.notice.Notice.{Notice}
-use Rattle.iv_cli.specs.ExitReasons.{is_through, line_of, name_meant}
-use Rattle.iv_cli.specs.declared.exit_reason.ExitReason.{ExitReason}
-use Rattle.iv_cli.specs.declared.exit_reason.ExitReason.TheVariants as exit_reason
+use Rattle.iv_run.specs.ExitReasons.{is_through, line_of, name_meant}
+use Rattle.iv_run.specs.declared.exit_reason.ExitReason.{ExitReason}
+use Rattle.iv_run.specs.declared.exit_reason.ExitReason.TheVariants as exit_reason
 use Rattle.iv_program.specs.Files.{FilesState}
 use Rattle.iv_program.specs.Runs.{World, HasRead, HasNotRead}
 use Rattle.iv_program.specs.declared.program.Ended.{Ended}

@@ -16,9 +16,10 @@ use Rattle.iv_cli.specs.Loading.{loaded}
 use Rattle.iv_run.specs.Shots.{Shows, shown}
 use Rattle.iv_run.specs.declared.fault.CliFault.{CliFault}
 use Rattle.iv_run.specs.declared.fault.CliFault.TheVariants.{Memory}
-use Rattle.iv_cli.specs.ExitReasons.{ending_of, ending_of_cause}
-use Rattle.iv_cli.specs.declared.exit_reason.ExitReason.{ExitReason}
-use Rattle.iv_cli.specs.declared.exit_reason.ExitReason.TheVariants as exit_reason
+use Rattle.iv_run.specs.ExitReasons.{ending_of}
+use Rattle.iv_cli.specs.ScriptEndings.{ending_of_cause}
+use Rattle.iv_run.specs.declared.exit_reason.ExitReason.{ExitReason}
+use Rattle.iv_run.specs.declared.exit_reason.ExitReason.TheVariants as exit_reason
 use Rattle.iv_program.specs.Files.{FilesState, IsText, after_one, after_reading}
 use Rattle.iv_program.specs.Limits.{most_file_bytes, most_line_bytes}
 use Rattle.iv_program.specs.Texts.{Texts, IsTextIfNamed, names_before}

@@ -1,7 +1,5 @@
 //! Files that are opened by their names, and reading those of a plan.
-ghost use Rattle.std.specs.Prelude.{◌≡◌, List, [], ◌∷◌, ℕ, Option, None, Some, IfOk, IfErr, OnOk, OnErr, true, IfSome};
-ghost use Rattle.std.specs.Option.{option_map};
-ghost use Rattle.iv_args.specs.Arguments.{file_of};
+ghost use Rattle.std.specs.Prelude.{◌≡◌, List, ℕ, Option, None, Some, IfOk, IfErr, OnOk, OnErr, true, IfSome};
 ghost use Rattle.iv_run.specs.RunFiles.{IsEnoughOf, IsIfNamed};
 ghost use Rattle.iv_program.specs.Files.{FilesState, opened, after_opening, after_closing, after_one, after_reading};
 ghost use Rattle.iv_program.specs.Inside.Files.{ReadsNamed, StopsAt, StopsFile, names_of};

@@ -1,5 +1,5 @@
 //! The whole program: what the arguments ask for, the run of one subcommand, and how each run ends.
-ghost use Rattle.std.specs.Prelude.{◌≡◌, ◌≢◌, ◌⊎◌, ℕ, List, [], Some, None, IfOk, IfErr, IfSome, MatchResult, OnOk, OnErr, map, true, false};
+ghost use Rattle.std.specs.Prelude.{◌≡◌, ◌≢◌, ◌⊎◌, ℕ, List, [], Some, None, IfOk, IfErr, MatchResult, OnOk, OnErr, map, true, false};
 ghost use Rattle.iv_bytes.specs.Sinks.{FailsIn, Takes, waiting};
 ghost use Rattle.iv_locators.specs.Locators.{bare};
 ghost use Rattle.iv_args.specs.Notices.{notice_of};
@@ -9,7 +9,7 @@ ghost use Rattle.iv_args.specs.declared.notice.Notice.{Notice};
 ghost use Rattle.iv_run.specs.IntervalsViews.{AskForIntervals};
 ghost use Rattle.iv_run.specs.Inside.IntervalsViews.{AskForColumns};
 ghost use Rattle.iv_run.specs.Shots.{shown};
-ghost use Rattle.iv_cli.specs.ExitReasons.{ending_of as ending_of_fault, is_through, line_of, status_of};
+ghost use Rattle.iv_run.specs.ExitReasons.{ending_of as ending_of_fault, is_through, line_of, status_of};
 ghost use Rattle.iv_program.specs.Files.{after_reading};
 ghost use Rattle.iv_program.specs.Outcomes.{IsSound, DoesAll, Hold, PrintsJust};
 ghost use Rattle.iv_program.specs.Program.{Runs, world};
@@ -25,9 +25,8 @@ use crate::files::{InputFiles, SlotFault, read_files};
 use crate::script_run::run_session;
 use iv_args::{Notice, Plan};
 use iv_bytes::{Flush, Sink, Source, put_all};
-use iv_cli::ExitReason;
 use iv_locators::Span;
-use iv_run::{CliFault, HeldBed, HeldRecords, IntervalsView, RunFiles, shot_of_held};
+use iv_run::{CliFault, ExitReason, HeldBed, HeldRecords, IntervalsView, RunFiles, shot_of_held};
 use std::alloc::Allocator;
 
 /// How a run has ended, its output flushed.

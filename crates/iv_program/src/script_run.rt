@@ -12,9 +12,9 @@ use crate::files::{InputFiles, SlotFault, read_files};
 use crate::program::Ended;
 use iv_args::Plan;
 use iv_bytes::{Sink, Source};
-use iv_cli::{ExitReason, begin_session};
+use iv_cli::{begin_session, ending_of_run};
 use iv_lines::Record;
-use iv_run::{HeldRecords, RunFiles};
+use iv_run::{ExitReason, HeldRecords, RunFiles};
 use iv_session::{RunFault, ScriptLimits, Summary, run_script};
 use std::alloc::Allocator;
 use std::mem;
@@ -60,7 +60,7 @@ fn run_over<A: Allocator + Copy, R: Source, W: Sink, E: Sink>(
     // The process ends soon, and the system takes its memory at once. A drop would free record by record.
     mem::forget(session);
     Ended {
-        exit_reason: ExitReason::of_run(&done),
+        exit_reason: ending_of_run(&done),
         line: line_of_stop(&done),
     }
 }

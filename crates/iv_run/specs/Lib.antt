@@ -1,3 +1,4 @@
+pub mod ExitReasons
 pub mod Files
 pub mod Loading
 pub mod Shots

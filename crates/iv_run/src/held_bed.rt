@@ -1,11 +1,8 @@
 //! A BED file that is read for a view of all columns: its text is held only if its records have more columns than three.
-ghost use Rattle.std.specs.Prelude.{◌≡◌, ◌<◌, ◌+◌, ◌^◌, ◌++◌, ℕ, List, [], None, Some, length, IfOk, IfErr, IsOkAnd};
-ghost use Rattle.std.specs.Option.{option_map};
+ghost use Rattle.std.specs.Prelude.{◌≡◌, ◌<◌, ◌+◌, ◌^◌, ℕ, List, [], None, Some, length, IsOkAnd};
 ghost use Rattle.std.proofs.Common.{arith};
-ghost use Rattle.iv_text.specs.BedReading.{AreSoundLines, size_of};
 ghost use Rattle.iv_lines.specs.Genome.{Sequences};
 ghost use Rattle.iv_lines.specs.Widths.{IsWidth};
-ghost use Rattle.iv_fasta.specs.FastaReading.{Wanted};
 ghost use Rattle.iv_locators.specs.Locators.{bare};
 ghost use Rattle.iv_run.specs.declared.fault.FileFault.TheVariants as fault;
 ghost use Rattle.iv_run.specs.Inside.Held.{FitsOn, HoldsFront, IsEnough, IsHeld, IsThreeWide};

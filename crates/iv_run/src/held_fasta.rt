@@ -1,8 +1,7 @@
 //! What is held of a FASTA file while it is read, and then: its bases, or its first fault.
-ghost use Rattle.std.specs.Prelude.{◌≡◌, ◌<◌, ◌≤◌, ◌+◌, ◌^◌, ◌++◌, ℕ, List, length, IfOk, IfErr};
+ghost use Rattle.std.specs.Prelude.{◌<◌, ◌+◌, ◌^◌, ◌++◌, ℕ, List, length, IfOk, IfErr};
 ghost use Rattle.std.specs.Option.{option_map};
 ghost use Rattle.std.proofs.Common.{arith};
-ghost use Rattle.iv_lines.specs.Genome.{Sequences};
 ghost use Rattle.iv_fasta.specs.FastaReading.{Wanted, size_of};
 ghost use Rattle.iv_run.specs.declared.fault.FileFault.TheVariants as fault;
 ghost use Rattle.iv_run.specs.Files.{ReadsWhole, StopsReading};

@@ -1,6 +1,8 @@
-//! From the files of a run to their records and bases, or to the rows of one view.
+//! From the files of a run to their records and bases, or to the rows of one view; and how a run ends, with its exit status and its
+//! line on standard error.
 #![tactic(auto)]
 
+mod exit_reason;
 mod fault;
 mod held_bed;
 mod held_fasta;
@@ -9,6 +11,7 @@ mod intervals_view;
 mod one_shot;
 mod run_files;
 
+pub use exit_reason::{ExitReason, status};
 pub use fault::{CliFault, FileFault};
 pub use held_bed::HeldBed;
 pub use held_fasta::HeldFasta;

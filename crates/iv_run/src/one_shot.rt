@@ -1,5 +1,5 @@
 //! A run of one subcommand, without a script, over its files: their bytes, or what was held of them.
-ghost use Rattle.std.specs.Prelude.{◌≡◌, ◌<◌, ◌≤◌, ◌^◌, All, List, ℕ, Option, [], None, Ok, Err, IsSome, IfSome, IfOk, IfErr, OnOk, length};
+ghost use Rattle.std.specs.Prelude.{◌≡◌, ◌<◌, ◌≤◌, ◌^◌, All, List, ℕ, Option, [], None, Ok, Err, IsSome, IfSome, OnOk, length};
 ghost use Rattle.std.specs.Option.{option_copied, option_map, unwrap_or};
 ghost use Rattle.iv_bytes.specs.Sinks.{Puts};
 ghost use Rattle.iv_lines.specs.Genome.{Sequences};
@@ -13,7 +13,7 @@ ghost use Rattle.iv_pair.specs.PairRows.{pair_text};
 ghost use Rattle.iv_view.specs.Inside.Texts.{records_text};
 ghost use Rattle.iv_view.specs.Views.{kept_text};
 ghost use Rattle.iv_run.specs.Loading.{parsed};
-ghost use Rattle.iv_run.specs.RunFiles.{AreOf, IsEnoughOf, IsIfNamed, IsGenomeOf};
+ghost use Rattle.iv_run.specs.RunFiles.{AreOf, IsEnoughOf, IsIfNamed};
 ghost use Rattle.iv_run.specs.Inside.Held.{FitsOn, IsEnough, IsHeld, ReportsWanted};
 ghost use Rattle.iv_lines.specs.GenomeFile.{genome_of};
 ghost use Rattle.iv_run.specs.Inside.IntervalsViews.{AskForColumns, NeedsColumns};

@@ -1,6 +1,6 @@
 //! The files of a run, once they are read: what is held of each, and whether they are sound.
-ghost use Rattle.std.specs.Prelude.{◌≡◌, ◌⊎◌, ◌<◌, ◌^◌, List, ℕ, Option, None, Some, Ok, Err, IfOk, IfErr, IfSome, length};
-ghost use Rattle.std.specs.Option.{option_copied, option_map, option_transpose};
+ghost use Rattle.std.specs.Prelude.{◌≡◌, ◌<◌, ◌^◌, List, ℕ, Option, None, Some, Ok, Err, IfOk, IfErr, IfSome, length};
+ghost use Rattle.std.specs.Option.{option_copied, option_map};
 ghost use Rattle.iv_lines.specs.declared.fault.LoadFault.{LoadFault};
 ghost use Rattle.iv_lines.specs.Widths.{IsWidth};
 ghost use Rattle.iv_run.specs.Files.{ReadsWhole, StopsReading};

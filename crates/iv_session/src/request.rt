@@ -142,8 +142,8 @@ impl<'a> Request<'a> {
         ensures value { result ≡ edit_asked session.now target kind (fields_left tab fields.entry) }
         ensures fits { IfOk result (RequestFits session.now) }
     {
-        let width = session.width_of(target)?;
-        let edit = read_edit(session.genome(), width, kind, fields)?;
+        let (genome, width) = session.genome_and_width(target)?;
+        let edit = read_edit(genome, width, kind, fields)?;
         Ok(Request::Edit(target, edit))
     }
 

@@ -1,6 +1,6 @@
 -- A line of a record at the front of a text.
 use Rattle.std.proofs.Common.{◌≢◌, ◌≡◌, ℕ, ◌+◌, ◌-◌, ◌<◌, ◌≤◌, Bool, true, false, not, nat_lt, ◌==◌, ◌||◌, ◌⊎◌, inl, inr, ◌&&◌, List, [], ◌∷◌, ◌++◌, Option, None, Some, unwrap_or, slice_get, length, take, drop, get_or, refl, sym, ap, subst, ◌∙◌, arith, append_assoc, codes, append-nil}
-use Rattle.std.proofs.lemmas.Bool.{and_parts, false≢true, eq-eqb, ne_eqb, false_from_ne_true, not-true, or_from, or_parts}
+use Rattle.std.proofs.lemmas.Bool.{and_parts, false≢true, ne_eqb, false_from_ne_true, not-true, or_from, or_parts}
 use Rattle.std.proofs.lemmas.Bool.Decides.{nat_tests}
 use Rattle.std.proofs.lemmas.Grind.{common_steps}
 use Rattle.std.proofs.lemmas.Option.{slice_get_within}

@@ -1,5 +1,5 @@
 //! The records of a BED file in batches.
-ghost use Rattle.std.specs.Prelude.{◌≡◌, ◌≤◌};
+ghost use Rattle.std.specs.Prelude.{◌≡◌};
 ghost use Rattle.iv_lines.specs.Widths.{IsWidth};
 
 use iv_lines::RecordBatches;
@@ -17,7 +17,6 @@ pub struct BedBatches<A: Allocator = Global> {
 
 impl<A: Allocator> Model for BedBatches<A> {
     ghost use Rattle.iv_lines.specs.Widths.{IsWidth};
-    ghost use Rattle.std.specs.Prelude.{◌≤◌};
     ghost use Rattle.iv_text.specs.BedFile.{Bed};
 
     ghost Value = { Bed };

@@ -2,7 +2,6 @@
 ghost use Rattle.std.specs.Prelude.{◌≡◌, ◌<◌, ◌≤◌, [], false, MatchOption, length};
 ghost use Rattle.std.specs.Option.{unwrap_or};
 ghost use Rattle.iv_text.specs.BedFile.{is_skipped_line as says_nothing, is_width};
-ghost use Rattle.iv_lines.specs.Lines.{lines};
 ghost use Rattle.iv_lines.specs.Fields.{columns as columns_of};
 
 use bstr::{ByteSlice, Lines};

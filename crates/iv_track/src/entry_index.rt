@@ -1,5 +1,5 @@
 //! Indexes in a list of chunks, and what is done at them.
-ghost use Rattle.std.specs.Prelude.{◌≡◌, ◌+◌, ◌-◌, ◌<◌, ◌≤◌, true, false, None, List, [], ◌∷◌, ◌++◌, length, take, drop, All, vec_len, vec_capacity, IfOk, OnOk, IfErr, OnErr, IfSome};
+ghost use Rattle.std.specs.Prelude.{◌≡◌, ◌+◌, ◌-◌, ◌<◌, ◌≤◌, true, false, None, [], ◌∷◌, ◌++◌, length, take, drop, All, vec_len, vec_capacity, IfOk, OnOk, IfErr, OnErr, IfSome};
 ghost use Rattle.std.specs.List.{filter, slice_get, HoldsAt};
 ghost use Rattle.std.specs.Ordering.{is_le, is_lt};
 ghost use Rattle.std.specs.Option.{option_copied};

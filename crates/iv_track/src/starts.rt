@@ -1,5 +1,5 @@
 //! Numbers instead of keys, by which a search begins.
-ghost use Rattle.std.specs.Prelude.{◌≡◌, ◌+◌, ◌<◌, ◌≤◌, [], None, vec_len, vec_capacity, IfSome};
+ghost use Rattle.std.specs.Prelude.{◌≡◌, ◌+◌, ◌<◌, ◌≤◌, [], None, vec_len, IfSome};
 ghost use Rattle.iv_track.specs.Inside.Replaced.{IsReplaced};
 
 use crate::entry_index::{EntryIndex, MOST_IN_CHUNK};

@@ -1,9 +1,6 @@
 //! A track.
-ghost use Rattle.std.specs.Prelude.{◌≡◌, ◌+◌, ◌-◌, ◌*◌, ◌^◌, ◌<◌, ◌≤◌, [], length, Some, None, IfOk, IfErr, OnOk, OnErr, All, option_map, vec_len};
-ghost use Rattle.std.specs.Map.Iter.{deref_pair};
+ghost use Rattle.std.specs.Prelude.{◌≡◌, ◌+◌, ◌-◌, ◌*◌, ◌^◌, ◌<◌, ◌≤◌, [], length, Some, None, IfOk, IfErr, OnOk, OnErr, All, vec_len};
 ghost use Rattle.std.specs.List.{filter};
-ghost use Rattle.std.specs.List.Sorted.{IsPermutation, IsSorted};
-ghost use Rattle.iv_lines.specs.RecordValue.{RecordValue, record_cmp};
 ghost use Rattle.iv_lines.specs.Ordered.{AreInOrder, copies, ordered};
 ghost use Rattle.iv_track.specs.Regions.{hits, longest, near};
 ghost use Rattle.iv_track.specs.Edits.{RefusesAdd, RefusesRemove, RefusesReplace, with_record, without_record, with_replaced};

@@ -1,5 +1,4 @@
 //! A walk over the records of a track that share a position with a region.
-ghost use Rattle.std.specs.Prelude.{◌≡◌};
 ghost use Rattle.std.specs.Iterator.{YieldsFirst};
 ghost use Rattle.iv_track.specs.Regions.{TakesForPassed, end_step};
 

@@ -2,7 +2,6 @@
 use Rattle.std.proofs.Common.{◌≡◌, ℕ, suc, ◌+◌, ◌-◌, ◌<◌, List, [], ◌∷◌, ◌++◌, Option, Some, None, length, map, drop, replicate, get_or, set, sym, ap, ap₂, ◌∙◌, arith, append_assoc, length-append, drop-cons, add-one}
 use Rattle.std.proofs.Math.Seq.{set-append_seam}
 use Rattle.std.specs.List.{zip}
-use Rattle.std.specs.Option.{option_map}
 use Rattle.iv_cover.specs.declared.column.ColumnSummary.{ColumnSummary}
 use Rattle.iv_cover.specs.declared.op.Op.{Op}
 use Rattle.iv_cover.specs.declared.op.Op.TheVariants.{Count}
@@ -11,7 +10,7 @@ use Rattle.iv_blocks.specs.Inside.Groups.{unused, pushed}
 use Rattle.iv_blocks.specs.declared.options.Summaries.{Summaries}
 use Rattle.iv_view.specs.Lists.{all_some}
 use Rattle.iv_view.specs.Merge.{summary_within}
-use Rattle.iv_view.proofs.ListLemmas.{with_rest, rest-more, rest-ends}
+use Rattle.iv_view.proofs.ListLemmas.{with_rest, rest-more}
 
 -- the rest of a list begins with its next item
 drop-here : {A : Type 0} (i : ℕ) (xs : List A) (d : A) → i < length xs → drop i xs ≡ get_or xs i d ∷ drop (i + 1) xs

@@ -1,6 +1,5 @@
 //! A session of a genome and a track, with its open views.
-ghost use Rattle.std.specs.Prelude.{◌≡◌, ◌+◌, ◌≤◌, ◌<◌, ◌↔◌, None, Some, All, length, not, IsTrue, IfOk, IfSome, option_map, Ok};
-ghost use Rattle.iv_lines.specs.Ordered.{copies};
+ghost use Rattle.std.specs.Prelude.{◌≡◌, ◌+◌, ◌≤◌, ◌<◌, ◌↔◌, None, Some, All, length, IsTrue, IfOk, IfSome, option_map, Ok};
 ghost use Rattle.iv_lines.specs.Read.{read, Fits};
 ghost use Rattle.iv_track.specs.Tracked.{most_records};
 ghost use Rattle.iv_workspace.specs.States.{State, begun, tracked};

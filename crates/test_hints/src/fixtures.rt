@@ -1,6 +1,6 @@
 //! Files in memory, and hints over them.
-use iv_cli::ExitReason;
 use iv_hints::{HintFiles, NoFile, hint_of};
+use iv_run::ExitReason;
 use std::alloc::{AllocError, Global};
 
 /// A file in memory.

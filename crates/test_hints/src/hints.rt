@@ -1,9 +1,9 @@
 //! Hints, each beside what it is a hint on.
 use crate::fixtures::{MemHintFiles, Named, hints, words_of};
 use iv_args::Slot;
-use iv_cli::ExitReason;
 use iv_hints::{Refusal, SeenScript, hint_of_refusal};
 use iv_lines::{Fault, LoadCause, LoadFault};
+use iv_run::ExitReason;
 use std::alloc::{AllocError, Global};
 use std::test::Fail;
 

@@ -2,9 +2,9 @@
 use crate::piece_fixtures::plan_of;
 use iv_args::Slot;
 use iv_bytes::MemSink;
-use iv_cli::{ExitReason, run_status, status};
+use iv_cli::run_status;
 use iv_lines::{Fault, LoadCause, LoadFault};
-use iv_run::CliFault;
+use iv_run::{CliFault, ExitReason, status};
 use iv_session::{RunCause, RunFault, Summary};
 use std::test::Fail;
 

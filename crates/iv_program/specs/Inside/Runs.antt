@@ -1,5 +1,5 @@
 -- What is known of the files of a plan, what their texts mean, and what a run of it does.
-use Rattle.std.specs.Prelude.{◌≡◌, ◌⊎◌, ℕ, Bool, true, false, List, [], Option, Result, Ok, Err, MatchResult}
+use Rattle.std.specs.Prelude.{◌≡◌, ◌⊎◌, ℕ, Bool, true, false, List, [], Result, Ok, Err, MatchResult}
 use Rattle.iv_bytes.specs.Sinks.{SinkState, Takes, FailsIn, waiting}
 use Rattle.iv_lines.specs.Genome.{Sequences}
 use Rattle.iv_fasta.specs.FastaReading.{Wanted}
@@ -13,9 +13,9 @@ use Rattle.iv_run.specs.Shots.{Shows, shown}
 use Rattle.iv_run.specs.RunFiles.{AreOf, FilesRead}
 use Rattle.iv_run.specs.declared.fault.CliFault.{CliFault}
 use Rattle.iv_run.specs.declared.fault.FileFault.{FileFault}
-use Rattle.iv_cli.specs.ExitReasons.{ending_after, ending_of, ending_of_file, is_through, line_of}
-use Rattle.iv_cli.specs.declared.exit_reason.ExitReason.{ExitReason}
-use Rattle.iv_cli.specs.declared.exit_reason.ExitReason.TheVariants as exit_reason
+use Rattle.iv_run.specs.ExitReasons.{ending_after, ending_of, ending_of_file, is_through, line_of}
+use Rattle.iv_run.specs.declared.exit_reason.ExitReason.{ExitReason}
+use Rattle.iv_run.specs.declared.exit_reason.ExitReason.TheVariants as exit_reason
 use Rattle.iv_program.specs.Files.{after_reading}
 use Rattle.iv_program.specs.Inside.Files.{StopsAt, names_of}
 use Rattle.iv_program.specs.Runs.{World, DoesWith, HasRead, HasNotRead}

@@ -8,7 +8,6 @@ use Rattle.iv_view.specs.RegionText.{IsWithin}
 use Rattle.iv_workspace.specs.States.{State}
 use Rattle.iv_workspace.specs.Edits.{EditFits, FitsIn}
 use Rattle.iv_session.specs.declared.request.Request.{Request}
-use Rattle.iv_workspace.specs.declared.session.edits.Target.TheVariants as target
 use Rattle.iv_session.specs.declared.request.Request.TheVariants as request
 
 -- the records of a request fit the session, no length is above the greatest, and a region is one of its genome

@@ -1,5 +1,6 @@
 //! Edits of the two tracks of a session: of its own, and of the second file.
 ghost use Rattle.std.specs.Prelude.{◌≡◌, ◌≤◌, ◌↔◌, None, Some, false, IsTrue, IfOk, IfErr, IfSome, OnOk, OnErr, Ok, Err};
+ghost use Rattle.iv_lines.specs.Chains.{if_ok};
 ghost use Rattle.iv_lines.specs.Named.{names_of};
 ghost use Rattle.iv_lines.specs.Read.{Fits};
 ghost use Rattle.iv_track.specs.Steps.{TakesUpTo};
@@ -58,19 +59,21 @@ impl Accepted {
 }
 
 impl<A: Allocator + Copy> Session<A> {
-    /// How many columns the records of a track have, 3 to 6.
+    /// What the records of an edit are read with: the genome, and how many columns records of its track have, 3 to 6.
     ///
     /// # Errors
     ///
     /// `NoSecond` exactly if the track is the second file and there is none.
-    pub fn width_of(&self, target: Target) -> Result<u8, Fault>
-        ensures value { result ≡ width_of self.now target }
-        ensures known { IfOk result (λ width. IsWidth width) }
+    pub fn genome_and_width(&self, target: Target) -> Result<(&Genome<A>, u8), Fault>
+        ensures width { if_ok result (λ it. Ok it.1) ≡ width_of self.now target }
+        ensures genome { IfOk result (λ it. it.0.now ≡ self.now.genome) }
+        ensures known { IfOk result (λ it. IsWidth it.1) }
     {
-        match target {
-            Target::First => Ok(self.track.width()),
-            Target::Second => self.second_width().ok_or(Fault::NoSecond),
-        }
+        let width = match target {
+            Target::First => self.track.width(),
+            Target::Second => self.second_width().ok_or(Fault::NoSecond)?,
+        };
+        Ok((&self.genome, width))
     }
 
     /// Does an edit to one of the two tracks, as [`Session::add`] and the like say.

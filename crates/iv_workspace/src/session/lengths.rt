@@ -1,8 +1,7 @@
 //! Corrected lengths.
-ghost use Rattle.std.specs.Prelude.{◌≡◌, ◌+◌, ◌≤◌, ◌<◌, None, Some, All, length, false, not, IfErr, OnOk, OnErr, Ok, Err};
+ghost use Rattle.std.specs.Prelude.{◌≡◌, ◌+◌, ◌≤◌, ◌<◌, None, Some, All, length, false, IfErr, OnOk, OnErr, Ok, Err};
 ghost use Rattle.std.specs.List.{list_any};
 ghost use Rattle.iv_lines.specs.Genome.{most_length};
-ghost use Rattle.iv_lines.specs.Read.{read};
 ghost use Rattle.iv_workspace.specs.Resizes.{has_other_bases, has_record_past, reaches_past, resized};
 
 use super::Session;

@@ -8,4 +8,4 @@ returns c =
     let w = c.args.width in
     c.compare_columns.ensures
     ∙ columns-cmp (record_at w c.args.text.now c.args.first.now) (record_at w c.args.text.now c.args.second.now) _ _ _ _ _ _ refl
-    c.optional_columns_of.ensures.name c.optional_columns_of.ensures.score c.optional_columns_of.ensures.strand c.optional_columns_of-2.ensures.name c.optional_columns_of-2.ensures.score c.optional_columns_of-2.ensures.strand
+    c.compared_columns_of.ensures.name c.compared_columns_of.ensures.score c.compared_columns_of.ensures.strand c.compared_columns_of-2.ensures.name c.compared_columns_of-2.ensures.score c.compared_columns_of-2.ensures.strand

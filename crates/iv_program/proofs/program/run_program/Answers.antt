@@ -1,5 +1,5 @@
 use Rattle.std.proofs.Common.{[], map, subst, sym, ◌∙◌}
-use Rattle.iv_cli.specs.declared.exit_reason.ExitReason.{ExitReason}
+use Rattle.iv_run.specs.declared.exit_reason.ExitReason.{ExitReason}
 use Rattle.iv_program.specs.Inside.Runs.{EndsRun}
 use Rattle.iv_program.proofs.RunLemmas.{gave-notice, had-no-plan, ran-plan}
 use Rattle.iv_program.proofs.program.run_program.Goals as goal

@@ -30,6 +30,6 @@ returns g c = λ plan texts has. inl (
         (streams (g.R.Source.state c.args.input.now) (g.W.Sink.state c.args.output.now) (g.E.Sink.state c.args.messages.now))
         (streams (g.R.Source.state c.run_script-done.new.input) (g.W.Sink.state c.run_script-done.new.output) (g.E.Sink.state c.run_script-done.new.messages))
         c.args.limit most_line_bytes c.run_script-done.result c.run_script-done.ensures.done c.run_script-done.ensures.stopped);
-    ends = ends-of c.run_script-done.result c.of_run.result c.line_of_stop.result c.of_run.ensures c.line_of_stop.ensures;
+    ends = ends-of c.run_script-done.result c.ending_of_run.result c.line_of_stop.result c.ending_of_run.ensures c.line_of_stop.ensures;
   },
 )

@@ -2,7 +2,7 @@ use Rattle.std.proofs.Common.{◌≡◌, ◌∙◌, ℕ, List, ap, sym, subst}
 use Rattle.iv_lines.specs.Named.{names_of}
 use Rattle.iv_lines.specs.Ordered.{AreInOrder, added}
 use Rattle.iv_lines.specs.RecordValue.{RecordValue}
-use Rattle.iv_track.specs.Tracked.{Tracked, removed}
+use Rattle.iv_track.specs.Tracked.{Tracked}
 use Rattle.iv_track.proofs.Edits.{added-removed}
 use Rattle.iv_view.specs.KeptStates.{IsRight}
 use Rattle.iv_workspace.specs.States.{State}

@@ -1,17 +1,13 @@
 -- How a run ends: its exit status, and its line on standard error.
-use Rattle.std.specs.Prelude.{ℕ, ◌++◌, ◌==◌, nat_le, Bool, if◌then◌else◌, List, [], Option, None, Some, Result, Ok, Err, codes, decimal}
+use Rattle.std.specs.Prelude.{ℕ, ◌++◌, nat_le, Bool, if◌then◌else◌, List, [], Option, None, Some, codes, decimal}
 use Rattle.std.specs.Option.{is_some, option_and_then, unwrap_or}
 use Rattle.std.specs.declared.io.ErrorKind.{ErrorKind}
 use Rattle.std.specs.declared.io.ErrorKind.TheVariants.{OutOfMemory}
 use Rattle.iv_lines.specs.Fault.{fault_text, load_text}
 use Rattle.iv_lines.specs.declared.fault.Fault.{Fault}
 use Rattle.iv_lines.specs.declared.fault.Fault.TheVariants as refused
-use Rattle.iv_session.specs.declared.script.Summary.{Summary}
-use Rattle.iv_session.specs.declared.script.RunFault.{RunFault}
-use Rattle.iv_session.specs.declared.script.RunCause.{RunCause}
-use Rattle.iv_session.specs.declared.script.RunCause.TheVariants as cause
-use Rattle.iv_cli.specs.declared.exit_reason.ExitReason.{ExitReason}
-use Rattle.iv_cli.specs.declared.exit_reason.ExitReason.TheVariants as exit_reason
+use Rattle.iv_run.specs.declared.exit_reason.ExitReason.{ExitReason}
+use Rattle.iv_run.specs.declared.exit_reason.ExitReason.TheVariants as exit_reason
 use Rattle.iv_run.specs.Loading.{fault_of_arguments}
 use Rattle.iv_run.specs.declared.fault.CliFault.{CliFault}
 use Rattle.iv_run.specs.declared.fault.CliFault.TheVariants as fault
@@ -65,18 +61,6 @@ abbrev pub ending_of_file : Slot → FileFault → ExitReason
 ending_of_file slot file.Input = exit_reason.Unreadable slot
 ending_of_file slot file.TooLong = exit_reason.TooLong slot
 ending_of_file slot file.Memory = exit_reason.Memory
-
--- the ending of a script that stopped, at a fault of the output or of the messages if not for another cause
-abbrev pub ending_of_cause : RunCause → ExitReason
-ending_of_cause cause.Input = exit_reason.InputUnreadable
-ending_of_cause cause.TooLong = exit_reason.InputTooLong
-ending_of_cause cause.Memory = exit_reason.Memory
-ending_of_cause sink = exit_reason.Output
-
--- the ending of a script: whether a line of it was refused, or why it stopped
-abbrev pub ending_of_run : Result Summary RunFault → ExitReason
-ending_of_run (Ok summary) = if summary.refused == 0 then exit_reason.Done else exit_reason.Refused
-ending_of_run (Err stopped) = ending_of_cause stopped.cause
 
 -- whether all that was asked for was carried out
 abbrev pub is_through : ExitReason → Bool

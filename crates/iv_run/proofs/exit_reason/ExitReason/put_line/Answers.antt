@@ -1,4 +1,4 @@
-use Rattle.iv_cli.proofs.exit_reason.ExitReason.put_line.Goals as goal
+use Rattle.iv_run.proofs.exit_reason.ExitReason.put_line.Goals as goal
 
 pub returns-in-InputUnreadable-clause-line : goal.returns-in-InputUnreadable-clause-line
 returns-in-InputUnreadable-clause-line g c = rw c.in-InputUnreadable.is c.put_said-in-InputUnreadable.ensures

@@ -1,14 +1,13 @@
 //! How a run ends: its exit status, and its line on standard error.
 ghost use Rattle.std.specs.Prelude.{◌≡◌, ◌++◌, true, codes, decimal};
 ghost use Rattle.iv_bytes.specs.Sinks.{Puts};
-ghost use Rattle.iv_cli.specs.ExitReasons.{status_of, ending_of, ending_of_run, ending_after, name_meant, line_of, is_through};
+ghost use Rattle.iv_run.specs.ExitReasons.{status_of, ending_of, ending_after, name_meant, line_of, is_through};
 
+use crate::fault::{CliFault, FileFault};
 use itoa::Buffer;
 use iv_args::{Plan, Slot};
 use iv_bytes::{Sink, WriteFault, put_pieces};
 use iv_lines::{Fault, LoadFault, load_text};
-use iv_run::{CliFault, FileFault};
-use iv_session::{RunCause, RunFault, Summary};
 use std::alloc::{AllocError, Allocator};
 use std::io::{self, ErrorKind};
 
@@ -39,7 +38,7 @@ pub enum ExitReason {
 
 impl From<AllocError> for ExitReason {
     ghost use Rattle.std.specs.Prelude.{◌≡◌};
-    ghost use Rattle.iv_cli.specs.declared.exit_reason.ExitReason.TheVariants.{Memory};
+    ghost use Rattle.iv_run.specs.declared.exit_reason.ExitReason.TheVariants.{Memory};
 
     ghost from_gives = { λ _ exit_reason. exit_reason ≡ Memory };
 
@@ -52,7 +51,7 @@ impl From<AllocError> for ExitReason {
 impl From<io::Error> for ExitReason {
     ghost use Rattle.std.specs.Prelude.{◌≡◌};
     ghost use Rattle.std.specs.IoError.{error_kind};
-    ghost use Rattle.iv_cli.specs.ExitReasons.{ending_of_kind};
+    ghost use Rattle.iv_run.specs.ExitReasons.{ending_of_kind};
 
     ghost from_gives = { λ error exit_reason. exit_reason ≡ ending_of_kind (error_kind error) };
 
@@ -67,7 +66,7 @@ impl From<io::Error> for ExitReason {
 /// The ending if the arguments are no plan, or an allocation failed.
 impl From<Fault> for ExitReason {
     ghost use Rattle.std.specs.Prelude.{◌≡◌};
-    ghost use Rattle.iv_cli.specs.ExitReasons.{ending_of_arguments};
+    ghost use Rattle.iv_run.specs.ExitReasons.{ending_of_arguments};
 
     ghost from_gives = { λ fault exit_reason. exit_reason ≡ ending_of_arguments fault };
 
@@ -78,7 +77,7 @@ impl From<Fault> for ExitReason {
 
 impl From<CliFault> for ExitReason {
     ghost use Rattle.std.specs.Prelude.{◌≡◌};
-    ghost use Rattle.iv_cli.specs.ExitReasons.{ending_of};
+    ghost use Rattle.iv_run.specs.ExitReasons.{ending_of};
 
     ghost from_gives = { λ fault exit_reason. exit_reason ≡ ending_of fault };
 
@@ -94,7 +93,7 @@ impl From<CliFault> for ExitReason {
 
 impl From<(Slot, FileFault)> for ExitReason {
     ghost use Rattle.std.specs.Prelude.{◌≡◌};
-    ghost use Rattle.iv_cli.specs.ExitReasons.{ending_of_file};
+    ghost use Rattle.iv_run.specs.ExitReasons.{ending_of_file};
 
     ghost from_gives = { λ why exit_reason. exit_reason ≡ ending_of_file why.0 why.1 };
 
@@ -107,34 +106,7 @@ impl From<(Slot, FileFault)> for ExitReason {
     }
 }
 
-impl From<RunCause> for ExitReason {
-    ghost use Rattle.std.specs.Prelude.{◌≡◌};
-    ghost use Rattle.iv_cli.specs.ExitReasons.{ending_of_cause};
-
-    ghost from_gives = { λ cause exit_reason. exit_reason ≡ ending_of_cause cause };
-
-    fn from(cause: RunCause) -> ExitReason {
-        match cause {
-            RunCause::Input => ExitReason::InputUnreadable,
-            RunCause::TooLong => ExitReason::InputTooLong,
-            RunCause::Output | RunCause::Messages => ExitReason::Output,
-            RunCause::Memory => ExitReason::Memory,
-        }
-    }
-}
-
 impl ExitReason {
-    /// The ending of a run of a script.
-    pub fn of_run(done: &Result<Summary, RunFault>) -> ExitReason
-        ensures { result ≡ ending_of_run done.now }
-    {
-        match done {
-            Ok(summary) if summary.refused == 0 => ExitReason::Done,
-            Ok(_) => ExitReason::Refused,
-            Err(fault) => ExitReason::from(fault.cause),
-        }
-    }
-
     /// The ending, once standard output was flushed, or could not be. A fault before that stays the one that is reported.
     pub fn after_flush(self, flushed: bool) -> ExitReason
         ensures { result ≡ ending_after flushed self }
@@ -239,12 +211,4 @@ pub fn status(fault: &CliFault) -> u8
     ensures { result ≡ status_of (ending_of fault.now) }
 {
     ExitReason::from(*fault).status()
-}
-
-/// The exit status of a run of a script.
-/// It is for callers outside this repository.
-pub fn run_status(done: &Result<Summary, RunFault>) -> u8
-    ensures { result ≡ status_of (ending_of_run done.now) }
-{
-    ExitReason::of_run(done).status()
 }
