@@ -17,9 +17,9 @@ then as long as it was: first N times longer by one base, and then N times short
 With `--of shows` they are no edits, but a `show` of each view in turn, of a region
 with ten records.
 
-The records that are added lie all over the genome. With `--at one-place` they lie
+The records that are added are all over the genome. With `--at one-place` they are
 beside one another in the first sequence, and are added in no order; with
-`--at ascending` they lie there and are added from the first to the last.
+`--at ascending` they are there too, and are added from the first to the last.
 """
 
 import argparse

@@ -1,5 +1,5 @@
 #!/usr/bin/env bash
-# Runs `rt ci` in this repository, over what large_first.sh proved.
+# Runs `rt ci` in this repository. If the toolchain keeps proofs, it takes those of large_first.sh.
 #
 # If each processor has 5 GB, as many checks run side by side as there are processors, and else as many as rt itself finds room for:
 # it counts up to 7 GB for a check, and none was seen to take more than 4.2.

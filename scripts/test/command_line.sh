@@ -1,5 +1,5 @@
 #!/usr/bin/env bash
-# How the built program ends: its exit status, what uses standard error and what on standard output, for each
+# How the built program ends: its exit status, what is on standard error and what on standard output, for each
 # way in which a run can end.
 #
 #   scripts/test/command_line.sh build/bedkeep

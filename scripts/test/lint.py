@@ -2,10 +2,10 @@
 """Searches in the crates for two things that no contract can say and that only reading shows.
 
 Memory: a value that says that memory ran out is made only where an allocation failure is turned into a fault, in a
-block `impl From<..> for FAULT`; all other code hands it on by `?`, or by an arm that makes one out-of-memory value of another. A contract cannot tell a call that met a refusal
-from one that gave up, since an allocator's refusals have no place in the logic. So the names NoMemory, Memory and
-AllocError may stand in patterns, comparisons, types, declarations and `use` lines, and as values in those blocks
-alone. AllocError itself is made in `test_faults` alone, the allocator that refuses on purpose, and where FULL_COUNTS says
+block `impl From<..> for FAULT`; all other code hands it on by `?`, or by an arm that makes one such value of another. A
+contract cannot tell a call in which an allocation failed from one that gave up, since failures have no place in the logic.
+So the names NoMemory, Memory and AllocError may be in patterns, comparisons, types, declarations and `use` lines, and as
+values in those blocks and arms alone. AllocError itself is made in `test_faults` alone, the allocator that refuses on purpose, and where FULL_COUNTS says
 that a count of items would leave its number, which no memory is large enough for.
 
 Meter: steps are counted by the meter that is handed in; a call that made a meter of its own would hide its steps.

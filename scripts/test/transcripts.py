@@ -11,16 +11,16 @@ its own. The mark at the front of a line says what it is:
     #    a comment
     @    the name of a file; its lines follow, each after a |
     $    the words of a run
-    <    a line of its script; where there is none, standard input can't be read
+    <    a line of its script; if there is none, standard input can't be read
     >    a line that it prints
     !    a line of its messages
-    =    its status, where that is not 0
+    =    its status, if that is not 0
 
 In a table (.tsv) each block after the first is the names of its columns and then rows, each of which is a run: `words`,
 `status`, `script`, `out`, `err`, and any other column is the file of that name. What a table lacks is in the first block.
 
 After a mark and in a table \\t, \\n, \\r, \\0, \\\\ and \\x with two digits mean one byte. A line that ends in one \\ has no LF.
-Status 1 where anything differs.
+Status 1 if anything differs.
 """
 import difflib
 import os

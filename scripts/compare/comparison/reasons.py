@@ -1,6 +1,6 @@
 """The known reasons for a difference if both programs take their input, or bedtools alone refuses it.
 
-A reason changes what is asked of bedtools so that the cause is gone: records in another order, a line left out, one option more; or it
+A reason changes the run of bedtools so that the cause is gone: records in another order, a line left out, one option more; or it
 reorders the rows, or puts in the values that the difference is about. A difference is explained if bedtools then gives, byte for byte,
 what bedkeep printed before.
 """
