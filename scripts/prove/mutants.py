@@ -3,7 +3,8 @@
 
     scripts/prove/mutants.py              those of all crates
     scripts/prove/mutants.py iv_text ..   those of these crates
-    scripts/prove/mutants.py --applies    tries none, and looks only whether the texts that they change are there, each once
+    scripts/prove/mutants.py --applies    tries none, and looks only whether the texts that they change are there, each once;
+                                          also of those of must-fail/
 
 A function is proved from the contracts of what it calls, whatever their bodies do. So mutants of different functions are planted
 together, and each is refused if its own function isn't proved. One that such a run doesn't decide is tried alone, and is refused if
@@ -96,10 +97,10 @@ def is_refused(mutant, said):
     return any(not UNDECIDED.fullmatch(why) for path, why in FUNCTION.findall(said) if path.split("::")[-1] == mutant.of)
 
 
-def mutants_of(crate):
+def mutants_of(crate, folder="mutants"):
     """The mutants of a crate, with the texts of its sources, and what is wrong with those that can't be planted."""
     texts = {path.relative_to(crate).as_posix(): path.read_text() for path in crate.glob("src/**/*.rt")}
-    mutants = [Mutant(path, crate) for path in sorted((TOP / "crates" / crate.name / "mutants").glob("*.edit"))]
+    mutants = [Mutant(path, crate) for path in sorted((TOP / "crates" / crate.name / folder).glob("*.edit"))]
     return mutants, texts, [f"{mutant.name}: an old text isn't there once" for mutant in mutants if not mutant.plant(texts)]
 
 
@@ -126,7 +127,8 @@ def try_crate(crate):
 def main():
     everywhere = sorted(path.parent.name for path in TOP.glob("crates/*/mutants"))
     if sys.argv[1:] == ["--applies"]:
-        sys.exit("\n".join(f"{name}/{line}" for name in everywhere for line in mutants_of(TOP / "crates" / name)[2]) or 0)
+        sys.exit("\n".join(f"{crate.name}/{line}" for crate in sorted(TOP.glob("crates/*")) for folder in ("mutants", "must-fail")
+                           for line in mutants_of(crate, folder)[2]) or 0)
     if not RT:
         sys.exit("the command of the Rattle toolchain is not there")
     chosen, count, wrong = sys.argv[1:] or everywhere, 0, []
