@@ -19,6 +19,8 @@ import sys
 import tempfile
 from concurrent.futures import FIRST_COMPLETED, ThreadPoolExecutor, wait
 
+from crates import below, uses_in
+
 TOP = os.path.dirname(os.path.dirname(os.path.dirname(os.path.abspath(__file__))))
 RT = shutil.which(os.environ.get("RT", "rt"))
 PROGRAM = "bedkeep"
@@ -31,9 +33,10 @@ BYTES_OF_A_CHECK = 5_000_000_000
 def main():
     if not RT:
         sys.exit(f"{os.environ.get('RT', 'rt')}, the command of the Rattle toolchain, is not there")
-    uses = crates_used()
+    named = uses_in(f"{TOP}/crates.txt")
+    uses = {crate: named[crate] for crate in {PROGRAM} | below(PROGRAM, named)}
     work = {crate: lines_of(crate) for crate in uses}
-    order = sorted(uses, key=lambda crate: -chain_above(crate, uses, work))
+    order = sorted(sorted(uses), key=lambda crate: -chain_above(crate, uses, work))
     with tempfile.TemporaryDirectory() as room:
         return prove_all(order, uses, lambda crate, jobs: prove(room, crate, below(crate, uses), jobs))
 
@@ -64,23 +67,6 @@ def share(busy, is_alone):
     if is_alone and busy == 0:
         return usable
     return min(max(usable // 2, 1), usable - busy)
-
-
-def crates_used():
-    """The program and the crates of this repository that it uses, each with those that it names."""
-    with open(f"{TOP}/crates.txt", encoding="ascii") as file:
-        named = dict(line.split(":", 1) for line in file)
-    uses, left = {}, [PROGRAM]
-    while left:
-        crate = left.pop()
-        if crate not in uses:
-            uses[crate] = {it for it in named[crate].split() if it in named}
-            left += uses[crate]
-    return uses
-
-
-def below(crate, uses):
-    return uses[crate].union(*(below(it, uses) for it in uses[crate]))
 
 
 def chain_above(crate, uses, work):

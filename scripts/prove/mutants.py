@@ -20,6 +20,8 @@ import tempfile
 import time
 from pathlib import Path
 
+from crates import below, uses_in
+
 TOP = Path(__file__).resolve().parent.parent.parent
 RT = shutil.which(os.environ.get("RT", "rt"))
 # What the prover says of each function, and what it says of one of which that shows nothing: it is proved, it only waits for a
@@ -134,13 +136,12 @@ def main():
     chosen, count, wrong = sys.argv[1:] or everywhere, 0, []
     with tempfile.TemporaryDirectory() as top:
         subprocess.run([TOP / "scripts/prove/copy_crates.sh", top, *chosen], check=True)
-        uses = dict(line.split(":") for line in Path(top, "crates.txt").read_text().splitlines())
+        uses = uses_in(Path(top, "crates.txt"))
         for name in uses:
             if (TOP / "crates" / name / "out").is_dir():
                 shutil.copytree(TOP / "crates" / name / "out", Path(top, "crates", name, "out"))
-        below = lambda name: {name}.union(*(below(other) for other in uses[name].split() if other in uses))
         # All above a crate come before it, so that none is checked over one of its mutants.
-        for name in sorted(chosen, key=lambda name: -len(below(name))):
+        for name in sorted(chosen, key=lambda name: -len(below(name, uses))):
             begun = time.monotonic()
             of_crate, bad = try_crate(Path(top, "crates", name))
             print(f"{name}: {of_crate} mutants, {of_crate - len(bad)} refused, in {time.monotonic() - begun:.0f} seconds", flush=True)

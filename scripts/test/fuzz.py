@@ -11,8 +11,8 @@ input that ends in the middle of a line, with a SIGTERM at some time.
 
 What must hold each time: the exit status is that of the table for what happened; standard output is the beginning of what the
 undisturbed run printed, and all of it if the status says so; each line of standard error is one that the program has; no run ends
-by a signal but the one that was sent, or takes longer than ten seconds. After a line for which an allocation failed only whole lines are
-asked for; and with so little memory that nothing was written at all, a run may not have been started.
+by a signal but the one that was sent, or takes longer than ten seconds. After a line for which an allocation failed only whole
+lines are asked for; and with so little memory that nothing was written at all, a run may not have been started.
 """
 
 import argparse

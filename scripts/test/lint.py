@@ -5,8 +5,8 @@ Memory: a value that says that memory ran out is made only where an allocation f
 block `impl From<..> for FAULT`; all other code hands it on by `?`, or by an arm that makes one such value of another. A
 contract cannot tell a call in which an allocation failed from one that gave up, since failures have no place in the logic.
 So the names NoMemory, Memory and AllocError may be in patterns, comparisons, types, declarations and `use` lines, and as
-values in those blocks and arms alone. AllocError itself is made in `test_faults` alone, the allocator that refuses on purpose, and where FULL_COUNTS says
-that a count of items would leave its number, which no memory is large enough for.
+values in those blocks and arms alone. AllocError itself is made in `test_faults` alone, the allocator that refuses on
+purpose, and where FULL_COUNTS says that a count of items would leave its number, which no memory is large enough for.
 
 Meter: steps are counted by the meter that is handed in; a call that made a meter of its own would hide its steps.
 So a meter is made only in the functions that MAKES_A_METER names, file by file, once in each and in no loop: in the calls of a
