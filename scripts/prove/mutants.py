@@ -1,5 +1,5 @@
 #!/usr/bin/env python3
-"""Tries the mutants that `make test` leaves out, those of the folders mutants/: the prover must refuse each.
+"""Tries the mutants that `make test` leaves out, those of each crate's mutants.txt: the prover must refuse each.
 
     scripts/prove/mutants.py              those of all crates
     scripts/prove/mutants.py iv_text ..   those of these crates
@@ -35,12 +35,12 @@ MOST = 40
 
 
 class Mutant:
-    """A file of a folder mutants: the texts that it changes, and the function that they are in, if they are in one."""
+    """A mutant: the texts that it changes, and the function that they are in, if they are in one."""
 
-    def __init__(self, path, crate):
-        self.name, self.changes = path.stem, []
+    def __init__(self, name, lines, crate):
+        self.name, self.changes = name, []
         file = old = ""
-        for line in path.read_text().splitlines():
+        for line in lines:
             key, _, text = line.partition(": ")
             if key == "file":
                 file = text
@@ -99,16 +99,34 @@ def is_refused(mutant, said):
     return any(not UNDECIDED.fullmatch(why) for path, why in FUNCTION.findall(said) if path.split("::")[-1] == mutant.of)
 
 
-def mutants_of(crate, folder="mutants"):
-    """The mutants of a crate, with the texts of its sources, and what is wrong with those that can't be planted."""
-    texts = {path.relative_to(crate).as_posix(): path.read_text() for path in crate.glob("src/**/*.rt")}
-    mutants = [Mutant(path, crate) for path in sorted((TOP / "crates" / crate.name / folder).glob("*.edit"))]
-    return mutants, texts, [f"{mutant.name}: an old text isn't there once" for mutant in mutants if not mutant.plant(texts)]
+def mutants_of(crate):
+    """The mutants in the table of a crate: each is its name and its lines, and an empty line is between two."""
+    table = TOP / "crates" / crate.name / "mutants.txt"
+    for entry in table.read_text().strip("\n").split("\n\n") if table.is_file() else ():
+        name, *lines = entry.splitlines()
+        yield Mutant(name, lines, crate)
+
+
+def must_fail_of(crate):
+    """The mutants of a crate that are files, since `rt ci` tries them."""
+    for path in sorted((TOP / "crates" / crate.name / "must-fail").glob("*.edit")):
+        yield Mutant(path.stem, path.read_text().splitlines(), crate)
+
+
+def texts_of(crate):
+    """The sources of a crate by their names."""
+    return {path.relative_to(crate).as_posix(): path.read_text() for path in crate.glob("src/**/*.rt")}
+
+
+def misplaced(mutants, texts):
+    """What is wrong with the mutants that can't be planted."""
+    return [f"{mutant.name}: an old text isn't there once" for mutant in mutants if not mutant.plant(texts)]
 
 
 def try_crate(crate):
     """How many mutants of a crate there are, and what is wrong with those that aren't refused."""
-    mutants, texts, wrong = mutants_of(crate)
+    mutants, texts = list(mutants_of(crate)), texts_of(crate)
+    wrong = misplaced(mutants, texts)
     said, proved = check(crate, texts, texts)
     if not proved:
         return len(mutants), [f"it isn't proved as it is: {said[-300:]}"]
@@ -127,10 +145,10 @@ def try_crate(crate):
 
 
 def main():
-    everywhere = sorted(path.parent.name for path in TOP.glob("crates/*/mutants"))
+    everywhere = sorted(path.parent.name for path in TOP.glob("crates/*/mutants.txt"))
     if sys.argv[1:] == ["--applies"]:
-        sys.exit("\n".join(f"{crate.name}/{line}" for crate in sorted(TOP.glob("crates/*")) for folder in ("mutants", "must-fail")
-                           for line in mutants_of(crate, folder)[2]) or 0)
+        sys.exit("\n".join(f"{crate.name}/{line}" for crate in sorted(TOP.glob("crates/*"))
+                           for line in misplaced([*mutants_of(crate), *must_fail_of(crate)], texts_of(crate))) or 0)
     if not RT:
         sys.exit("the command of the Rattle toolchain is not there")
     chosen, count, wrong = sys.argv[1:] or everywhere, 0, []

@@ -280,7 +280,7 @@ def try_planted():
     wrong = 0
     with tempfile.TemporaryDirectory() as temporary:
         top = Path(temporary)
-        shutil.copytree(TOP / "crates", top / "crates", ignore=shutil.ignore_patterns("out", "proofs", "must-fail", "mutants"))
+        shutil.copytree(TOP / "crates", top / "crates", ignore=shutil.ignore_patterns("out", "proofs", "must-fail"))
         for number, (crate, text, _) in enumerate(PLANTED):
             folder = top / "crates" / crate / "src"
             folder.mkdir(parents=True, exist_ok=True)
