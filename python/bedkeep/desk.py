@@ -5,6 +5,7 @@
     replay   says why a line no longer fits, and writes the script again with lines that fit
     review   writes a page to look at each correction
     curate   a prompt for corrections
+    windows  runs a subcommand over a track of any size, window by window
 
 Each has --help. Statuses: 0 all is done, 1 lines are refused, 2 the options or a file can't be used.
 """
@@ -20,7 +21,7 @@ from .corrections import Line
 from .errors import Error
 from .inputs import Inputs
 
-COMMANDS = ("apply", "diff", "replay", "review", "curate")
+COMMANDS = ("apply", "diff", "replay", "review", "curate", "windows")
 
 
 class Failed(SystemExit):

@@ -93,7 +93,7 @@ made=("$name.tar.gz")
 mkdir "$stage/unpacked"
 tar --extract --gzip --file="build/$name.tar.gz" --directory="$stage/unpacked"
 documents=$stage/unpacked/$name/share/doc/bedkeep
-for document in README.md CHANGELOG.md LICENSE NOTICE docs/{GUIDE,BEDTOOLS,bedtools-report,FORMAT,PROMISES,STATEMENT}.md examples/{in_git,by_pieces,at_scale,workflows}/README.md; do
+for document in README.md CHANGELOG.md LICENSE NOTICE docs/{GUIDE,BEDTOOLS,bedtools-report,FORMAT,PROMISES,STATEMENT}.md examples/{in_git,at_scale,workflows}/README.md; do
     if [ ! -s "$documents/$document" ]; then
         echo "the release lacks $document" >&2
         exit 1

@@ -1,5 +1,5 @@
 #!/usr/bin/env bash
-# Shows that examples/at_scale prints, byte for byte, what one run prints: each subcommand, in windows that are cut and in windows
+# Shows that python3 -m bedkeep windows prints, byte for byte, what one run prints: each subcommand, in windows that are cut and in windows
 # that are halved, while few files may be open; and that it reports a damaged record. That is over 20,000 records, or as many as are
 # given, and takes seconds. Without bgzip and tabix it does nothing.
 #
@@ -23,11 +23,13 @@ tools=$(realpath "$(dirname "$0")/../../examples/at_scale")
 folder=$(mktemp -d)
 trap 'rm -rf "$folder"' EXIT
 mkdir "$folder/path" && ln -s "$(realpath "$1")" "$folder/path/bedkeep"
-export PATH=$folder/path:$PATH XDG_CACHE_HOME=$folder/cache
+export PATH=$folder/path:$PATH XDG_CACHE_HOME=$folder/cache PYTHONDONTWRITEBYTECODE=1
+PYTHONPATH=$(realpath "$(dirname "$0")/../../python")
+export PYTHONPATH
 cd "$folder" || exit 1
 failed=0
 if ! command -v bgzip > /dev/null || ! command -v tabix > /dev/null; then
-    echo 'bgzip and tabix are not installed, so examples/at_scale was left out'
+    echo 'bgzip and tabix are not installed, so windows were left out'
     exit 0
 fi
 ulimit -n 128
@@ -88,7 +90,7 @@ same() {
     shift 2
     bedkeep "$@" > rows 2> said || fails "$*: one run fails: $(cat said)"
     # shellcheck disable=SC2086 # no limit is no word
-    "$tools/windows.py" --window "$bases" "${@/%.bed/.bed.gz}" ${limit:+-limit $limit} > joined 2> said || fails "$*: by windows it fails: $(cat said)"
+    python3 -m bedkeep windows --window "$bases" "${@/%.bed/.bed.gz}" ${limit:+-limit $limit} > joined 2> said || fails "$*: by windows it fails: $(cat said)"
     cmp rows joined || fails "$*: other rows by windows of $bases bases"
     compared=$((compared + 1))
 }
@@ -136,7 +138,7 @@ same_fault() {
         bedkeep $words damaged.bed > rows 2> said && fails "$1: one run is done"
         text=$(sed 's/.*: //' said)
         # shellcheck disable=SC2086
-        "$tools/windows.py" --window 1000000000 ${words/second.bed/second.bed.gz} damaged.bed.gz > joined 2> said && fails "$1: it is done by windows"
+        python3 -m bedkeep windows --window 1000000000 ${words/second.bed/second.bed.gz} damaged.bed.gz > joined 2> said && fails "$1: it is done by windows"
         grep -q -- "$text" said || fails "$1: $(cat said) instead of $text"
     done
 }
@@ -168,7 +170,7 @@ small() {
     else
         echo 'snakemake is not installed, so the Snakefile was left out'
     fi
-    [ "$failed" -ne 0 ] || echo "$compared runs of examples/at_scale print what one run prints"
+    [ "$failed" -ne 0 ] || echo "$compared runs by windows print what one run prints"
 }
 
 # make_large: files in the order in which all programs print, no two records with one start
@@ -211,7 +213,7 @@ beside() {
     timed bedkeep "$@" -limit 100000000 > joined
     one=$seconds
     cmp rows joined || { verdict=other && failed=1; }
-    timed "$tools/windows.py" "${@/%.bed/.bed.gz}" > joined
+    timed python3 -m bedkeep windows "${@/%.bed/.bed.gz}" > joined
     cmp rows joined || { verdict=other && failed=1; }
     echo "$*: $verdict rows, $(wc -l < joined) of them, $(stat -c %s joined) bytes; one run $one s, by windows $seconds s, bedtools $theirs s"
     rm -f rows joined

@@ -1,6 +1,6 @@
 #!/usr/bin/env bash
-# Runs the examples. What the scripts print, their messages and their status are compared with examples/expected, by_pieces with
-# one run, and a track that was written out with the session that wrote it. at_scale.sh runs examples/at_scale.
+# Runs the examples. What the scripts print, their messages and their status are compared with examples/expected, and a
+# track that was written out with the session that wrote it. at_scale.sh runs examples/at_scale.
 # With --show it prints what the scripts print, and compares nothing.
 #
 #     scripts/test/examples.sh build/bedkeep [FOLDER]     FOLDER has the examples, for instance those of an unpacked release
@@ -122,45 +122,6 @@ two_curators() {
     wanted two_curators 0 $?
 }
 
-# pieces SCRIPT WORD ..: the script prints what one run prints
-pieces() {
-    local script=$PWD/by_pieces/$1
-    shift
-    (
-        cd "$found" && bedkeep "$@" > one 2>&1 && [ -s one ] && PIECE=700 WINDOW=30000 "$script" "$@" > many && cmp one many
-    ) || fails "$script $*: other rows than those of one run"
-}
-
-by_pieces() {
-    printf 'b\t9000\na\t20000\nnone\t500\nfar\t4000000000\nempty\t0\n' > "$found/sizes"
-    awk -v files="$found/" 'BEGIN {
-        srand(7)
-        low["far"] = 3999999000
-        for (number = 0; number < 3000; number++) {
-            name = substr("a  b  a  far", 1 + 3 * int(rand() * 4), 3)
-            sub(/ +/, "", name)
-            start = low[name] + int(rand() * (name == "far" ? 900 : 8900))
-            row = sprintf("%s\t%.0f\t%.0f", name, start, start + 1 + int(rand() * 90))
-            print row "\tn" number % 7 "\t" number % 11 "\t" substr("+-.", 1 + number % 3, 1) > (files "a.bed")
-            if (number % 9 == 0) print row > (files "b.bed")
-        }
-        for (number = 0; number < 900; number++) bases = bases "ACGTTGACNA"
-        print ">b\n" bases > (files "bases.fa")
-    }'
-    pieces in_rounds.sh merge -g sizes -i a.bed
-    pieces in_rounds.sh merge -g sizes -i a.bed -d 7
-    pieces in_rounds.sh complement -g sizes -i a.bed
-    pieces in_rounds.sh complement -g sizes -i a.bed -L
-    for options in '' -wa -wb '-wa -wb' -u -v -c; do
-        # shellcheck disable=SC2086 # the options are to be separated
-        pieces by_lines.sh intersect -g sizes -a a.bed -b b.bed $options
-    done
-    pieces by_lines.sh subtract -g sizes -a a.bed -b b.bed
-    pieces by_lines.sh subtract -A -b b.bed -a a.bed -g sizes
-    pieces by_lines.sh getfasta -g sizes -bed a.bed -fi bases.fa -s
-    pieces by_windows.sh genomecov -g sizes -i a.bed -bg
-}
-
 # round_trip BED EDITS VIEWS WORD ..: `records` is the track. It is written out beside the views, and loaded again it prints the same
 # views, and itself.
 round_trip() {
@@ -182,7 +143,6 @@ if command -v git > /dev/null; then
 else
     echo 'without git, so two branches are not merged'
 fi
-by_pieces
 views=$'blocks\tmerge -d 9|each\tcluster|free\tcomplement -L|depth\tgenomecov -bga|other\tintersect -wa -wb|left\tsubtract|count\tintersect -c'
 round_trip genes.bed 'add\tchrX\t5\t9\nadd\tchrX\t5\t9\nremove\tchr21\t31659600\t31668900\n' "$views" -g human.genome -b mask.bed
 round_trip mask.bed 'add\tchr22\t7\t8\tgap\nreplace\tchr20\t4690000\t4690500\tgap\tchr20\t4690000\t4690500\trepeat\n' \

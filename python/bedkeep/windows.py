@@ -1,9 +1,7 @@
-#!/usr/bin/env python3
-"""Runs a subcommand of bedkeep over BED files of any size, window by window, and prints the rows of one run over all.
+"""A run over BED files of any size, window by window: python3 -m bedkeep windows [--window N] [--jobs N] merge -g sizes -i many.bed.gz -d 10
 
-    python3 windows.py [--window N] [--jobs N] merge -g sizes -i many.bed.gz -d 10
-
-bgzip compressed the BED files, and tabix indexed them. README.md says how, and what a window is.
+It prints the rows of one run over all. bgzip compressed the BED files, and tabix indexed them. The README of examples/at_scale says how,
+and what a window is.
 """
 from __future__ import annotations
 
@@ -19,7 +17,9 @@ from enum import Enum
 from pathlib import Path
 from typing import BinaryIO, Iterable, Iterator, NamedTuple, Optional, Sequence
 
-PROGRAM = os.environ.get("BEDKEEP", "bedkeep")
+from .errors import Error
+from .program import find
+
 FILES = ("-g", "-i", "-a", "-bed", "-b", "-fi")
 VALUED = (*FILES, "-d", "-c", "-o", "-width", "-limit")
 # Options without a value in this subcommand.
@@ -41,7 +41,7 @@ class Borders(Enum):
     NONE = "There is none within a sequence."
 
 
-class Refused(Exception):
+class NoRows(Error):
     """Why there are no rows."""
 
 
@@ -95,7 +95,7 @@ class Run(NamedTuple):
                 options += [word] if value is None else [word, value]
         track = files.get("-i") or files.get("-a") or files.get("-bed")
         if not track or "-g" not in files:
-            raise Refused("a run names its genome file and its BED file")
+            raise NoRows("a run names its genome file and its BED file")
         return cls(words[0], files["-g"], track, files.get("-b"), files.get("-fi"), options)
 
     def borders(self) -> Borders:
@@ -118,13 +118,13 @@ class Run(NamedTuple):
                  "getfasta": ["-bed", track, "-fi", self.fasta or os.devnull]}
         # The windows without a record are left out for -L.
         options = [option for option in self.options if (self.subcommand, option) != ("complement", "-L")]
-        return [PROGRAM, self.subcommand, "-g", genome, *files.get(self.subcommand, ["-i", track]), *options, *more]
+        return [find(None), self.subcommand, "-g", genome, *files.get(self.subcommand, ["-i", track]), *options, *more]
 
 
 def output_of(command: Sequence[str]) -> str:
     done = subprocess.run(command, stdout=subprocess.PIPE, stderr=subprocess.PIPE, encoding="utf-8", errors="surrogateescape")
     if done.returncode:
-        raise Refused(done.stderr.strip())
+        raise NoRows(done.stderr.strip())
     return done.stdout
 
 
@@ -142,14 +142,14 @@ def sequences_of(genome: str) -> list[tuple[str, int]]:
 
 def check(run: Run) -> None:
     """Refuses what one run refuses before it reads records, and records of unknown sequences."""
-    output_of([PROGRAM, "merge", "-g", run.genome, "-i", os.devnull])
+    output_of([find(None), "merge", "-g", run.genome, "-i", os.devnull])
     empty = run._replace(fasta=os.devnull).command(os.devnull, os.devnull, os.devnull)
     output_of(empty if "-width" in run.options else [*empty, "-width", "6"])
     known = {name for name, _ in sequences_of(run.genome)}
     for bed in filter(None, (run.track, run.second)):
         unknown = [name for name in names_in(bed) if name not in known]
         if unknown:
-            raise Refused(f"{bed}: unknown sequence: {unknown[0]}")
+            raise NoRows(f"{bed}: unknown sequence: {unknown[0]}")
 
 
 def windows_of(run: Run, size: int) -> list[Window]:
@@ -189,7 +189,7 @@ def filtered(bed: str, window: Window, folder: Path, program: str, output: Optio
     with subprocess.Popen(["tabix", "-R", str(regions), bed], stdout=subprocess.PIPE) as reader:
         done = subprocess.run([*AWK, *words, program], stdin=reader.stdout, stdout=output or subprocess.PIPE)
     if reader.returncode or done.returncode:
-        raise Refused(f"{bed}: its records can't be read by tabix and awk")
+        raise NoRows(f"{bed}: its records can't be read by tabix and awk")
     return done.stdout.decode() if output is None else ""
 
 
@@ -231,7 +231,7 @@ def write_one(run: Run, window: Window, rows: Path) -> None:
         if message.endswith(": too many"):
             raise TooMany
         if runner.returncode or moved:
-            raise Refused(message.replace(f"{folder}/", f"{stretch.name}:{stretch.start}: "))
+            raise NoRows(message.replace(f"{folder}/", f"{stretch.name}:{stretch.start}: "))
 
 
 def write_rows(run: Run, window: Window, rows: Path) -> Path:
@@ -240,7 +240,7 @@ def write_rows(run: Run, window: Window, rows: Path) -> Path:
         write_one(run, window, rows)
     except TooMany:
         if len(window) == 1 and (run.borders() is Borders.NONE or window[0].end - window[0].start < 2):
-            raise Refused(f"{window[0].name}:{window[0].start}: too many records: give a greater -limit") from None
+            raise NoRows(f"{window[0].name}:{window[0].start}: too many records: give a greater -limit") from None
         parts = [rows.with_name(f"{rows.name}.{number}") for number in range(2)]
         for half, part in zip(halves(window), parts):
             write_rows(run, half, part)
@@ -317,34 +317,29 @@ def taken_away(rows: Path) -> Iterator[Path]:
     rows.unlink()
 
 
-def main() -> int:
-    parser = argparse.ArgumentParser(description="Runs a subcommand of bedkeep over indexed BED files, window by window.")
+def main(words: Sequence[str]) -> int:
+    """Prints the rows, and returns the status: 0."""
+    parser = argparse.ArgumentParser(prog="python3 -m bedkeep windows",
+                                     description="Runs a subcommand of bedkeep over indexed BED files, window by window.")
     parser.add_argument("--window", type=int, default=20_000_000, help="bases of a window (default 20000000)")
     parser.add_argument("--jobs", type=int, default=os.cpu_count() or 1, help="how many windows at once (default: one a processor)")
     parser.add_argument("--only", type=int, metavar="K", help="print the rows of window K alone, counted from 0")
     parser.add_argument("--join", type=Path, metavar="FOLDER", help="join the rows of all windows, which are in FOLDER/0, FOLDER/1 ..")
     parser.add_argument("words", nargs=argparse.REMAINDER, metavar="SUBCOMMAND ..", help="the arguments of a run of bedkeep")
-    asked = parser.parse_args()
-    if not asked.words or asked.window < 1 or asked.jobs < 1:
+    given = parser.parse_args(words)
+    if not given.words or given.window < 1 or given.jobs < 1:
         parser.error("a subcommand, and numbers above 0")
-    try:
-        run = Run.of(asked.words)
-        if asked.join:
-            put_joined(run, (asked.join / str(number) for number in range(len(windows_of(run, asked.window)))), sys.stdout.buffer)
-            return 0
-        check(run)
-        windows = windows_of(run, asked.window)
-        if asked.only is not None:
-            if not 0 <= asked.only < len(windows):
-                raise Refused(f"there is no window {asked.only}")
-            windows = [windows[asked.only]]
-        with tempfile.TemporaryDirectory() as name:
-            put_joined(run, rows_in_order(run, windows, asked.jobs, Path(name)), sys.stdout.buffer)
-    except (Refused, OSError) as fault:
-        print(f"windows.py: {fault}", file=sys.stderr)
-        return 1
+    run = Run.of(given.words)
+    if given.join:
+        put_joined(run, (given.join / str(number) for number in range(len(windows_of(run, given.window)))), sys.stdout.buffer)
+        return 0
+    check(run)
+    windows = windows_of(run, given.window)
+    if given.only is not None:
+        if not 0 <= given.only < len(windows):
+            raise NoRows(f"there is no window {given.only}")
+        windows = [windows[given.only]]
+    with tempfile.TemporaryDirectory() as name:
+        put_joined(run, rows_in_order(run, windows, given.jobs, Path(name)), sys.stdout.buffer)
+    sys.stdout.flush()
     return 0
-
-
-if __name__ == "__main__":
-    sys.exit(main())
