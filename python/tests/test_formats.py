@@ -1,0 +1,265 @@
+"""formats.py against a slow model that has each base of a record by itself, over all small records."""
+import itertools
+import unittest
+
+from bed_checks import peak_problems, problems
+from bedkeep.formats import (default_tail, faults, fields, follow, format_of, record_of_fields, shifted, tail_of, worse)
+
+LENGTH = 7
+
+
+def tail(text):
+    return "".join(f"\t{column}" for column in text.split())
+
+
+def record(start, end, score="0"):
+    return ("chr1", str(start), str(end), "n", score, "+")
+
+
+def intervals():
+    return itertools.combinations(range(LENGTH), 2)
+
+
+def structures(start, end):
+    """All lists of blocks, as ranges, that begin at the start and end at the end."""
+    for count in range(1, (end - start) // 2 + 2):
+        for inner in itertools.combinations(range(start + 1, end), 2 * count - 2):
+            ends = [start, *inner, end]
+            yield [range(*pair) for pair in zip(ends[::2], ends[1::2])]
+
+
+def thick_parts(start, end):
+    """No coding part, written as 0, at the start and at the end, and all coding parts at an end or in the middle."""
+    middle = (start + end) // 2
+    return sorted({(0, 0), (start, start), (end, end), (start, end), (start, middle), (middle, end), (middle, middle)})
+
+
+def bed12(start, end, thick, blocks, comma=""):
+    sizes, starts = ",".join(str(len(block)) for block in blocks), ",".join(str(block[0] - start) for block in blocks)
+    return tail(f"{thick[0]} {thick[1]} 0 {len(blocks)} {sizes}{comma} {starts}{comma}")
+
+
+class Slow:
+    """What becomes of the bases of a BED12 record, by the rules in words."""
+
+    def __init__(self, old, thick, blocks, new):
+        (start, end), (self.first, self.last) = old, new
+        by = self.first - start
+        self.is_shift = by == self.last - end
+        if self.is_shift:
+            self.blocks = [[base + by for base in block] for block in blocks]
+        elif len(blocks) == 1:
+            self.blocks = [list(range(*new))]
+        else:
+            self.blocks = [list(range(self.first, blocks[0][-1] + 1)), *map(list, blocks[1:-1]), list(range(blocks[-1][0], self.last))]
+        self.cut = [[base for base in block if self.first <= base < self.last] for block in self.blocks]
+        self.cut = [block for block in self.cut if block]
+        self.thick = tuple(self.moved(place, start, end, by) for place in thick)
+        inside = all(not place or self.first <= place <= self.last for place in self.thick)
+        self.blocks_fit = all(self.blocks) and [base for block in self.cut for base in block] == [
+            base for block in self.blocks for base in block] and self.cut[0][0] == self.first and self.cut[-1][-1] == self.last - 1
+        self.fits = self.blocks_fit and inside and self.thick[0] <= self.thick[1]
+
+    def moved(self, place, start, end, by):
+        if not start <= place <= end:
+            return place
+        if self.is_shift:
+            return place + by
+        return {start: self.first, end: self.last}.get(place, place)
+
+    def offer(self):
+        """The bases that are left between the new ends, and the coding part within them."""
+        if not self.cut:
+            return None
+        start, end = self.cut[0][0], self.cut[-1][-1] + 1
+        thick = self.thick
+        if thick != (0, 0):
+            coding = [base for base in range(*thick) if start <= base < end]
+            thick = (coding[0], coding[-1] + 1) if coding else (start, start)
+        return start, end, thick, [range(block[0], block[-1] + 1) for block in self.cut]
+
+
+class Blocks(unittest.TestCase):
+    def test_all_small_records_of_blocks(self):
+        done = refused = offers = 0
+        for old in intervals():
+            for blocks, thick in itertools.product(structures(*old), thick_parts(*old)):
+                before = bed12(*old, thick, blocks)
+                for new in intervals():
+                    if new == old:
+                        continue
+                    slow = Slow(old, thick, blocks, new)
+                    followed = follow(record(*old), before, record(*new))
+                    what = (old, before, new)
+                    self.assertEqual(not followed.fault, slow.fits, what)
+                    if slow.fits:
+                        done += 1
+                        self.assertEqual(followed.tail, bed12(*new, slow.thick, [range(b[0], b[-1] + 1) for b in slow.blocks]), what)
+                        self.assertEqual(problems("\t".join(record(*new)) + followed.tail, 12), [], what)
+                    else:
+                        refused += 1
+                        self.assertEqual(followed.tail, before)
+                        self.check_offer(followed.offer, slow, what)
+                        offers += followed.offer is not None
+        self.assertGreater(min(done, refused, offers), 200)
+
+    def check_offer(self, offer, slow, what):
+        expected = slow.offer()
+        if expected is None:
+            self.assertIsNone(offer, what)
+            return
+        start, end, thick, blocks = expected
+        self.assertEqual("\t".join(offer), "\t".join(record(start, end)) + bed12(start, end, thick, blocks), what)
+        self.assertEqual(problems("\t".join(offer), 12), [], what)
+
+    def test_words(self):
+        gene, old = record(100, 200), tail("110 190 0 3 20,10,30, 0,40,70,")
+        for start, end, fault in (
+            (100, 145, "the end 145 is within block 2 of 3"), (100, 160, "the end 160 is between blocks 2 and 3 of 3"),
+            (120, 200, "the start 120 is between blocks 1 and 2 of 3"), (145, 200, "the start 145 is within block 2 of 3"),
+            (145, 160, "the start 145 is within block 2 of 3, the end 160 is between blocks 2 and 3 of 3"),
+            (115, 200, "thickStart 110 is outside of the record"), (100, 180, "thickEnd 190 is outside of the record"),
+            (300, 350, "all blocks are outside of the record"), (10, 100, "all blocks are outside of the record"),
+        ):
+            self.assertEqual(follow(gene, old, record(start, end)).fault, fault)
+        self.assertEqual(follow(gene, old, record(100, 145)).offer, (*record(100, 145), *"110 145 0 2 20,5, 0,40,".split()))
+        self.assertEqual(follow(gene, old, record(100, 160)).offer, (*record(100, 150), *"110 150 0 2 20,10, 0,40,".split()))
+        self.assertEqual(follow(gene, old, record(125, 200)).offer, (*record(140, 200), *"140 190 0 2 10,30, 0,30,".split()))
+        self.assertEqual(follow(gene, old, record(100, 200, "1001")).fault, "score 1001 is not from 0 to 1000")
+
+    def test_the_real_case_of_a_gene_that_moves(self):
+        old, before = record(100, 200), tail("120 180 0 2 10,20, 0,80,")
+        self.assertEqual(follow(old, before, record(110, 210)).tail, tail("130 190 0 2 10,20, 0,80,"))
+        self.assertEqual(follow(old, before, ("chr2", "1", "101", "n", "0", "+")).tail, tail("21 81 0 2 10,20, 0,80,"))
+        self.assertEqual(follow(old, before, record(90, 250)).tail, tail("120 180 0 2 20,70, 0,90,"))
+        self.assertEqual(shifted(old, before, -100), (record(0, 100), tail("20 80 0 2 10,20, 0,80,")))
+        with self.assertRaisesRegex(ValueError, "^the start would be -1$"):
+            shifted(old, before, -101)
+
+    def test_a_record_that_was_invalid_is_refused_for_nothing_else(self):
+        old = record(100, 200)
+        for before, new, after in (
+            ("100 200 0 2 10,20, 0,70,", record(100, 210), "100 210 0 2 10,20, 0,70,"),  # the last block ends before the record
+            ("100 200 0 2 10,20, 5,80,", record(102, 200), "102 200 0 2 10,20, 3,78,"),
+            ("100 200 0 2 10,x 0,80", record(90, 200), "90 200 0 2 10,x 0,80"), ("1 2 0 1 100 0", record(90, 200), "1 2 0 1 110 0"),
+            ("100 200 0 3 60,60,20 0,40,80", record(100, 210), "100 210 0 3 60,60,30 0,40,80"),
+            ("100 200 300,0,0 1 100 0", record(100, 210), "100 210 300,0,0 1 110 0"),
+        ):
+            self.assertEqual(follow(old, tail(before), new), (tail(after), "", None), before)
+        followed = follow(old, tail("100 200 0 2 10,20, 5,80,"), record(107, 200))
+        self.assertEqual((followed.fault, followed.tail), ("a block is outside of the record", tail("100 200 0 2 10,20, 5,80,")))
+
+
+class Others(unittest.TestCase):
+    def test_coding_parts_without_blocks(self):
+        for old in intervals():
+            for thick, colour in itertools.product(thick_parts(*old), ("", " 0", " 1,2,3", " 1,2,3 x y")):
+                before = tail(f"{thick[0]} {thick[1]}{colour}")
+                for new in intervals():
+                    slow = Slow(old, thick, [range(*old)], new)
+                    followed = follow(record(*old), before, record(*new))
+                    self.assertEqual(not followed.fault, slow.fits, (old, before, new))
+                    start, end = slow.thick if slow.fits else thick
+                    self.assertEqual(followed.tail, tail(f"{start} {end}{colour}"))
+                    if not slow.fits:
+                        _, _, (start, end), _ = slow.offer()
+                        self.assertEqual(followed.offer, (*record(*new), *f"{start} {end}{colour}".split()))
+
+    def test_summits(self):
+        for old in intervals():
+            for offset in range(-1, old[1] - old[0]):
+                base = old[0] + offset
+                for new in intervals():
+                    followed = follow(record(*old), tail(f"1.5 -1 2e3 {offset}"), record(*new))
+                    by = new[0] - old[0]
+                    base_now = base + by if by == new[1] - old[1] else base
+                    if offset < 0 or base_now in range(*new):
+                        expected = offset if offset < 0 else base_now - new[0]
+                        self.assertEqual(followed, (tail(f"1.5 -1 2e3 {expected}"), "", None))
+                        self.assertEqual(peak_problems("\t".join(record(*new)) + followed.tail), [])
+                    else:
+                        self.assertEqual(followed, (tail(f"1.5 -1 2e3 {offset}"), f"the summit at base {base} is outside of the record",
+                                                    (*record(*new), "1.5", "-1", "2e3", "-1")))
+        outside = tail("1 2 3 100")
+        self.assertEqual(follow(record(100, 200), outside, record(90, 200)).tail, tail("1 2 3 110"))
+        self.assertEqual(follow(record(100, 200), outside, record(150, 200)).tail, tail("1 2 3 50"))
+        self.assertEqual(follow(record(100, 200), outside, record(201, 300)).fault, "the summit at base 200 is outside of the record")
+
+    def test_text_follows_nothing(self):
+        for text in "150", "100", "a b", "5.5 0 200", "100 200 300 x", "1 2 3 4 5", "a 200 0 2 10,20 0,80", "100 200 0 2 10,20 0,80 7x":
+            if text.endswith("7x"):
+                text = text.replace("0,80", "0,70")  # no blocks that can hold, before one column more
+                text = text.replace("100 200", "99 200")
+            self.assertEqual(follow(record(100, 200), tail(text), record(120, 200)), (tail(text), "", None), text)
+            self.assertEqual(faults(record(100, 200, "x"), tail(text)), [] if text != "5.5 0 200" else ["score x is not from 0 to 1000"])
+        self.assertEqual(follow(("c", "1", "2"), "", ("c", "1", "3")), ("", "", None))
+
+    def test_formats(self):
+        for text, name in (
+            ("100 200", "BED8"), ("100 200 0", "BED9"), ("100 200 1,2,3", "BED9"), ("1.5 2 3", "broadPeak"), ("100 200 77", "broadPeak"),
+            ("1 2 3 4", "narrowPeak"), ("1 2 3 -1", "narrowPeak"), ("100 200 0 1", "narrowPeak"), ("100 200 1,2,3 1", "BED9"),
+            ("100 200 0 2 10,20 0,80", "BED12"), ("100 200 0 2 10,20 0,80 x", "BED12"), ("100 200 red 1 x y", "BED12"), ("7", ""), ("a b", ""),
+        ):
+            self.assertEqual(format_of(record(100, 200), tail(text)), name, text)
+
+    def test_default_tails(self):
+        for width, like, expected in (
+            (7, "", "."), (8, "", "5 9"), (9, "", "5 9 0"), (10, "", "0 -1 -1 -1"), (12, "", "5 9 0 1 4 0"), (11, "", ". . . . ."),
+            (8, "a b", ". ."), (9, "1.5 2 3", "0 -1 -1"), (12, "a b c d e f", ". . . . . ."), (14, "5 9 0 1 4 0 x y", "5 9 0 1 4 0 . ."),
+            (11, "5 9 1,2,3 x y", "5 9 0 . ."), (10, "a b c d", ". . . ."),
+        ):
+            self.assertEqual(default_tail(record(5, 9), width, tail(like)), tail(expected))
+            self.assertEqual(faults(record(5, 9), tail(expected)), [])
+
+    def test_faults(self):
+        for text, expected in (
+            ("4 9", ["thickStart 4 is outside of the record"]), ("5 10 .", ["thickEnd 10 is outside of the record", "itemRgb . is no colour"]),
+            ("0 0 1,2,3", []), ("0 9 1,2,256", ["itemRgb 1,2,256 is no colour"]), ("8 7", ["thickStart 8 is after thickEnd 7"]),
+            ("x 9 0", []), ("1 2 3 4", ["summit 4 is outside of the record"]), ("1 2 3 3", []), ("1 2 3 -2", ["summit -2 is outside of the record"]),
+            ("5 9 0 2 1,1 0,3", []), ("5 9 0 2 1,1, 1,3,", ["the first block begins 1 after the start"]),
+            ("5 9 0 2 1,1, 0,2,", ["blocks end 3 after the start, the record 4"]), ("5 9 0 2 1,2 0,2,,", ["blocks are not numbers"]),
+            ("5 9 0 2 3,2 0,2", ["block 1 ends after block 2 begins"]), ("5 9 0 2 4 0", ["blockCount 2 is not the number of blocks"]),
+            ("5 9 0 2 4,0 0,4", ["block 2 has no base"]), ("5 9 red 1 4,x 0", ["itemRgb red is no colour", "blocks are not numbers"]),
+        ):
+            self.assertEqual(faults(record(5, 9), tail(text)), expected)
+        self.assertEqual(worse(record(5, 9), tail("4 9"), record(5, 8), tail("4 9")), ["thickEnd 9 is outside of the record"])
+
+    def test_the_faults_are_those_of_bedtobigbed(self):
+        """All small tails of BED12, valid or not, by the other program's rules."""
+        counts, lists = ("0", "1", "2", "x"), ("4", "1,1", "2,2,", "1,0", "0,3", "0", "0,2", "", "a", "1,,1", "3,3")
+        for first, last, colour, count, sizes, starts in itertools.product("0579", "0569", ("0", "1,2,256"), counts, lists, lists):
+            text = "\t".join(["", first, last, colour, count, sizes, starts])
+            if count != "x":  # which is no BED12
+                self.assertEqual(bool(faults(record(5, 9), text)), bool(problems("\t".join(record(5, 9)) + text, 12)), text)
+
+
+class Fields(unittest.TestCase):
+    def test_there_and_back(self):
+        for old in intervals():
+            for blocks, thick, comma in itertools.product(structures(*old), thick_parts(*old), ("", ",")):
+                self.back(record(*old), bed12(*old, thick, blocks, comma))
+            for text in "7", "1 2", "5 6 0", "1.5 -1 3", f"1 2 3 {old[1] - old[0] - 1}", "1 2 3 -1", "1 2 3 100", "a b c d e", "5 9 0 2 1,1 1,3 x":
+                self.back(record(*old), tail(text))
+        for text in "5 9 0 2 1,1 0,3,", "5 9 0 2 1,1 1,3", "5 9 0 02 1,1 0,3", "5 9 0 2 01,1 0,3", "5 9 0 x 1 2", "5 9 0 1 x y", "5 9 0 1 4, 0,":
+            self.back(record(5, 9), tail(text))
+
+    def back(self, one, text):
+        named = fields(one, text)
+        if not text.endswith("\t100"):
+            self.assertEqual(tail_of(named), text)
+        self.assertEqual(record_of_fields(named), one)
+
+    def test_one_thing_is_one_field(self):
+        gene, text = record(100, 200), tail("110 190 0 2 10,20, 0,80,")
+        named = fields(gene, text)
+        self.assertEqual(list(named.items())[6:], [("thickStart", "110"), ("thickEnd", "190"), ("itemRgb", "0"), ("blocks", "110-180,")])
+        longer = fields(record(90, 250), follow(gene, text, record(90, 250)).tail)
+        self.assertEqual([name for name in named if named[name] != longer[name]], ["start", "end"])
+        self.assertEqual(tail_of({**named, "start": "95"}), follow(gene, text, record(95, 200)).tail)
+        with self.assertRaisesRegex(ValueError, "^the blocks are not within the record$"):
+            tail_of({**named, "end": "180"})
+        peak = fields(record(100, 200), tail("1 2 3 50"))
+        self.assertEqual(peak["summit"], "150")
+        self.assertEqual(tail_of({**peak, "start": "120"}), tail("1 2 3 30"))
+        with self.assertRaisesRegex(ValueError, "^the summit at base 150 is outside of the record$"):
+            tail_of({**peak, "start": "151"})
