@@ -14,7 +14,7 @@ import subprocess
 import weakref
 from typing import IO, Callable, NamedTuple, NoReturn, Optional, Sequence
 
-from .errors import HINT, Ended, ended
+from .errors import HINT, Ended, Error, ended
 from .interrupts import Interrupts
 from .program import decoded, encoded, environment
 from .rows import Lines
@@ -119,12 +119,15 @@ class Conversation:
         self._selector.register(self._err, selectors.EVENT_READ)
         self._count = 0
         self._over: Optional[Ended] = None
+        self._owner = os.getpid()
 
-    def ask(self, text: str, take: Take, interrupts: Interrupts) -> Answer:
+    def ask(self, text: str, take: Take, interrupts: Interrupts, whole: bool = False) -> Answer:
         """Sends the lines of a text, hands what they print to `take`, piece by piece, and waits for the end of the last answer.
 
-        After an interrupt the lines that aren't begun are left out. What `take` raises is raised once the answer is complete.
+        After an interrupt the lines that aren't begun are left out, unless they are to be sent as a whole. What `take` raises is
+        raised once the answer is complete.
         """
+        self.refuse_forked()
         if self._over:
             raise self._over
         exchange = Exchange(text, take, self._count)
@@ -133,7 +136,7 @@ class Conversation:
             answer = None
             while answer is None:
                 self._step(exchange)
-                if interrupts.came:
+                if interrupts.came and not whole:
                     exchange.cut()
                 answer = exchange.answer()
             self._drain(exchange)
@@ -144,6 +147,16 @@ class Conversation:
         if exchange.failure:
             raise exchange.failure
         return answer
+
+    @property
+    def is_forked(self) -> bool:
+        """Whether this process was forked from the one that began the session."""
+        return os.getpid() != self._owner
+
+    def refuse_forked(self) -> None:
+        """Raises an Error in a process that was forked: two can't share the pipes to a program."""
+        if self.is_forked:
+            raise Error(f"this session belongs to process {self._owner}, and this is process {os.getpid()}: begin a session here")
 
     @property
     def is_over(self) -> bool:

@@ -14,7 +14,7 @@ class NotFound(Error):
     """The program isn't there."""
 
 
-class Refused(Error):
+class Refused(Error, ValueError):
     """A line was refused, and changed nothing.
 
     reason: why, as the program says it, such as `no such record`

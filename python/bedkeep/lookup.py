@@ -6,65 +6,91 @@ import os
 import re
 from collections import Counter
 from collections.abc import Mapping
-from typing import Any, Callable, Iterable, Optional
+from typing import Callable, Iterable, Iterator, Optional
 
+from .changes import Changes
 from .program import Path, decoded, encoded
-from .rows import RECORD
+from .records import WIDEST, Record, record_of
 from .script import Script
 from .sources import Genome, lengths_of
 
 PIECE = 1 << 20
+FEW = 4  # names that are looked for one after another
 HEADER = re.compile(rb"^(?:#.*|(?:track|browser)(?: .*)?)?\r?$", re.MULTILINE)
 MAY_BE_HEADER = re.compile(rb"\n[#tb\r\n]")
-Record = tuple[Any, ...]
 
 
 class Lookup:
-    """The BED file as the session reads it, and its edits. This is made before the program is started.
-
-    lengths: those of the genome file when the program read it, or None if they aren't known
-    """
+    """The BED file as the session reads it, and its edits. This is made before the program is started."""
 
     def __init__(self, genome: Genome, bed: str) -> None:
         self._genome, self._bed = genome, bed
-        self._genome_read = None if isinstance(genome, Mapping) else _stamp(genome)
-        self._bed_read = _stamp(bed)
-        self.lengths: Optional[dict[str, int]] = None
+        self._genome_read = None if isinstance(genome, Mapping) else stamp(genome)
+        self._bed_read = stamp(bed)
+        self._count: Optional[int] = None  # of the file's records
+        self._ranks: dict[str, int] = {}
         self.script = Script(None)
 
     def begin(self, script: Callable[[Optional[dict[str, int]]], Script] = Script) -> Script:
         """Reads the lengths of a genome file that the program took, and begins the script."""
-        if isinstance(self._genome, Mapping) or _stamp(self._genome) == self._genome_read:
-            self.lengths = lengths_of(self._genome)
-        self.script = script(self.lengths)
+        known = isinstance(self._genome, Mapping) or self._genome_read is not None and stamp(self._genome) == self._genome_read
+        lengths = lengths_of(self._genome) if known else None
+        self._ranks = {sequence: rank for rank, sequence in enumerate(lengths or ())}
+        self.script = script(lengths)
         return self.script
+
+    @property
+    def lengths(self) -> Optional[dict[str, int]]:
+        """The lengths now, or None if those of the genome file when the program read it aren't known."""
+        return self.changes.lengths
+
+    @property
+    def changes(self) -> Changes:
+        return self.script.changes()
 
     @property
     def is_possible(self) -> bool:
         """Whether the BED file is still the one that was read, and the lengths are known. A pipe can't be read twice."""
-        return self.lengths is not None and self._bed_read is not None and _stamp(self._bed) == self._bed_read
+        return self.lengths is not None and self._bed_read is not None and stamp(self._bed) == self._bed_read
 
     def count(self) -> int:
         """How many records the track has."""
-        with open(self._bed, "rb") as file:
-            count = 0
-            while piece := file.read(PIECE) + file.readline():
-                count += _count(piece)
-        return count + self.added()
+        if self._count is None:
+            with open(self._bed, "rb") as file:
+                self._count = 0
+                while piece := file.read(PIECE) + file.readline():
+                    self._count += _count(piece)
+        return self._count + self.changes.added
 
-    def added(self) -> int:
-        """How many records the edits added, less those that they removed."""
-        return sum(self.script.change().values())
+    def named(self, names: Iterable[str]) -> dict[str, list[Record]]:
+        """The records of each name as they are after the edits, in track order, copies as often as they are there."""
+        wanted = set(names)
+        found: dict[str, Counter[Record]] = {name: Counter() for name in wanted}
+        for record in _named(self._bed, wanted):
+            found[record[3]][record] += 1
+        for name, counted in found.items():
+            counted.update({record: net for record, net in self.changes.named(name).items() if len(record) > 3})
+        return {name: self._sorted(counted) for name, counted in found.items()}
 
-    def named(self, name: str) -> list[Record]:
-        """The records of that name as they are after the edits, in track order."""
-        counted = Counter(_named(self._bed, name))
-        counted.update({record: copies for record, copies in self.script.change().items() if record[3:4] == (name,)})
-        ranks = {sequence: rank for rank, sequence in enumerate(self.lengths or ())}
-        return sorted(counted.elements(), key=lambda record: (ranks[record[0]], *record[1:3], *map(encoded, record[3:])))
+    def search(self, part: str) -> list[Record]:
+        """The records that have this in their names, in any case, in track order, copies as often as they are there."""
+        folded = part.casefold()
+        counted = Counter(_with(self._bed, folded))
+        changes = self.changes
+        for name in changes.names():
+            if folded in name.casefold():
+                counted.update({record: net for record, net in changes.named(name).items() if len(record) > 3})
+        return self._sorted(counted)
+
+    def order(self, record: Record) -> tuple[object, ...]:
+        """What sorts records as the track has them."""
+        return (self._ranks[record[0]], int(record[1]), int(record[2]), *map(encoded, record[3:]))
+
+    def _sorted(self, counted: Counter[Record]) -> list[Record]:
+        return sorted(counted.elements(), key=self.order)
 
 
-def _stamp(path: Path) -> Optional[tuple[int, ...]]:
+def stamp(path: Path) -> Optional[tuple[int, ...]]:
     """What differs when a regular file was written again."""
     if not os.path.isfile(path):
         return None
@@ -82,15 +108,65 @@ def _count(lines: bytes) -> int:
     return count
 
 
-def _named(bed: str, name: str) -> Iterable[Record]:
-    """The records of a BED file that have the name."""
+def _named(bed: str, names: set[str]) -> Iterator[Record]:
+    """The records of a BED file that have one of the names: it is gone through once for each if they are few, else line by line."""
+    if len(names) > FEW:
+        yield from _of_names(bed, names)
+        return
+    for name in names:
+        pattern = re.compile(rb"\t" + re.escape(encoded(name)) + rb"(?=[\t\r\n]|\Z)")
+        yield from (record for record in _matched(bed, pattern) if record[3] == name)
+
+
+def _of_names(bed: str, names: set[str]) -> Iterator[Record]:
+    wanted = set(map(encoded, names))
+    with open(bed, "rb") as file:
+        for line in file:
+            columns = line.split(b"\t", 4)
+            if len(columns) > 3 and columns[3].rstrip(b"\r\n") in wanted:
+                record = _record(line)
+                if record and record[3] in names:
+                    yield record
+
+
+def _with(bed: str, part: str) -> Iterator[Record]:
+    """The records of a BED file that have the folded text in their folded names."""
+    with open(bed, "rb") as file:
+        while piece := file.read(PIECE) + file.readline():
+            for line in _containing(piece, part) if part.isascii() else re.findall(rb".*\n?", piece):
+                record = _record(line)
+                if record and part in record[3].casefold():
+                    yield record
+
+
+def _containing(lines: bytes, part: str) -> Iterator[bytes]:
+    """Those of the lines that have a text of ASCII letters in them, in any case."""
+    lower, wanted = lines.lower(), encoded(part)
+    place = lower.find(wanted)
+    while 0 <= place < len(lines):
+        end = lines.find(b"\n", place) + 1 or len(lines)
+        yield lines[lines.rfind(b"\n", 0, place) + 1:end]
+        place = lower.find(wanted, end)
+
+
+def _matched(bed: str, pattern: re.Pattern[bytes]) -> Iterator[Record]:
+    """The records with a name of the lines in which a pattern is found."""
     if not os.path.getsize(bed):
         return
     with open(bed, "rb") as file, mmap.mmap(file.fileno(), 0, access=mmap.ACCESS_READ) as text:
-        for found in re.finditer(rb"\t" + re.escape(encoded(name)) + rb"(?=[\t\r\n]|\Z)", text):
-            start = text.rfind(b"\n", 0, found.start()) + 1
-            end = text.find(b"\n", start)
-            line = text[start:] if end < 0 else text[start:end]
-            columns = decoded(line[:-1] if line.endswith(b"\r") and end >= 0 else line).split("\t")
-            if not HEADER.match(line) and len(columns) in range(4, len(RECORD) + 1) and columns[3] == name:
-                yield (columns[0], int(columns[1]), int(columns[2]), *columns[3:])
+        before = -1
+        for found in pattern.finditer(text):
+            begin = text.rfind(b"\n", 0, found.start()) + 1
+            if begin != before:
+                end = text.find(b"\n", begin)
+                record = _record(text[begin:] if end < 0 else text[begin:end + 1])
+                before = begin
+                if record:
+                    yield record
+
+
+def _record(line: bytes) -> Optional[Record]:
+    """The record of a line of a BED file, if it has one with a name."""
+    text = line[:-2] if line.endswith(b"\r\n") else line[:-1] if line.endswith(b"\n") else line
+    columns = decoded(text).split("\t")
+    return None if len(columns) not in range(4, WIDEST + 1) or HEADER.fullmatch(text) else record_of(columns)

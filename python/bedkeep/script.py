@@ -1,18 +1,22 @@
 """Lines of a script, the edits that were accepted, and what takes one of them back."""
 from __future__ import annotations
 
+import enum
 import io
 import operator
 import os
 import re
-from collections import Counter
 from collections.abc import Mapping
-from typing import Any, Iterable, Optional, SupportsIndex, Union
+from typing import Collection, Iterable, Iterator, Optional, Sequence, SupportsIndex, Union
 
+from .changes import Changes
 from .interrupts import Interrupts
+from .records import record_of
 
 INVERSE = {"add": "remove", "remove": "add", "replace": "replace",
            "addb": "removeb", "removeb": "addb", "replaceb": "replaceb"}
+TOGETHER = "# together:"  # how the comment begins below which the lines of a paragraph are done whole or not at all
+Move = tuple[Optional[str], Optional[str]]  # the record that a line took out, and the one that it put in
 VIEW_COMMAND = re.compile(r"\n(?:open\t|close\t|print\t|printall\n|show\t|showall\t)")
 
 
@@ -63,13 +67,73 @@ def _refuse_other_types(lines: object) -> None:
         raise ValueError(f"no line of a script: {lines!r}; a file of edits is handed in when it is open")
 
 
+def is_edit(line: str) -> bool:
+    """Whether a line of a script is no comment and not empty."""
+    return bool(line) and not line.startswith("#")
+
+
+def paragraphs(lines: Sequence[str]) -> Iterator[range]:
+    """The places of the lines of each paragraph: comments, the edits below them, and the empty line after these."""
+    begin, after_edit = 0, False
+    for place, line in enumerate(lines):
+        if line.startswith("#") and after_edit:
+            yield range(begin, place)
+            begin = place
+        if not line:
+            yield range(begin, place + 1)
+            begin = place + 1
+        after_edit = is_edit(line)
+    yield range(begin, len(lines))
+
+
+def accepted(lines: Sequence[str], refused: Collection[int]) -> str:
+    """The text of lines without those that were refused, by their numbers from 1. A reason for refused lines alone goes with them."""
+    kept: list[str] = []
+    for places in paragraphs(lines):
+        listed = [lines[place] for place in places if place + 1 not in refused]
+        if len(listed) < len(places) and not any(map(is_edit, listed)):
+            listed = [""] if "" in listed and kept and kept[-1] else []
+        kept += listed
+    return "".join(f"{line}\n" for line in kept)
+
+
+def pieces_of(text: str) -> Iterator[tuple[str, bool]]:
+    """The text of a script in pieces, and whether each is a group: a paragraph that is done whole or not at all."""
+    lines = text.split("\n")[:-1]
+    begin = 0
+    for places in paragraphs(lines):
+        listed = lines[places.start:places.stop]
+        if any(line.startswith(TOGETHER) for line in listed) and any(map(is_edit, listed)):
+            if begin < places.start:
+                yield "\n".join([*lines[begin:places.start], ""]), False
+            yield "\n".join([*listed, ""]), True
+            begin = places.stop
+    if begin < len(lines):
+        yield "\n".join([*lines[begin:], ""]), False
+
+
+class Kind(enum.Enum):
+    """What holds for a line and those directly below it: no reason, one, or that they are done together. Or it keeps two apart."""
+
+    PLAIN = 0
+    EXPLAINED = 1
+    TOGETHER = 2
+    SEPARATOR = 3
+
+
 class Script:
-    """The accepted edits over a genome, whose lengths are None if they aren't known."""
+    """The accepted edits over a genome, whose lengths are None if they aren't known.
+
+    The comments directly above a line are the reason for it, and for the lines below it up to the next comment or empty line.
+    An empty line separates a line that comes without a reason from lines that have one.
+    """
 
     def __init__(self, lengths: Optional[Mapping[str, int]]) -> None:
         self._lines: list[str] = []
+        self._kinds: list[Kind] = []  # of each line
         self._added: list[str] = []
-        self._lengths = lengths
+        self._changes = Changes(lengths)
+        self._counted = 0  # how many lines are in the changes
 
     def add(self, text: str) -> None:
         """Adds accepted lines. They are taken apart when that is needed, so that many cost little."""
@@ -79,7 +143,7 @@ class Script:
         """The lines, without their ends."""
         with Interrupts():
             for text in self._added:
-                self._lines += text.split("\n")[:-1]
+                self._add(text.split("\n")[:-1])
             self._added.clear()
         return self._lines
 
@@ -87,60 +151,93 @@ class Script:
         """The command of a line and the fields that the program is given."""
         return line.split("\t")
 
-    def change(self) -> Counter[tuple[Any, ...]]:
-        """How many more copies of each record the track has by the edits, or below 0 how many fewer."""
-        change: Counter[tuple[Any, ...]] = Counter()
+    def changes(self) -> Changes:
+        """What the lines changed."""
+        lines = self.lines()
+        with Interrupts():
+            for line in lines[self._counted:]:
+                if is_edit(line):
+                    command, *fields = self.parts(line)
+                    self._changes.do(command, fields)
+            self._counted = len(lines)
+        return self._changes
+
+    def moves(self) -> Iterator[Move]:
+        """What each line of the track did, in their order: records with all their columns, numbers without leading zeros."""
         for line in self.lines():
-            command, *fields = self.parts(line)
-            if command in ("remove", "replace"):
-                change[_record(fields[:len(fields) // 2] if command == "replace" else fields)] -= 1
-            if command in ("add", "replace"):
-                change[_record(fields[len(fields) // 2:] if command == "replace" else fields)] += 1
-        return change
+            command, *fields = line.split("\t")
+            half = len(fields) // 2 if command == "replace" else len(fields)
+            if command in ("add", "remove", "replace"):
+                yield (None if command == "add" else "\t".join(record_of(fields[:half])),
+                       None if command == "remove" else "\t".join(record_of(fields[-half:])))
 
     def explain(self, reason: str) -> None:
-        """Puts comments above the last edit."""
-        place = self.last()
-        self.lines()[place:place] = [f"# {line}".rstrip() for line in reason.splitlines()]
+        """Puts comments above the last edit, or above the first line of its group."""
+        place = self.last()[0]
+        comments = [f"# {line}".rstrip() for line in reason.splitlines()]
+        self.changes()
+        with Interrupts():
+            below = self._lines[place:]
+            self._cut(place - 1 if comments and place and self._kinds[place - 1] is Kind.SEPARATOR else place)
+            self._extend([*comments, *below])
+            self._counted = len(self._lines)
 
     def forget(self, place: int) -> None:
-        """Takes out an edit with the comments directly above it."""
-        lines = self.lines()
+        """Takes out the last edit with the comments directly above it, and one of two empty lines around them."""
+        changes = self.changes()
         first = place
-        while first and lines[first - 1].startswith("#"):
+        while first and self._lines[first - 1].startswith("#"):
             first -= 1
-        del lines[first:place + 1]
+        if first and self._kinds[first - 1] is Kind.SEPARATOR:
+            first -= 1
+        with Interrupts():
+            command, *fields = self.parts(self._lines[place])
+            changes.undo(command, fields)
+            below = self._lines[place + 1:]
+            self._cut(first)
+            self._extend(below[1:] if below[:1] == [""] and self._lines[-1:] in ([], [""]) else below)
+            self._counted = len(self._lines)
 
-    def last(self) -> int:
-        """The place of the last edit. Comments and empty lines are none."""
+    def last(self) -> range:
+        """The places of the last edit, or of all lines of its group. Comments and empty lines are none."""
         lines = self.lines()
-        for place in range(len(lines) - 1, -1, -1):
-            if lines[place] and not lines[place].startswith("#"):
-                return place
-        raise IndexError("nothing to undo")
+        last = next((place for place in range(len(lines) - 1, -1, -1) if is_edit(lines[place])), None)
+        if last is None:
+            raise IndexError("nothing to undo")
+        first = last
+        while self._kinds[last] is Kind.TOGETHER and is_edit(lines[first - 1]):
+            first -= 1
+        return range(first, last + 1)
 
     def reverse(self, place: int) -> str:
-        """The line that takes back the line at that place, the last edit."""
-        command, *fields = self.parts(self.lines()[place])
+        """The line that takes back the line at that place, once those after it are taken back."""
+        lines = self.lines()
+        command, *fields = self.parts(lines[place])
         if command == "resize":
-            return line_of("resize", fields[0], self._length(fields[0], place))
+            later = sum(line.startswith(f"resize\t{fields[0]}\t") for line in lines[place + 1:])
+            return line_of("resize", fields[0], self.changes().length_before(fields[0], later))
         half = len(fields) // 2 if command.startswith("replace") else 0
         return line_of(INVERSE[command], *fields[half:], *fields[:half])
 
-    def length(self, chromosome: str) -> int:
-        """The length of a chromosome after all lines, or 0 if the genome lacks it."""
-        return self._length(chromosome, len(self.lines()))
+    def _add(self, lines: list[str]) -> None:
+        """Appends the lines of a call, after an empty one if the first would get the reason of the line before."""
+        if self._kinds and self._kinds[-1] in (Kind.EXPLAINED, Kind.TOGETHER) and is_edit(self._lines[-1]) and is_edit(lines[0]):
+            self._lines.append("")
+            self._kinds.append(Kind.SEPARATOR)
+        self._extend(lines)
 
-    def _length(self, chromosome: str, place: int) -> int:
-        """The length of a chromosome before the line at that place."""
-        for line in reversed(self.lines()[:place]):
-            if line.startswith(f"resize\t{chromosome}\t"):
-                return int(line.rpartition("\t")[2])
-        if self._lengths is None:
-            raise ValueError(f"the length of {chromosome} before isn't known, since the genome file can't be read again")
-        return self._lengths.get(chromosome, 0)
+    def _extend(self, lines: list[str]) -> None:
+        kind = self._kinds[-1] if self._kinds else Kind.PLAIN
+        in_comments = bool(self._lines) and self._lines[-1].startswith("#")
+        for line in lines:
+            if not line or kind is Kind.SEPARATOR:
+                kind = Kind.PLAIN
+            if line.startswith("#"):
+                kind = Kind.TOGETHER if line.startswith(TOGETHER) or in_comments and kind is Kind.TOGETHER else Kind.EXPLAINED
+            in_comments = line.startswith("#")
+            self._kinds.append(kind)
+        self._lines += lines
 
-
-def _record(columns: list[str]) -> tuple[Any, ...]:
-    """A record as the program prints it, with its numbers as integers."""
-    return (columns[0], int(columns[1]), int(columns[2]), *columns[3:])
+    def _cut(self, place: int) -> None:
+        """Takes out the lines from a place on."""
+        del self._lines[place:], self._kinds[place:]

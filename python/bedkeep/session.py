@@ -1,21 +1,27 @@
 """A session: a track that is edited line by line while views of it stay open."""
 from __future__ import annotations
 
+import functools
 import html
 import os
 import re
+import threading
+from collections import Counter
 from collections.abc import Mapping
 from heapq import nsmallest
-from typing import Any, Callable, Iterable, Iterator, Optional, Sequence, Union
+from types import MappingProxyType
+from typing import Any, Callable, Iterable, Iterator, Optional, Sequence, TypeVar, Union, cast
 
 from .conversation import Conversation, Take
 from .errors import Ended, Refused
 from .files import same_file, whole
 from .interrupts import Interrupts
 from .lookup import Lookup
-from .program import Path, find
+from .program import Path, decoded, find
+from .records import Record, record_of
+from .regions import Region, Regions, absent
 from .rows import RECORD, Lines, Reader, Row, count_of, fields_of, row_of, shows_second
-from .script import Script, edits_of, line_of, text_of
+from .script import TOGETHER, Script, accepted, edits_of, is_edit, line_of, pieces_of, text_of
 from .sources import Genome, Sources, Track, path_of
 from .tables import SCORE, frame_of_text, score_of
 from .wide_session import Wide, WideScript
@@ -23,8 +29,21 @@ from .wide_session import Wide, WideScript
 Columns = Iterable[Union[str, int]]
 STANDARD_INPUT = {"/dev/stdin", "/dev/fd/0", "/proc/self/fd/0"}
 OPENED = "view:"  # how the names of views begin that `view` opens
+UNDONE = "not done, since line"  # how the refusal of a line begins whose group has one that is refused
 LONGEST = 1 << 32  # more than a sequence can have
 REACH = 10_000  # how far from a record those near it are looked for at first
+Call = TypeVar("Call", bound=Callable[..., Any])
+
+
+def alone(call: Call) -> Call:
+    """Makes a method of a session one that a single thread is in at a time, and that no process which was forked can use."""
+    @functools.wraps(call)
+    def locked(session: Session, *words: Any, **options: Any) -> Any:
+        session._talk.refuse_forked()
+        with session._lock:
+            return call(session, *words, **options)
+
+    return cast(Call, locked)
 
 
 class Session:
@@ -40,8 +59,9 @@ class Session:
     program ends, the call raises Ended, and so does each call after it; `script()` still has what the calls before it did.
 
     An interrupt (Ctrl-C) is raised once the answer that was begun is complete, and the session can be used on. A second
-    interrupt closes it. A session is for one thread at a time. A call takes one more line than it sends of the 4,000,000
-    that the program takes. The program ends with `end`, at the end of `with`, or when nobody holds the session any more.
+    interrupt closes it. Threads may share a session: a call waits until that of another is over. A process that was forked
+    can't use it. A call takes one more line than it sends of the 4,000,000 that the program takes. The program ends with
+    `close`, at the end of `with`, or when nobody holds the session any more.
 
     `len` is the number of records, and `in` asks whether a record is there.
     """
@@ -51,6 +71,7 @@ class Session:
         self._wide = Wide(bed, second) if wide else None
         self._named: dict[str, list[str]] = {}
         self._opened = 0
+        self._lock = threading.RLock()
         self._refused: list[Refused] = []  # of the last call of `edit`
         with Sources() as sources:
             self._files = {"-g": sources.genome(genome), "-i": sources.track(bed)}
@@ -87,11 +108,15 @@ class Session:
         self.end()
 
     def end(self) -> None:
-        """Ends the session. `script()` can be called afterwards."""
-        self._talk.end()
-        if self._wide:
-            self._wide.close()
+        """Ends the session. `script()` can be called afterwards. In a process that was forked it does nothing."""
+        if self._talk.is_forked:
+            return
+        with self._lock:
+            self._talk.end()
+            if self._wide:
+                self._wide.close()
 
+    @alone
     def __len__(self) -> int:
         """The number of records."""
         if self._lookup.is_possible:
@@ -116,6 +141,7 @@ class Session:
     def __repr__(self) -> str:
         return f"<bedkeep.Session of {self._files['-i']}: {', '.join(self._state())}>"
 
+    @alone
     def _repr_html_(self) -> str:
         """What a notebook shows: the last edits, and what the last call of `edit` refused."""
         edits = "".join(f"<tr><td>{'</td><td>'.join(map(html.escape, line.split(chr(9))))}</td></tr>" for line in self._edits()[-5:])
@@ -155,36 +181,57 @@ class Session:
         """Corrects the length of a chromosome."""
         self._send_one(line_of("resize", chromosome, length), done=self._script.add)
 
+    @alone
     def edit(self, lines: Union[str, Iterable[str]], strict: bool = False) -> list[Refused]:
         """Carries out the edits of a script, all at once, and returns what was refused; all other lines are done.
+
+        The lines of a paragraph below a comment that begins with `# together:` are done whole, or none of them is.
 
         lines: the text of a script, an open file, or any lines: `add`, TAB, `chr1` .. Comments are part of `script()`.
         strict: raises the first one that was refused instead; its `others` are those after it.
         """
-        self._refused = self._send(edits_of(lines), done=self._script.add)
+        self._refused = self._carry_out(edits_of(lines))
         if strict and self._refused:
             self._refused[0].others = self._refused[1:]
             raise self._refused[0]
         return self._refused
 
+    @alone
+    def edit_together(self, lines: Union[str, Iterable[str]], reason: str = "") -> None:
+        """Carries out edits whole, with their reason, or raises the first Refused and does none. `undo` takes all of them back."""
+        text = edits_of(lines)
+        if not all(map(is_edit, text.split("\n")[:-1])):
+            raise ValueError("an empty line or a comment among lines that are done together")
+        comments = "\n# ".join([TOGETHER, *reason.splitlines()]).replace(f"{TOGETHER}\n#", TOGETHER)
+        self._refused = self._carry_out(f"{comments}\n{text}")
+        for refused in self._refused:
+            refused.number -= comments.count("\n") + 1
+        for refused in self._refused:
+            if not refused.reason.startswith(UNDONE):
+                raise refused
+
+    @alone
     def undo(self) -> str:
-        """Takes the last accepted edit back by the edit that reverses it, and returns its line. IndexError if there is none.
+        """Takes the last accepted edit back by the one that reverses it, and returns its line; of a group all its lines.
 
-        The comments directly above it go with it.
+        The comments directly above go with it. IndexError if there is no edit.
         """
-        place = self._script.last()
-        line = self._script.lines()[place]
-        self._send_one(self._script.reverse(place), done=lambda _: self._script.forget(place))
-        return line
+        places = self._script.last()
+        undone = "\n".join(self._script.lines()[places.start:places.stop])
+        self._take_back(places)
+        return undone
 
+    @alone
     def inverse(self) -> str:
-        """The line that `undo` would send. IndexError if there is no edit."""
-        return self._script.reverse(self._script.last())
+        """The lines that `undo` would send, each with its end. IndexError if there is no edit."""
+        return "".join(self._script.reverse(place) for place in reversed(self._script.last()))
 
+    @alone
     def explain(self, reason: str) -> None:
-        """Puts the reason for the last accepted edit above it, as a comment of the script. IndexError if there is none."""
+        """Puts the reason for the last accepted edit, or its group, above it, as a comment of the script. IndexError if there is none."""
         self._script.explain(reason)
 
+    @alone
     def script(self) -> str:
         """The accepted edits, in their order, as the text of a script; without those that `undo` took back."""
         return "".join(f"{line}\n" for line in self._script.lines())
@@ -195,23 +242,31 @@ class Session:
 
     # Views
 
+    @alone
     def open(self, name: str, words: str) -> None:
         """Opens a view, such as `merge -d 10`, under a name."""
         listed = _words(words)
         self._send_one(line_of("open", name, " ".join(listed)), done=lambda _: self._named.update({name: listed}))
 
-    def close(self, name: str) -> None:
-        """Closes a view."""
-        self._send_one(line_of("close", name), done=lambda _: self._named.pop(name))
+    def close(self, name: Optional[str] = None) -> None:
+        """Closes a view, or ends the session."""
+        if name is None:
+            self.end()
+            return
+        closed = name
+        self._send_one(line_of("close", closed), done=lambda _: self._named.pop(closed))
 
+    @alone
     def rows(self, name: str) -> list[Row]:
         """The rows of an open view, as the records are now."""
         return self._rows(name, line_of("print", name))
 
+    @alone
     def view(self, words: str) -> list[Row]:
         """The rows of a view, such as `merge -d 10`. It stays open, so that the next look at it is a print."""
         return self.rows(self._view(words))
 
+    @alone
     def show(self, words: str, chromosome: str, start: int, end: int) -> list[Row]:
         """The rows of a view, such as `merge -d 10`, that share a position with an interval of a chromosome, whole.
 
@@ -220,6 +275,7 @@ class Session:
         name = self._view(words)
         return self._rows(name, line_of("show", name, chromosome, start, end))
 
+    @alone
     def records(self) -> list[Row]:
         """All records in the order of the genome file."""
         rows: list[Row] = []
@@ -227,33 +283,109 @@ class Session:
         self._print_track(lambda lines: rows.extend(reader.rows(lines)))
         return rows
 
+    @alone
     def region(self, chromosome: str, start: int = 0, end: Optional[int] = None) -> list[Row]:
-        """The records that overlap an interval, or all of a chromosome, in their order."""
+        """The records that overlap an interval, or all of a chromosome, in their order.
+
+        An end past that of the chromosome is taken for it. ValueError if the genome has no such chromosome or position.
+        """
         if end is None:
             end = LONGEST
-        if self._lookup.lengths is None:
+        self._refuse_place(chromosome, start)
+        if start >= end:
+            raise ValueError(f"a region from {start} to {end}: its start is not below its end")
+        if self.lengths is None:
             return [row for row in self.view("records") if row.chromosome == chromosome and row.start < end and start < row.end]
-        first, last = max(start, 0), min(end, self._script.length(chromosome))
+        first, last = max(start, 0), min(end, self.lengths[chromosome])
         return self.show("records", chromosome, first, last) if first < last else []
 
+    @alone
+    def around(self, regions: Iterable[Region]) -> Counter[Record]:
+        """The number of copies of each record that overlaps any of the regions, by one exchange with the program.
+
+        A region is chromosome, start, end; what of it isn't in the genome is left out. Records are tuples of text, of at most
+        six columns.
+        """
+        asked = Regions(regions, self.lengths)
+        rows: Counter[bytes] = Counter()
+        lines = Lines()
+
+        def take(piece: bytes) -> None:
+            rows.update(lines.whole(piece).split(b"\n")[:-1])
+
+        name = self._view("records")
+        if self.lengths is None:
+            self._send_one(line_of("print", name), take)
+        else:
+            for refused in self._send("".join(line_of("show", name, *region) for region in asked), take):
+                raise refused
+        counted: Counter[Record] = Counter()
+        for row, copies in rows.items():
+            record = tuple(decoded(row).split("\t"))
+            times = asked.overlapping(record)
+            if times:
+                counted[record] = copies if self.lengths is None else copies // times
+        return counted
+
+    @alone
     def find(self, name: str) -> list[Row]:
         """The records of that name, in their order."""
-        if self._lookup.is_possible:
-            return [row_of(RECORD[:self.width], record) for record in self._lookup.named(name)]
-        return [row for row in self.records() if row[3:4] == (name,)]
+        return self._rows_of(self.named([name])[name])
 
+    @alone
+    def named(self, names: Iterable[str]) -> dict[str, list[Record]]:
+        """The records of each of the names, in their order, as tuples of text, of at most six columns."""
+        if self._lookup.is_possible:
+            return self._lookup.named(names)
+        found: dict[str, list[Record]] = {name: [] for name in names}
+        for record in self._all():
+            if len(record) > 3 and record[3] in found:
+                found[record[3]].append(record)
+        return found
+
+    @alone
+    def search(self, part: str) -> list[Row]:
+        """The records that have this in their names, in any case, in their order."""
+        if self._lookup.is_possible:
+            return self._rows_of(self._lookup.search(part))
+        return self._rows_of(record for record in self._all() if len(record) > 3 and part.casefold() in record[3].casefold())
+
+    @alone
     def near(self, chromosome: str, start: int, end: int, count: int = 3) -> list[Row]:
-        """The records of a chromosome whose start and end are nearest, the nearest first."""
+        """The records of a chromosome whose start and end are nearest, the nearest first. ValueError as `region` raises it."""
         def distance(row: Row) -> int:
             return abs(row.start - start) + abs(row.end - end)
 
-        reach = LONGEST if self._lookup.lengths is None else REACH
+        self._refuse_place(chromosome, start)
+        reach = LONGEST if self.lengths is None else REACH
         while True:
-            found = nsmallest(count, self.region(chromosome, start - reach, end + reach), key=distance)
+            found = nsmallest(count, self.region(chromosome, max(start - reach, 0), end + reach), key=distance)
             if len(found) == count and distance(found[-1]) <= reach or reach >= LONGEST:
                 return found
             reach *= 100
 
+    @alone
+    def net(self, record: Columns) -> int:
+        """How many copies of a record the edits put in, less those that they took out. Of its columns the first six count."""
+        return self._lookup.changes.net(record_of(_columns(record)))
+
+    @property
+    @alone
+    def lengths(self) -> Optional[Mapping[str, int]]:
+        """The length of each chromosome now, or None if the genome can't be read again, as a pipe."""
+        lengths = self._lookup.lengths
+        return None if lengths is None else MappingProxyType(lengths)
+
+    def length(self, chromosome: str) -> int:
+        """The length of a chromosome now. ValueError if the genome has none such, or can't be read again."""
+        lengths = self.lengths
+        if lengths is None:
+            raise ValueError("the genome can't be read again, so its lengths aren't known")
+        if chromosome not in lengths:
+            raise ValueError(absent(chromosome, lengths))
+        return lengths[chromosome]
+
+    @alone
     def to_frame(self, words: Optional[str] = None, names: str = "bedkeep") -> Any:
         """The rows of a view, or all records, as a DataFrame of pandas, which has to be installed.
 
@@ -273,6 +405,7 @@ class Session:
             count = count_of(listed, self.width, self._find_width("removeb") if shows_second(listed) else 0)
         return frame_of_text(text, listed, fields_of(listed, count, self.width), names)
 
+    @alone
     def save(self, path: Path) -> None:
         """Writes all records as a BED file, whole or not at all; `-` is standard output. ValueError if the session reads it."""
         if self.reads(path):
@@ -280,6 +413,7 @@ class Session:
         with whole(path) as file:
             self._print_track(file.write)
 
+    @alone
     def stream(self, take: Callable[[bytes], object]) -> None:
         """Hands on all records as lines of a BED file, some at a time."""
         self._print_track(take)
@@ -302,10 +436,36 @@ class Session:
         return rows
 
     def _print_track(self, take: Callable[[bytes], object]) -> None:
-        """Hands on the lines of all records, in their order. The view `records`, which stays open, has them."""
-        name, lines = self._view("records"), Lines()
+        """Hands on the lines of all records, in their order."""
         joined = self._wide.joiner() if self._wide else bytes
-        self._send_one(line_of("print", name), lambda piece: take(joined(lines.whole(piece))))
+        self._print(lambda lines: take(joined(lines)))
+
+    def _print(self, take: Callable[[bytes], object]) -> None:
+        """Hands on the lines of all records, at most six columns of them. The view `records`, which stays open, has them."""
+        name, lines = self._view("records"), Lines()
+        self._send_one(line_of("print", name), lambda piece: take(lines.whole(piece)))
+
+    def _all(self) -> Iterable[Record]:
+        """All records, as tuples of text, of at most six columns."""
+        pieces: list[bytes] = []
+        self._print(pieces.append)
+        return (tuple(line.split("\t")) for line in decoded(b"".join(pieces)).split("\n")[:-1])
+
+    def _rows_of(self, records: Iterable[Record]) -> list[Row]:
+        fields = RECORD[:self.width]
+        return [row_of(fields, (record[0], int(record[1]), int(record[2]), *record[3:])) for record in records]
+
+    def _refuse_place(self, chromosome: str, start: int) -> None:
+        """Raises a ValueError for a place that the genome lacks."""
+        lengths = self.lengths
+        if lengths is None:
+            for refused in self._send(line_of("show", self._view("records"), chromosome, max(start, 0), max(start, 0) + 1)):
+                if refused.reason == "unknown sequence" or start > 0:
+                    raise ValueError(f"{refused.reason}: {chromosome} {start}")
+        elif chromosome not in lengths:
+            raise ValueError(absent(chromosome, lengths))
+        elif start >= max(lengths[chromosome], 1):
+            raise ValueError(f"{chromosome} has {lengths[chromosome]} bases, so nothing is at {start}")
 
     def _edits(self) -> list[str]:
         return [line for line in self._script.lines() if line and not line.startswith("#")]
@@ -314,17 +474,60 @@ class Session:
         """What is short to say of a session."""
         return [f"{self.width} columns", f"{len(self._edits())} edits", *(["ended"] if self._talk.is_over else [])]
 
+    def _carry_out(self, text: str) -> list[Refused]:
+        """Does all lines of a script but those that are returned."""
+        if TOGETHER not in text:
+            return self._send(text, done=self._script.add)
+        all_refused: list[Refused] = []
+        before = 0
+        for piece, is_group in pieces_of(text):
+            refused = self._send_group(piece, before) if is_group else self._send(piece, done=self._script.add)
+            for one in refused:
+                one.number += before
+            all_refused += refused
+            before += piece.count("\n")
+        return all_refused
+
+    def _send_group(self, text: str, before: int) -> list[Refused]:
+        """Does all edits of a text, or returns each as refused. before: how many lines of the script are before it."""
+        with Interrupts():
+            refused = self._send(text, done=self._script.add, whole=True)
+            if not refused:
+                return []
+            numbers = {one.number: one for one in refused}
+            edits = [(number, line) for number, line in enumerate(text.split("\n"), 1) if is_edit(line)]
+            done = len(edits) - len(refused)
+            if done:
+                end = self._script.last().stop
+                self._take_back(range(end - done, end))
+            because = f"{UNDONE} {before + refused[0].number} is refused"
+            return [numbers.get(number) or Refused(because, number, line) for number, line in edits]
+
+    def _take_back(self, places: range) -> None:
+        """Takes back the last edits, the last one first."""
+        def forget(_: str) -> None:
+            for place in reversed(places):
+                self._script.forget(place)
+
+        text = "".join(self._script.reverse(place) for place in reversed(places))
+        refused = self._send(text, done=lambda sent: forget(sent) if sent == text else None, whole=True)
+        if refused:  # An allocation failed.
+            if len(places) > 1:
+                self._talk.kill()
+            raise refused[0]
+
     def _send_one(self, line: str, take: Take = len, done: Callable[[str], object] = len) -> None:
         for refused in self._send(line, take, done):
             raise refused
 
-    def _send(self, text: str, take: Take = len, done: Callable[[str], object] = len) -> list[Refused]:
-        """Sends lines; `take` gets what they print, and `done` those that were accepted."""
+    @alone
+    def _send(self, text: str, take: Take = len, done: Callable[[str], object] = len, whole: bool = False) -> list[Refused]:
+        """Sends lines; `take` gets what they print, and `done` those that were accepted. whole: also after an interrupt all of them."""
         with Interrupts(self._talk.kill) as interrupts:
-            sent, refused, hints = self._talk.ask(self._wide.sent(text) if self._wide else text, take, interrupts)
+            sent, refused, hints = self._talk.ask(self._wide.sent(text) if self._wide else text, take, interrupts, whole)
             lines = text.split("\n") if refused or interrupts.came else []
             if lines:
-                text = "".join(f"{line}\n" for number, line in enumerate(lines[:sent], 1) if number not in refused)
+                text = accepted(lines[:sent], refused)
             if text:
                 done(text)
         return [Refused(reason, number, lines[number - 1], tuple(hints.get(number, ()))) for number, reason in refused.items()]

@@ -3,7 +3,9 @@ import gc
 import os
 import pathlib
 import random
+import threading
 import warnings
+from collections import Counter
 from unittest import mock
 
 import bedkeep
@@ -64,9 +66,14 @@ class Looks(Case):
         self.sizes.write_text("chr1\t9\n")
         for session in piped, genome, changed, begun, other:
             with session:
-                self.assertEqual((len(session), session.find("geneA")), (2, before[:1]))
+                self.assertEqual((len(session), session.find("geneA"), session.search("ENEa")), (2, before[:1], before[:1]))
+                self.assertEqual(session.named(["geneB", "x"]), {"geneB": [("chr1", "300", "400", "geneB")], "x": []})
                 self.assertEqual((session.region("chr1", 200, 301), session.region("chr2")), (before[1:], []))
                 self.assertEqual(session.near("chr1", 310, 400), before[::-1])
+                self.assertEqual(session.around([("chr1", 0, 2), ("chr1", 350, 9000)]), {("chr1", "300", "400", "geneB"): 1})
+                for place in ("chr9",), ("chr1", 1000, 1001):
+                    with self.assertRaises(ValueError):
+                        session.region(*place)
 
     def test_beside_all_records(self):
         """Each look is what a search through all records finds, after any edits and lengths."""
@@ -88,13 +95,72 @@ class Looks(Case):
                 with mock.patch.object(session, "_print_track", side_effect=AssertionError):
                     self.assertEqual(len(session), len(records))
                     self.assertEqual(session.find(name), [record for record in records if record.name == name])
-                    for chromosome in "chr1", "chr2", "chr3":
+                    for chromosome in "chr1", "chr2":
                         here = [record for record in records if record.chromosome == chromosome]
                         self.assertEqual(session.region(chromosome), here)
+                        if start >= session.length(chromosome):
+                            continue
                         self.assertEqual(session.region(chromosome, start, end),
                                          [record for record in here if record.start < end and start < record.end])
                         found = [abs(one.start - start) + abs(one.end - end) for one in session.near(chromosome, start, end, 4)]
                         self.assertEqual(found, sorted(abs(one.start - start) + abs(one.end - end) for one in here)[:4])
+
+    def test_places_that_are_not_there(self):
+        with self.session() as session:
+            for place, message in (
+                (("chr1:100-120",), "three arguments, 'chr1', 100, 120"), (("chr9",), "the genome has no chr9$"),
+                (("1", 5, 9), "the genome has no 1, and has chr1"), (("CHR2",), "has chr2"), (("chr2", 500, 501), "chr2 has 500 bases"),
+                (("chr1", 200, 100), "its start is not below its end"), (("chr1", 5, -5), "not below"),
+            ):
+                with self.subTest(place), self.assertRaisesRegex(ValueError, message):
+                    session.region(*place)
+                if len(place) == 3 and "below" not in message:
+                    with self.assertRaisesRegex(ValueError, message):
+                        session.near(*place)
+                    with self.assertRaises(ValueError):
+                        session.show("records", *place)
+            self.assertEqual(session.region("chr1", 350, 10 ** 9), [("chr1", 300, 400, "geneB")])
+            session.resize("chr2", 501)
+            self.assertEqual((session.region("chr2", 500, 501), session.lengths), ([], {"chr1": 1000, "chr2": 501}))
+            self.assertEqual((session.length("chr2"), session.undo(), session.length("chr2")), (501, "resize\tchr2\t501", 500))
+            with self.assertRaisesRegex(ValueError, "no chr9"):
+                session.length("chr9")
+
+    def test_copies_by_place_and_by_name(self):
+        """Beside a model that counts the records of a list."""
+        chance = random.Random(5)
+        lines = [f"chr{chance.randrange(1, 3)}\t{start}\t{start + chance.randrange(1, 60)}\t{chance.choice(['a', 'Ab', 'é', 'É', 'b.c'])}\n"
+                 for start in (chance.randrange(400) for _ in range(60))]
+        self.genes = self.file("some.bed", "".join(lines * 2))
+        model = Counter(tuple(line[:-1].split("\t")) for line in lines * 2)
+        file = Counter(model)
+        with self.session() as session:
+            for _ in range(40):
+                old, start = chance.choice(list(model)), chance.randrange(400)
+                new = (*old[:1], str(start), str(start + 9), chance.choice(["Ab", "new", "É"]))
+                command = chance.choice(["add", "remove", "replace"])
+                session.edit("\t".join([command, *(old if command != "add" else ()), *(new if command != "remove" else ())]))
+                model[old] -= command != "add"
+                model[new] += command != "remove"
+                model = +model
+                regions = [("chr1", start, start + 50), ("chr1", start + 40, 5000), ("chr2", -5, start), ("chr2", start, start + 9), ("x", 1, 9)]
+                self.assertEqual(session.around(regions), Counter({record: copies for record, copies in model.items() if any(
+                    record[0] == region[0] and int(record[1]) < region[2] and region[1] < int(record[2]) for region in regions)}))
+                order = sorted(model.elements(), key=lambda record: (record[0], int(record[1]), int(record[2]), record[3].encode()))
+                for names in ["Ab", "x"], ["a", "Ab", "é", "É", "b.c", "new"]:
+                    self.assertEqual(session.named(iter(names)),
+                                     {name: [record for record in order if record[3] == name] for name in names})
+                for part in "a", "AB", "é", ".", "", "chr":
+                    self.assertEqual([(row[0], str(row[1]), str(row[2]), row[3]) for row in session.search(part)],
+                                     [record for record in order if part.lower() in record[3].lower()])
+                self.assertEqual([session.net(record) for record in order], [model[record] - file[record] for record in order])
+
+    def test_looks_cost_the_same_after_many_edits(self):
+        with self.session() as session:
+            session.edit(f"add\tchr1\t{number % 900}\t1000\tn{number}" for number in range(20_000))
+            len(session)
+            with mock.patch("bedkeep.changes.record_of", side_effect=AssertionError):
+                self.assertEqual((len(session), session.find("n77"), len(session.region("chr2"))), (20_002, [("chr1", 77, 1000, "n77")], 0))
 
     def test_near_ones_that_are_far(self):
         self.sizes = self.file("sizes", "chr1\t4000000000\n")
@@ -146,6 +212,48 @@ class Held(Case):
         os.waitpid(child, 0)
         self.assertEqual(len(session.records()), 2)
         session.end()
+
+
+class Shared(Case):
+    def test_a_forked_process_is_refused(self):
+        session = self.session()
+        child = os.fork()
+        if child == 0:
+            status = 1
+            try:
+                for call in session.records, session.script, lambda: session.add("chr1", 1, 2, "x"), lambda: len(session):
+                    with self.assertRaisesRegex(bedkeep.Error, f"belongs to process {os.getppid()}"):
+                        call()
+                session.close()
+                status = 0
+            finally:
+                os._exit(status)
+        self.assertEqual(os.waitpid(child, 0)[1], 0)
+        self.assertEqual(len(session.records()), 2)
+
+    def test_threads_share_a_session(self):
+        def work(number):
+            try:
+                for place in range(50):
+                    session.add("chr1", number, 100 + place, f"t{number}")
+                    session.find(f"t{number}")
+                    session.view(f"merge -d {place}")
+                    if place % 5 == 0:
+                        session.edit(["# a reason", f"add\tchr2\t{number}\t{100 + place}\tu", f"remove\tchr2\t{number}\t{100 + place}\tu"])
+            except BaseException as failure:
+                failures.append(failure)
+
+        failures = []
+        with self.session() as session:
+            threads = [threading.Thread(target=work, args=(number,)) for number in range(6)]
+            for thread in threads:
+                thread.start()
+            for thread in threads:
+                thread.join()
+            self.assertEqual(failures, [])
+            self.assertEqual(sum(row.name.startswith("t") for row in session.records()), 300)
+            with bedkeep.Session(self.sizes, self.genes) as again:
+                self.assertEqual((again.edit(session.script()), again.records()), ([], session.records()))
 
 
 class Shown(Case):

@@ -174,6 +174,89 @@ class Scripts(Case):
         os.close(reader)
 
 
+class Reasons(Case):
+    def test_a_line_without_a_reason_begins_after_an_empty_line(self):
+        with self.session() as session:
+            session.add("chr1", 1, 2, "a")
+            session.add("chr1", 1, 2, "b")
+            session.explain("why b")
+            session.add("chr1", 1, 2, "c")
+            session.add("chr1", 1, 2, "d")
+            session.edit("# why e and f\nadd\tchr1\t1\t2\te\nadd\tchr1\t1\t2\tf\n")
+            session.edit(["add\tchr1\t1\t2\tg"])
+            before = session.script()
+            self.assertEqual(before.replace("add\tchr1\t1\t2\t", ""), "a\n# why b\nb\n\nc\nd\n# why e and f\ne\nf\n\ng\n")
+            session.explain("why g")
+            self.assertTrue(session.script().endswith("f\n# why g\nadd\tchr1\t1\t2\tg\n"))
+            session.undo()
+            self.assertEqual(session.script(), before[:-len("\nadd\tchr1\t1\t2\tg\n")])
+            session.add("chr1", 1, 2, "g")
+            self.assertEqual(session.script(), before)
+            with self.session() as again:
+                self.assertEqual((again.edit(before), again.script()), ([], before))
+
+    def test_the_reason_of_a_refused_line_goes_with_it(self):
+        with self.session() as session:
+            session.edit("# no such record\nremove\tchr1\t1\t2\tx\n# why y\nadd\tchr1\t1\t2\ty\nremove\tchr1\t1\t2\tx\n"
+                         "# no such record\nremove\tchr1\t1\t2\tx\n\nadd\tchr1\t1\t2\tz\n# kept\n\n")
+            self.assertEqual(session.script(), "# why y\nadd\tchr1\t1\t2\ty\n\nadd\tchr1\t1\t2\tz\n# kept\n\n")
+
+
+class Together(Case):
+    join = ["replace\tchr1\t100\t200\tgeneA\tchr1\t100\t400\tgeneA", "remove\tchr1\t300\t400\tgeneB"]
+
+    def test_all_or_none(self):
+        with self.session() as session:
+            before = session.records()
+            with self.refused("no such record", 2) as caught:
+                session.edit_together([self.join[0], "remove\tchr1\t300\t401\tgeneB"], "one gene")
+            self.assertEqual(caught.exception.line, "remove\tchr1\t300\t401\tgeneB")
+            self.assertEqual((session.records(), session.script()), (before, ""))
+            session.add("chr2", 1, 2, "x")
+            session.edit_together(self.join, "one gene\nby its exons")
+            session.add("chr2", 1, 2, "y")
+            self.assertEqual(session.script(), "\n".join([
+                "add\tchr2\t1\t2\tx", "# together: one gene", "# by its exons", *self.join, "", "add\tchr2\t1\t2\ty", ""]))
+            session.undo()
+            self.assertEqual(session.inverse(), "add\tchr1\t300\t400\tgeneB\nreplace\tchr1\t100\t400\tgeneA\tchr1\t100\t200\tgeneA\n")
+            session.explain("said later")
+            self.assertIn("# by its exons\n# said later\nreplace", session.script())
+            self.assertEqual(session.undo(), "\n".join(self.join))
+            self.assertEqual((session.records()[:2], session.script()), (before, "add\tchr2\t1\t2\tx\n"))
+            for lines in ["# a comment"], ["", self.join[0]]:
+                with self.assertRaises(ValueError):
+                    session.edit_together(lines)
+
+    def test_groups_of_a_script(self):
+        text = ["# why", "remove\tchr1\t1\t2\tx", "# together: one", "add\tchr2\t1\t2\ta", "remove\tchr1\t1\t2\tx", "add\tchr2\t1\t2\tb",
+                "", "add\tchr2\t1\t2\tc", "# a reason", "# together: two", *self.join, "# again", "remove\tchr1\t1\t2\tx"]
+        with self.session() as session:
+            self.assertEqual([(one.number, one.reason, one.line) for one in session.edit(text)], [
+                (2, "no such record", text[1]), (4, "not done, since line 5 is refused", text[3]), (5, "no such record", text[4]),
+                (6, "not done, since line 5 is refused", text[5]), (14, "no such record", text[13])])
+            self.assertEqual(session.records(), [("chr1", 100, 400, "geneA"), ("chr2", 1, 2, "c")])
+            self.assertEqual(session.script(), "\n".join([*text[7:12], ""]))
+            session.undo()
+            self.assertEqual(session.script(), text[7] + "\n")
+            self.assertEqual(len(session), 3)
+
+    def test_lengths_in_a_group(self):
+        with self.session() as session:
+            session.edit_together(["resize\tchr2\t600", "resize\tchr2\t700", "add\tchr2\t650\t700\tx"])
+            session.resize("chr2", 800)
+            self.assertEqual((session.length("chr2"), session.undo(), session.length("chr2")), (800, "resize\tchr2\t800", 700))
+            self.assertEqual(session.inverse(), "remove\tchr2\t650\t700\tx\nresize\tchr2\t600\nresize\tchr2\t500\n")
+            session.undo()
+            self.assertEqual((session.length("chr2"), session.script()), (500, ""))
+        self.assertRaises(bedkeep.Ended, session.records)
+
+    def test_close_without_a_name_ends_the_session(self):
+        session = self.session()
+        session.close()
+        with self.assertRaisesRegex(bedkeep.Ended, "the session is closed"):
+            session.records()
+
+
 class Views(Case):
     def test_open_rows_close(self):
         with self.session() as session:

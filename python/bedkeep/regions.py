@@ -1,0 +1,61 @@
+"""Regions of sequences, from 0 and without their ends, and what is said of one that isn't there."""
+from __future__ import annotations
+
+import re
+from bisect import bisect_left, bisect_right
+from collections import defaultdict
+from collections.abc import Mapping
+from typing import Iterable, Iterator, Optional
+
+from .records import Record
+
+Region = tuple[str, int, int]
+PLACE = re.compile(r"(.+):([\d,]+)-([\d,]+)")
+
+
+class Regions:
+    """Regions, those that touch joined, as far as they are on their sequences. lengths: of these, or None if they aren't known."""
+
+    def __init__(self, regions: Iterable[Region], lengths: Optional[Mapping[str, int]]) -> None:
+        intervals: dict[str, list[tuple[int, int]]] = defaultdict(list)
+        for sequence, start, end in regions:
+            first, last = max(start, 0), end if lengths is None else min(end, lengths.get(sequence, 0))
+            if first < last:
+                intervals[sequence].append((first, last))
+        self._joined = {sequence: _joined(listed) for sequence, listed in intervals.items()}
+
+    def __iter__(self) -> Iterator[Region]:
+        for sequence, (starts, ends) in self._joined.items():
+            for start, end in zip(starts, ends):
+                yield sequence, start, end
+
+    def overlapping(self, record: Record) -> int:
+        """How many of them a record overlaps."""
+        if record[0] not in self._joined:
+            return 0
+        starts, ends = self._joined[record[0]]
+        return bisect_left(starts, int(record[2])) - bisect_right(ends, int(record[1]))
+
+
+def _joined(intervals: list[tuple[int, int]]) -> tuple[list[int], list[int]]:
+    """The starts and the ends of the intervals, those that overlap or are book-ended joined."""
+    starts: list[int] = []
+    ends: list[int] = []
+    for start, end in sorted(intervals):
+        if ends and start <= ends[-1]:
+            ends[-1] = max(ends[-1], end)
+        else:
+            starts.append(start)
+            ends.append(end)
+    return starts, ends
+
+
+def absent(sequence: str, lengths: Mapping[str, int]) -> str:
+    """What is said of a sequence that the genome lacks."""
+    place = PLACE.fullmatch(sequence)
+    if place and place[1] in lengths:
+        start, end = (int(number.replace(",", "") or 0) for number in place.groups()[1:])
+        return f"the genome has no {sequence}: a place is three arguments, {place[1]!r}, {start}, {end}"
+    stem = sequence.lower().removeprefix("chr")
+    alike = next((name for name in lengths if name.lower().removeprefix("chr") == stem), None)
+    return f"the genome has no {sequence}" + (f", and has {alike}" if alike else "")
