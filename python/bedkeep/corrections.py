@@ -1,49 +1,82 @@
-"""Scripts of corrections, several read as one: each line with its file, its number there and the comment above it.
+"""Scripts of corrections, several read as one: each line with its file, its number there, its reason and its group.
 
-`read_lines` reads them, `Line.cut` makes of each what the program takes, and `Line.judge` takes the program's verdict, after
-which a line that is well formed has its records, and one that was refused a message that names the field.
+`read_lines` reads them. `carry.Carrier` has a session carry them out, after which each line has its verdict: a line that is well
+formed has its records, and one that was refused a message that names the field.
+
+A reason is the block of comments directly above a paragraph: the lines down to the next comment or empty line. A comment that
+begins with `together:` makes the paragraph a group, whose lines are done whole or not at all. Markers, such as `# was: ..`, are
+comments that a program wrote about one line: they are no reason, and no paragraph begins or ends with them.
 """
 from __future__ import annotations
 
+import os
 import re
 from typing import Iterable, Mapping, Optional, Sequence
 
 from .files import read_bytes
-from .program import decoded
-from .records import WIDEST, Record, record_of
+from .program import Path, decoded
+from .records import NARROWEST, WIDEST, Record, record_of
 from .rows import RECORD
 from .wide import cut
 
 EDITS = {"add", "remove", "replace", "addb", "removeb", "replaceb"}
 VIEWS = {"open", "close", "print", "printall", "show", "showall"}
 ABSENT = "no such record"
+TOGETHER = "together:"
+MARKER = re.compile(r"#\s*(?:(?:was|conflict|dropped):|[a-z ]+, was:|(?:[^\t]*: )?(?:(?:add|remove|replace)b?|resize)\t)")
 COLUMN_OF = {"unknown sequence": 0, "start is not a number": 1, "end is not a number": 2, "start not below end": 1,
              "end past the sequence's end": 2, "bad name": 3, "bad score": 4, "bad strand": 5}
+MALFORMED = {*COLUMN_OF, "no such command or wrong fields", "wrong number of columns", "no second file"}
+
+
+class Group:
+    """The lines of a paragraph that are done whole or not at all."""
+
+    def __init__(self) -> None:
+        self.lines: list[Line] = []
 
 
 class Line:
-    """A line of the corrections.
+    """A line of the corrections, and once it is carried out its verdict.
 
     number:   through all files, from 1; place: in its file
     text:     without its end; command, fields: its parts
-    comments: those above it, which say why it is there
-    refusal:  why the program, or the desk, refused it; empty if it was done or isn't run
+    heading:  the comments that are its reason, as they are in the file
+    group:    the lines that are done with it or not at all, itself among them; or None
+    refusal:  why the program, or the package, refused it; empty if it was done or isn't run
     message:  the same with the field that it is about, and its value
-    warning:  what no longer holds of a tail that it left, though it was done
+    hints:    what else is to be said of the refusal, in plain words
+    offers:   lines that would fit instead
+    warning:  what no longer holds of the columns after the sixth, though it was done
+    there:    the record that an `add` isn't done for, since it is there already; it differs if the line is refused
+    width:    the number of columns of the file that it edits, once that is known
     old, new: the record that it takes out and the one that it puts in, if it is well formed
     old_tail, new_tail: their columns from the seventh on, if the line has them
     """
 
-    def __init__(self, number: int, file: str, place: int, text: str, comments: Sequence[str] = ()) -> None:
+    def __init__(self, number: int, file: str, place: int, text: str, heading: Sequence[str] = (),
+                 group: Optional[Group] = None) -> None:
         self.number, self.file, self.place, self.text = number, file, place, text
-        self.comments = tuple(comments)
+        self.heading, self.group = tuple(heading), group
         self.command, *self.fields = text.split("\t")
         self.refusal = self.message = self.warning = ""
+        self.hints: tuple[str, ...] = ()
+        self.offers: tuple[str, ...] = ()
+        self.there: Optional[Record] = None
         self.old: Optional[Record] = None
         self.new: Optional[Record] = None
         self.old_tail: Optional[str] = None
         self.new_tail: Optional[str] = None
+        self.width = 0
         self._narrow = self.fields
+        if group and self.is_run:
+            group.lines.append(self)
+
+    @property
+    def comments(self) -> tuple[str, ...]:
+        """The reason, line by line, without `#` and `together:`."""
+        texts = [comment[1:].strip() for comment in self.heading]
+        return tuple(text[len(TOGETHER):].strip() if text.startswith(TOGETHER) else text for text in texts if text != TOGETHER)
 
     @property
     def is_run(self) -> bool:
@@ -52,12 +85,12 @@ class Line:
 
     @property
     def is_edit(self) -> bool:
-        """Whether it takes or puts a record, and is well formed: it is done, or its record isn't there."""
+        """Whether it takes or puts a record, and is well formed."""
         return self.old is not None or self.new is not None
 
     @property
     def is_done(self) -> bool:
-        return self.is_run and not self.refusal
+        return self.is_run and not self.refusal and not self.there
 
     @property
     def is_second(self) -> bool:
@@ -66,38 +99,73 @@ class Line:
 
     @property
     def sent(self) -> str:
-        """What the program is given: records of at most six columns, and an empty line for what isn't run."""
+        """What a session is given: an empty line for what isn't run."""
+        if not self.is_run:
+            return ""
+        return f"{self.text}\r\r" if self.text.endswith("\r") else self.text  # One is dropped by `Session.edit`, one by the program.
+
+    @property
+    def narrow(self) -> str:
+        """What the program is given over the first six columns of the files."""
         if not self.is_run:
             return ""
         text = "\t".join([self.command, *self._narrow])
-        return f"{text}\r\r" if text.endswith("\r") else text  # One is dropped by `Session.edit`, one by the program.
+        return f"{text}\r\r" if text.endswith("\r") else text
 
     def cut(self, width: int) -> None:
-        """Takes off the columns from the seventh on, if the file has so many."""
+        """Takes the columns from the seventh on apart, if the file has so many. width: of the file, or 0 if it isn't known."""
+        self.width = width
         if self.command in EDITS:
             self._narrow, self.old_tail, self.new_tail = cut(self.command, self.fields, width)
 
-    def judge(self, refusal: str, lengths: dict[str, int]) -> None:
-        """Takes the verdict: why it was refused, or nothing. lengths: those at this line, which a `resize` changes."""
+    def again(self, text: str) -> Line:
+        """Another line in its place."""
+        line = Line(self.number, self.file, self.place, text, self.heading)
+        line.cut(self.width)
+        return line
+
+    def judge(self, refusal: str, lengths: Mapping[str, int], hints: Iterable[str] = ()) -> None:
+        """Takes the verdict of a session: why it was refused, or nothing. lengths: those at this line."""
+        self.hints = tuple(hint for hint in hints if not _is_offer(hint))
+        self.offers = tuple(hint for hint in hints if _is_offer(hint))
         self.refusal = refusal
         self.message = self._fault(lengths) if refusal else ""
-        if self.command == "resize" and not refusal:
-            lengths[self.fields[0]] = int(self.fields[1])
-        if self.command not in EDITS or refusal not in ("", ABSENT):
-            return
+        self.warning, self.there = "", None
+        self.old, self.new = (None, None) if refusal in MALFORMED else self.asked()
+
+    def refuse(self, refusal: str, message: str = "") -> None:
+        """Takes the verdict of the package over that of the session, about records that are well formed."""
+        self.refusal, self.message, self.warning = refusal, message or refusal, ""
+
+    def asked(self) -> tuple[Optional[Record], Optional[Record]]:
+        """The record that it takes out and the one that it puts in, whatever becomes of it; none if they can't be records."""
+        if self.command not in EDITS:
+            return None, None
         halves = self._halves()
-        self.old = None if self.command.startswith("add") else record_of(halves[0])
-        self.new = None if self.command.startswith("remove") else record_of(halves[-1])
+        if not all(map(_is_record, halves)):
+            return None, None
+        return (None if self.command.startswith("add") else record_of(halves[0]),
+                None if self.command.startswith("remove") else record_of(halves[-1]))
+
+    def records(self) -> list[Record]:
+        """Those of `asked` that there are."""
+        return [record for record in self.asked() if record]
+
+    def _needed(self) -> str:
+        """How many fields the edit of a file of that width has."""
+        widths = sorted({min(self.width, WIDEST), self.width})
+        if self.command not in EDITS or not self.width:
+            return ""
+        counts = widths
+        if self.command.startswith("replace"):
+            counts = sorted({old + new for old in widths for new in widths if old <= new})
+        last = f"{' or ' * (len(counts) > 1)}{counts[-1]}"
+        return f"; {', '.join(map(str, counts[:-1]))}{last} are needed"
 
     def _halves(self) -> list[list[str]]:
         """The columns of its one record, or of its two."""
         half = len(self._narrow) // 2 if self.command.startswith("replace") else len(self._narrow)
         return [self._narrow[:half], self._narrow[half:]] if half < len(self._narrow) else [self._narrow]
-
-    def refuse(self, refusal: str) -> None:
-        """Takes the verdict of the desk over that of the program: it is a bad line."""
-        self.refusal = self.message = refusal
-        self.old = self.new = None
 
     def _fault(self, lengths: Mapping[str, int]) -> str:
         """The refusal with the field that it is about and its value."""
@@ -105,9 +173,9 @@ class Line:
             column = 0 if self.refusal == "unknown sequence" else 1
             return f"{self.refusal}: {self.fields[column]!r} ({('sequence', 'length')[column]})"
         if self.refusal.startswith("wrong number"):
-            return f"{self.refusal}: {len(self.fields)} fields"
+            return f"{self.refusal}: {len(self.fields)} fields{self._needed()}"
         if self.refusal == ABSENT:
-            return f"{ABSENT}: {' '.join(self._halves()[0])}"
+            return ": ".join([ABSENT, " ".join(self._halves()[0]), *self.hints[:1]])
         if self.refusal not in COLUMN_OF:
             return f"{self.refusal}: {self.command}"
         halves, column = self._halves(), COLUMN_OF[self.refusal]
@@ -116,6 +184,21 @@ class Line:
         before = WIDEST if self.new_tail and not self.old_tail else len(self.fields) // 2
         number = column + (before if second else 0)
         return f"{self.refusal}: {halves[second][column]!r} ({which}{RECORD[column]}, field {number + 2})"
+
+
+def is_marker(text: str) -> bool:
+    """Whether a line of a script is a comment that a program wrote about one line, or a line that is commented out: no reason."""
+    return bool(MARKER.match(text))
+
+
+def _is_record(columns: Sequence[str]) -> bool:
+    numbers = columns[1:NARROWEST]
+    return len(numbers) == 2 and all(re.fullmatch("[0-9]{1,10}", text) for text in numbers) and int(numbers[0]) < int(numbers[1])
+
+
+def _is_offer(hint: str) -> bool:
+    """Whether a hint is a line of a script."""
+    return "\t" in hint and hint.split("\t")[0] in EDITS
 
 
 def _has_fault(record: Sequence[str], refusal: str, lengths: Mapping[str, int]) -> bool:
@@ -127,27 +210,36 @@ def _has_fault(record: Sequence[str], refusal: str, lengths: Mapping[str, int]) 
     if refusal == "start not below end":
         return int(record[1]) >= int(record[2])
     if refusal == "end past the sequence's end":
-        return int(record[2]) > lengths[record[0]]
+        return int(record[2]) > lengths.get(record[0], 0)
     if refusal == "bad strand":
         return record[column] not in ("+", "-", ".")
     return not record[column] or bool(re.search("[\r\0]", record[column]))
 
 
-def read_lines(files: Iterable[str]) -> list[Line]:
-    """All lines, comments and empty ones too. A comment is for the lines below it, up to the next comment or empty line."""
+def read_lines(files: Iterable[Path]) -> list[Line]:
+    """All lines of some scripts, comments and empty ones too."""
     lines: list[Line] = []
     for file in files:
-        texts = decoded(read_bytes(file)).split("\n")
-        if not texts[-1]:
-            texts.pop()
-        comments: list[str] = []
-        begun = False  # a comment, by the lines directly above
-        for place, text in enumerate(texts, 1):
-            text = text[:-1] if text.endswith("\r") else text
-            if text.startswith("#"):
-                comments = [*comments, text[1:].strip()] if begun else [text[1:].strip()]
-            elif not text:
-                comments = []
-            begun = text.startswith("#")
-            lines.append(Line(len(lines) + 1, file, place, text, () if begun else comments))
+        lines += read_text(decoded(read_bytes(file)), os.fspath(file), len(lines))
+    return lines
+
+
+def read_text(text: str, file: str = "-", before: int = 0) -> list[Line]:
+    """All lines of the text of a script. file: its name; before: how many lines of other scripts are above it."""
+    lines: list[Line] = []
+    heading: list[str] = []
+    group: Optional[Group] = None
+    begun = False  # a reason, by the line directly above
+    texts = text.split("\n")
+    for place, row in enumerate(texts if texts[-1] else texts[:-1], 1):
+        row = row[:-1] if row.endswith("\r") else row
+        is_reason = row.startswith("#") and not is_marker(row)
+        if is_reason:
+            heading = [*heading, row] if begun else [row]
+            group = Group() if row[1:].strip().startswith(TOGETHER) else group if begun else None
+        elif not row:
+            heading, group = [], None
+        begun = is_reason
+        is_line = not row.startswith("#")
+        lines.append(Line(before + place, file, place, row, heading if is_line else (), group if is_line else None))
     return lines

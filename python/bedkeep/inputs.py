@@ -99,7 +99,7 @@ class Inputs:
         step = 1 if strict and self._tails else max(len(self.lines), 1)
         for at in range(0, len(self.lines), step):
             lines = self.lines[at:at + step]
-            refusals = {refused.number: refused.reason for refused in session.edit([line.sent for line in lines])}
+            refusals = {refused.number: refused.reason for refused in session.edit([line.narrow for line in lines])}
             for number, line in enumerate(lines, 1):
                 line.judge(refusals.get(number, ""), lengths)
                 if self._follow(line, strict):
@@ -128,6 +128,7 @@ class Inputs:
         step = tails.plan(line.old, line.new, line.old_tail, line.new_tail)
         if strict and step.warning:
             line.refuse(step.warning)
+            line.old = line.new = None
             return True
         line.warning = step.warning
         tails.do(step)

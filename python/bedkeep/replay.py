@@ -102,7 +102,7 @@ def _total_of_second(inputs: Inputs, second: Bed) -> Total:
     """The total of the second file's records, which no view prints: its edits are those of a track of its own."""
     with Session(inputs.genome, second.narrow, width=second.option) as session:
         lines = [line for line in inputs.lines if line.is_done and (line.is_second or line.command == "resize")]
-        if session.edit([line.sent.replace("b\t", "\t", 1) if line.is_second else line.sent for line in lines]):
+        if session.edit([line.narrow.replace("b\t", "\t", 1) if line.is_second else line.narrow for line in lines]):
             raise Differs("the second file's edits were refused over it alone")
         return _total(session)
 

@@ -64,7 +64,7 @@ class Apply(Case):
         outcome = self.apply(bed, script, more)
         self.assertEqual((outcome.status, outcome.out), (1, ""))
         self.assertEqual(outcome.err, f"{script}: line 3: no such record: chr1 300 401 geneB\n"
-                                      f"{more}: line 3: wrong number of columns: 3 fields\n")
+                                      f"{more}: line 3: wrong number of columns: 3 fields; 4 are needed\n")
         self.assertEqual(self.corrected.read_text(), "# genes\ntrack name=x\n#end\n" + tabs(
             "chr1 100 250 geneA\nchr1 300 400 geneB\nchr2 1 2 x"))
 
@@ -197,7 +197,7 @@ class Reports(Case):
     there   chr1  11  30  a  5  +
                              ^
     mended  replace\tchr1\t11\t30\ta\t5\t+\tchr1\t11\t31\ta\t5\t+
-{name}: line 7: bad line (wrong number of columns: 3 fields)
+{name}: line 7: bad line (wrong number of columns: 3 fields; 6 are needed)
     add\tchr1\t5\t6
 {name}: line 8: already so (no record like it is there)
     asked   chr1  7  8  c  0  +

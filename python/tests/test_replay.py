@@ -253,7 +253,7 @@ class Particular(Replays):
                          ["start is not a number: '3O' (new start, field 6)", "end past the sequence's end: '1001' (end, field 4)",
                           "unknown sequence: 'chr7' (chromosome, field 2)", "no second file: addb",
                           "records past the new end: '20' (length)", "unknown sequence: 'chr7' (sequence)",
-                          "no such command or wrong fields: foo", "wrong number of columns: 2 fields",
+                          "no such command or wrong fields: foo", "wrong number of columns: 2 fields; 3 are needed",
                           "start not below end: '9' (old start, field 3)", "no such command or wrong fields: resize",
                           "end past the sequence's end: '7000' (end, field 4)"])
         script = "add chr1 5 6 n\r\r 0 +\nadd chr1 5 6 n 0 x\nreplace chr1 10 30 a 0 + chr1 10 30 b 0 ?"

@@ -98,8 +98,9 @@ add chr2 1 9 x 0 + 1 9 0 1 8,x 0"""
 
     def test_lines_of_another_number_of_columns(self):
         outcome = self.desk("apply", BED12, "add chr1 1 2 x 0 + 1\nremove chr1 1 2\nreplace chr1 1 2 chr1 1 3")
-        self.assertEqual(outcome.messages, ["line 1: wrong number of columns: 7 fields", "line 2: wrong number of columns: 3 fields",
-                                            "line 3: wrong number of columns: 6 fields"])
+        self.assertEqual(outcome.messages, ["line 1: wrong number of columns: 7 fields; 6 or 12 are needed",
+                                            "line 2: wrong number of columns: 3 fields; 6 or 12 are needed",
+                                            "line 3: wrong number of columns: 6 fields; 12, 18 or 24 are needed"])
         outcome = self.desk("apply", BED12, "replace chr2 5 50 geneC 0 . chr9 5 50 geneC 0 . 1 2 3 4 5 6\n"
                             "replace chr2 5 50 geneC 0 . 1 2 3 4 5 6 chr2 5 5 geneC 0 . 1 2 3 4 5 6")
         self.assertEqual(outcome.messages, ["line 1: unknown sequence: 'chr9' (new chromosome, field 8)",

@@ -58,7 +58,7 @@ def asked(line: Line) -> tuple[Optional[Interval], Optional[Interval]]:
     """The record that a line takes out and the one that it puts in, also of a bad line if they can be read."""
     if line.is_edit or line.command not in EDITS:
         return of_record(line.old), of_record(line.new)
-    fields = line.sent.split("\t")[1:]
+    fields = line.narrow.split("\t")[1:]
     half = len(fields) // 2 if line.command.startswith("replace") else len(fields)
     old = None if line.command.startswith("add") else interval_of(fields[:half])
     new = None if line.command.startswith("remove") else interval_of(fields[half:] or fields)

@@ -65,7 +65,7 @@ def review(inputs: Inputs, distance: int, sums: Sequence[tuple[str, str]], stric
 def _prints(inputs: Inputs, session: Printing, lines: Sequence[Line], distance: int) -> list[Printed]:
     """The track of a session before and after the lines that were done."""
     before = session.write(inputs.folder, distance)
-    if session.edit([line.sent for line in lines if line.is_done]):
+    if session.edit([line.narrow for line in lines if line.is_done]):
         raise Differs("lines that were done are refused without the others")
     return [before, session.write(inputs.folder, distance)]
 
@@ -83,7 +83,7 @@ def _second(inputs: Inputs, lines: Sequence[Line], windows: Windows) -> tuple[Op
 
 def _of_track(line: Line) -> Line:
     """An edit of the second file as one of the track."""
-    text = line.sent.replace("b\t", "\t", 1) if line.is_second else line.sent
+    text = line.narrow.replace("b\t", "\t", 1) if line.is_second else line.narrow
     own = Line(line.number, line.file, line.place, text)
     own.refusal = line.refusal
     return own
