@@ -13,6 +13,8 @@ from __future__ import annotations
 
 import argparse
 import importlib
+import os
+import signal
 import sys
 from contextlib import contextmanager
 from typing import Iterator, Optional, Sequence
@@ -72,9 +74,12 @@ def messages(lines: Sequence[Line]) -> Iterator[str]:
 
 @contextmanager
 def failures() -> Iterator[None]:
-    """Says what went wrong, and ends with status 2."""
+    """Says what went wrong, and ends with status 2; with that of a broken pipe if nobody reads the output any more."""
     try:
         yield
+    except BrokenPipeError:  # As of `head`, which has enough. Nothing is said, at the end of Python neither.
+        os.dup2(os.open(os.devnull, os.O_WRONLY), sys.stdout.fileno())
+        raise Failed(128 + signal.SIGPIPE) from None
     except OSError as failure:
         print(f"{failure.filename}: {failure.strerror}" if failure.filename else failure, file=sys.stderr)
         raise Failed(2) from None

@@ -6,7 +6,8 @@ import importlib
 import io
 from typing import Any, Iterable, Optional, Sequence
 
-from .diff import Pairs
+from .differences import beyond
+from .pairs import changes
 from .rows import RECORD, Reader, Row, distinct, is_integer, is_number
 from .script import text_of
 
@@ -143,4 +144,4 @@ def edits(old: Any, new: Any) -> list[str]:
     widths = {len(lines[0].split("\t")) for lines in (before, after) if lines}
     if len(widths) > 1:
         raise ValueError("the records of the tables have {} and {} columns".format(*sorted(widths)))
-    return list(Pairs(before, after).script())
+    return [line for change in changes(beyond(before, after), beyond(after, before)) for line in change.lines()]

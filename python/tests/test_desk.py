@@ -8,9 +8,8 @@ from unittest import mock
 
 import bedkeep
 from bedkeep import desk, files
-from bedkeep.diff import script_between
 from helpers import EXAMPLES, PROGRAM, Case, Outcome, tabs
-from test_replay import LENGTHS, altered, some_record, some_script
+from test_replay import LENGTHS, some_record, some_script
 
 PACKAGE = Path(bedkeep.__file__).parent.parent
 
@@ -256,47 +255,6 @@ class Reports(Case):
             with mock.patch.dict(os.environ, BEDKEEP=str(program)):
                 outcome = self.replay(*words)
             self.assertEqual((outcome.status, outcome.err), (2 if message else 0, message))
-
-
-class Diff(Case):
-    def files(self, old, new):
-        return self.file("old.bed", tabs(old) if old else ""), self.file("new.bed", tabs(new) if new else "")
-
-    def script(self, old, new):
-        return [line.replace("\t", " ") for line in script_between(*self.files(old, new))]
-
-    def test_what_becomes_of_what(self):
-        self.assertEqual(self.script("chr1 1 2 a\nchr1 5 6 b\nchr1 7 8 c\nchr1 9 10 .", "chr1 1 3 a\nchr1 5 6 d\nchr2 1 2 .\nchr1 9 10 ."), [
-            "replace chr1 1 2 a chr1 1 3 a", "replace chr1 5 6 b chr1 5 6 d", "remove chr1 7 8 c", "add chr2 1 2 ."])
-        self.assertEqual(self.script("chr1 1 5\nchr1 7 9", "chr1 7 8\nchr1 2 5"), [
-            "replace chr1 1 5 chr1 2 5", "replace chr1 7 9 chr1 7 8"])
-        self.assertEqual(self.script("chr1 1 2 a\nchr1 1 2 a", "chr1 1 2 a"), ["remove chr1 1 2 a"])
-        self.assertEqual(self.script("", "chr1 01 2"), ["add chr1 1 2"])
-        self.assertEqual(self.script("chr1 5 9 a 0 +", "chr2 5 9 a 0 +\nchr1 50 90 a 0 -\nchr1 70 90 a 0 +"), [
-            "replace chr1 5 9 a 0 + chr1 70 90 a 0 +", "add chr2 5 9 a 0 +", "add chr1 50 90 a 0 -"])
-
-    def test_what_cannot_be_compared(self):
-        old, new = self.files("chr1 1 2 a", "chr1 1 2")
-        self.assertEqual((Outcome("diff", old, new).status, Outcome("diff", "-", "-").status), (2, 2))
-        ragged = self.file("ragged", tabs("chr1 1 2 a\nchr1 1 2"))
-        outcome = Outcome("diff", old, ragged)
-        self.assertEqual((outcome.status, outcome.err), (2, f"{ragged}: record 2: wrong number of columns\n"))
-
-    def test_replayed_it_gives_the_second_file(self):
-        sizes = self.file("sizes", "".join(f"{name}\t{length}\n" for name, length in LENGTHS.items()))
-        for seed in range(60):
-            with self.subTest(seed=seed):
-                pick = random.Random(seed)
-                width = pick.choice([3, 4, 5, 6, 6])
-                old = [some_record(pick) for _ in range(pick.choice([0, 1, 5, 30]))]
-                new = [altered(pick, one) if pick.random() < 0.5 else one for one in old if pick.random() < 0.8]
-                new += [pick.choice([*old, some_record(pick)]) for _ in range(pick.choice([0, 1, 5]))]
-                old, new = ([" ".join(one[:width]) for one in records] for records in (old, new))
-                first, second = self.files("\n".join(old), "\n".join(new))
-                script = self.file("script", Outcome("diff", first, second).out)
-                outcome = Outcome("apply", sizes, first, script)
-                self.assertEqual((outcome.status, outcome.err), (0, ""))
-                self.assertEqual(sorted(outcome.out.split("\n")), sorted(second.read_text().split("\n")))
 
 
 class RandomScripts(Case):

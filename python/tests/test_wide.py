@@ -161,7 +161,7 @@ class Diffs(Wide):
         old = self.file("old.bed", tabs(BED12))
         new = self.file("new.bed", tabs(BED12.replace("300 300 0 3", "300 305 9 3").replace("geneC 0 . 10", "geneC 0 - 11")))
         script = self.file("script", Outcome("diff", old, new).out)
-        self.assertEqual([line.split("\t")[0] for line in script.read_text().split("\n")], ["replace", "replace", ""])
+        self.assertEqual([line.split("\t")[0] for line in script.read_text().split("\n")], ["", "replace", "replace", ""])
         outcome = Outcome("apply", self.sizes, old, script, "--strict")
         self.assertEqual((outcome.status, outcome.err, outcome.out), (0, "", new.read_text()))
 

@@ -1,0 +1,172 @@
+"""`diff`: the script between two files, over which `apply` gives the second one."""
+import gzip
+import os
+import random
+import subprocess
+import sys
+from collections import Counter
+from pathlib import Path
+
+import bedkeep
+from bedkeep.diff import script_between
+from helpers import Case, Outcome, tabs
+from test_replay import LENGTHS, altered, some_record
+
+PACKAGE = Path(bedkeep.__file__).parent.parent
+
+
+class Diff(Case):
+    def files(self, old, new):
+        return self.file("old.bed", tabs(old) if old else ""), self.file("new.bed", tabs(new) if new else "")
+
+    def script(self, old, new):
+        """The lines with spaces for TABs."""
+        return [line.replace("\t", " ") for line in script_between(*self.files(old, new))]
+
+
+class Changes(Diff):
+    def test_what_becomes_of_what(self):
+        self.assertEqual(self.script("chr1 1 2 a\nchr1 5 6 b\nchr1 7 8 c\nchr1 9 10 .", "chr1 1 3 a\nchr1 5 6 d\nchr2 1 2 .\nchr1 9 10 ."), [
+            "", "replace chr1 1 2 a chr1 1 3 a", "replace chr1 5 6 b chr1 5 6 d", "remove chr1 7 8 c", "add chr2 1 2 ."])
+        self.assertEqual(self.script("chr1 1 5\nchr1 7 9", "chr1 7 8\nchr1 2 5"), [
+            "", "replace chr1 1 5 chr1 2 5", "replace chr1 7 9 chr1 7 8"])
+        self.assertEqual(self.script("chr1 1 2 a\nchr1 1 2 a", "chr1 1 2 a"), ["", "remove chr1 1 2 a"])
+        self.assertEqual(self.script("", "chr1 01 2"), ["", "add chr1 1 2"])
+        self.assertEqual(self.script("chr1 5 9 a 0 +", "chr2 5 9 a 0 +\nchr1 50 90 a 0 -\nchr1 70 90 a 0 +"), [
+            "", "replace chr1 5 9 a 0 + chr1 70 90 a 0 +", "add chr2 5 9 a 0 +", "add chr1 50 90 a 0 -"])
+
+    def test_numbers_and_line_ends_are_no_difference(self):
+        old = self.file("old.bed", "track name=x\nchr1\t1\t2\ta\r\n\r\nchr1\t05\t6\tb\n")
+        new = self.file("new.bed", "chr1\t5\t6\tb\n# x\nchr1\t01\t2\ta")
+        self.assertEqual(script_between(old, new), [])
+
+    def test_many_headers_between_records(self):
+        old = self.file("old.bed", "chr1\t1\t2\n" + "# x\n" * 9000 + "chr1\t5\t6\n")
+        new = self.file("new.bed", "# x\n" * 9000 + "chr1\t1\t2\n" + "# x\n" * 9000 + "chr1\t5\t7\n")
+        self.assertEqual(script_between(old, new), ["", "replace\tchr1\t5\t6\tchr1\t5\t7"])
+
+    def test_packed_and_piped_files(self):
+        old, new = self.files("chr1 1 2 a\nchr1 5 6 b", "chr1 5 6 b\nchr1 3 4 c")
+        packed = self.file("old.bed.gz", gzip.compress(old.read_bytes()))
+        wanted = "\nremove\tchr1\t1\t2\ta\nadd\tchr1\t3\t4\tc\n"
+        self.assertEqual(Outcome("diff", packed, new).out, wanted)
+        run = subprocess.run([sys.executable, "-m", "bedkeep", "diff", "-", new], input=packed.read_bytes(), capture_output=True,
+                             env={**os.environ, "PYTHONPATH": str(PACKAGE)})
+        self.assertEqual((run.returncode, run.stdout.decode(), run.stderr), (0, wanted, b""))
+
+    def test_a_common_name_costs_no_look_at_all_of_its_records(self):
+        old = self.file("old.bed", "".join(f"chr1\t{10 * at}\t{10 * at + 5}\tAluY\n" for at in range(30_000)))
+        new = self.file("new.bed", "".join(f"chr1\t{10 * at + 1}\t{10 * at + 6}\tAluY\n" for at in range(30_000)))
+        self.assertEqual(len(script_between(old, new)), 60_001)
+
+    def test_what_cannot_be_compared(self):
+        old, new = self.files("chr1 1 2 a", "chr1 1 2 a 0 +")
+        self.assertEqual(Outcome("diff", "-", "-").status, 2)
+        for first, second in (old, new), (new, old):
+            outcome = Outcome("diff", first, second)
+            self.assertEqual((outcome.status, outcome.out), (2, ""))
+            self.assertIn(f"cut -f1-4 {new}", outcome.err)
+        spaces = self.file("spaces.bed", "chr1 1 2 a\n")
+        outcome = Outcome("diff", old, spaces)
+        self.assertEqual(outcome.status, 2)
+        self.assertIn(f"{spaces}: record 1 has spaces instead of TABs", outcome.err)
+        ragged = self.file("ragged", tabs("chr1 1 2 a\nchr1 1 2"))
+        outcome = Outcome("diff", old, ragged)
+        self.assertEqual((outcome.status, outcome.err), (2, f"{ragged}: record 2: wrong number of columns\n"))
+
+    def test_a_reader_that_has_enough_is_no_failure(self):
+        old, new = self.file("old.bed", ""), self.file("new.bed", "".join(f"chr1\t{at}\t{at + 1}\n" for at in range(50_000)))
+        words = f"set -o pipefail; {sys.executable} -m bedkeep diff {old} {new} | head -n 2"
+        run = subprocess.run(["bash", "-c", words], capture_output=True, env={**os.environ, "PYTHONPATH": str(PACKAGE)})
+        self.assertEqual((run.stdout, run.stderr), (b"\nadd\tchr1\t0\t1\n", b""))
+
+
+class Together(Diff):
+    """Splits and joins are paragraphs of lines that are done together."""
+
+    def test_a_split(self):
+        for name, parts in ("A", "A A"), ("A", "B C"), ("A", "A C"):
+            first, second = parts.split()
+            script = self.script(f"chr1 5 9 x 0 +\nchr1 100 400 {name} 0 +\nchr1 500 600 y 0 +",
+                                 f"chr1 100 200 {first} 0 +\nchr1 250 400 {second} 0 +\nchr1 500 600 z 0 +")
+            pieces = {f"chr1 100 200 {first} 0 +", f"chr1 250 400 {second} 0 +"}
+            self.assertEqual(script[:4], ["", "remove chr1 5 9 x 0 +", "", "# together: split of A"])
+            replaced, added = script[4].partition(" 0 + ")[2], script[5].partition(" ")[2]
+            self.assertTrue(script[4].startswith("replace chr1 100 400 A 0 + ") and script[5].startswith("add "))
+            self.assertEqual({replaced, added}, pieces)
+            self.assertEqual(script[6:], ["", "replace chr1 500 600 y 0 + chr1 500 600 z 0 +"])
+
+    def test_a_join(self):
+        for names in "A A", "A B", "B C":
+            first, second = names.split()
+            script = self.script(f"chr1 100 200 {first} 0 +\nchr1 5 9 x 0 +\nchr1 250 400 {second} 0 +", "chr1 100 400 A 0 +")
+            title = "A" if first == second else f"{first} and {second}"
+            self.assertEqual(script[:2], ["", f"# together: join of {title}"])
+            taken = {script[2].removeprefix("replace ").removesuffix(" chr1 100 400 A 0 +"), script[3].removeprefix("remove ")}
+            self.assertEqual(taken, {f"chr1 100 200 {first} 0 +", f"chr1 250 400 {second} 0 +"})
+            self.assertEqual(script[4:], ["", "remove chr1 5 9 x 0 +"])
+
+    def test_records_without_a_name(self):
+        self.assertEqual(self.script("chr1 100 400", "chr1 100 200\nchr1 250 400"), [
+            "", "# together: split of chr1 100 400", "replace chr1 100 400 chr1 100 200", "add chr1 250 400"])
+
+    def test_what_is_no_split(self):
+        for new in ("chr1 100 200 B 0 +\nchr1 250 400 C 0 -",  # on two strands
+                    "chr1 100 300 B 0 +\nchr1 250 400 C 0 +",  # they overlap
+                    "chr1 100 200 B 0 +\nchr1 250 390 C 0 +",  # other names, and they don't fill it
+                    "chr1 100 390 A 0 +\nchr1 500 600 A 0 +",  # the second one is elsewhere
+                    "chr1 100 200 B 0 +\nchr2 250 400 C 0 +"):
+            self.assertNotIn("together", "".join(self.script("chr1 100 400 A 0 +", new)), new)
+
+    def test_a_script_appended_takes_no_reason(self):
+        old, new = self.files("chr1 1 2 a", "chr1 1 3 a")
+        script = self.file("script", "# why b\nremove\tchr1\t5\t6\tb\n" + Outcome("diff", old, new).out)
+        self.assertEqual([line.comments for line in bedkeep.corrections.read_lines([str(script)])][1::2], [("why b",), ()])
+
+
+class Copies(Diff):
+    def copies(self, old, new):
+        return Outcome("diff", *self.files(old, new)).err
+
+    def test_what_apply_leaves_out_is_counted(self):
+        one, two = "1 line adds", "2 lines add"
+        rest = " a copy, or a record over another one of its name: `apply --copies` carries these out\n"
+        self.assertEqual(self.copies("chr1 1 9 a", "chr1 1 9 a\nchr1 1 9 a"), one + rest)
+        self.assertEqual(self.copies("chr1 1 9 a", "chr1 1 9 a\nchr1 20 30 b\nchr1 20 30 b\nchr1 20 30 b"), two + rest)
+        self.assertEqual(self.copies("chr1 1 9 a", "chr1 1 9 a\nchr1 5 12 a"), one + rest)
+        self.assertEqual(self.copies("chr1 1 9", "chr1 1 9\nchr1 1 9\nchr1 1 9"), two + rest)
+        for new in "chr1 1 9 a\nchr1 9 12 a", "chr1 1 9 a\nchr1 5 12 b", "chr1 1 9 a\nchr2 1 9 a":
+            self.assertEqual(self.copies("chr1 1 9 a", new), "")
+        self.assertEqual(self.copies("chr1 1 9 .", "chr1 1 9 .\nchr1 5 12 ."), "")
+
+
+class Replayed(Diff):
+    def test_replayed_it_gives_the_second_file(self):
+        sizes = self.file("sizes", "".join(f"{name}\t{length}\n" for name, length in LENGTHS.items()))
+        for seed in range(60):
+            with self.subTest(seed=seed):
+                pick = random.Random(seed)
+                width = pick.choice([3, 4, 5, 6, 6])
+                old = [some_record(pick) for _ in range(pick.choice([0, 1, 5, 30]))]
+                new = [altered(pick, one) if pick.random() < 0.5 else one for one in old if pick.random() < 0.8]
+                new += [pick.choice([*old, some_record(pick)]) for _ in range(pick.choice([0, 1, 5]))]
+                old, new = ([" ".join(one[:width]) for one in records] for records in (old, new))
+                pick.shuffle(new)
+                first, second = self.files("\n".join(old), "\n".join(new))
+                script = self.file("script", Outcome("diff", first, second).out)
+                outcome = Outcome("apply", sizes, first, script)
+                self.assertEqual((outcome.status, outcome.err), (0, ""))
+                self.assertEqual(sorted(outcome.out.split("\n")), sorted(second.read_text().split("\n")))
+
+    def test_no_line_is_for_what_both_have(self):
+        for seed in range(60):
+            pick = random.Random(seed)
+            old, new = ([str(pick.randrange(12)) for _ in range(pick.choice([0, 5, 40]))] for _ in range(2))
+            gone, come = Counter(old) - Counter(new), Counter(new) - Counter(old)
+            paths = self.files("\n".join(f"chr1 {one} 99 g{one}" for one in old), "\n".join(f"chr1 {one} 99 g{one}" for one in new))
+            taken, put = Counter(), Counter()
+            for line in filter(None, script_between(*paths)):
+                command, *fields = line.split("\t")
+                taken.update(fields[1:2] if command != "add" else [])
+                put.update(fields[-3:-2] if command != "remove" else [])
+            self.assertEqual((taken, put), (gone, come), seed)
