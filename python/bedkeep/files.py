@@ -48,8 +48,13 @@ def lines_of(path: Path, begins: Optional[bytes] = None) -> Iterator[str]:
         for line in file:
             if begins and line[0] not in begins:
                 continue
-            text = decoded(line[:-1] if line.endswith(b"\n") else line)
-            yield text[:-1] if text.endswith("\r") else text
+            yield line_text(line)
+
+
+def line_text(line: bytes) -> str:
+    """The text of a line without its end: LF or CR LF."""
+    text = decoded(line[:-1] if line.endswith(b"\n") else line)
+    return text[:-1] if text.endswith("\r") else text
 
 
 def is_header(line: str) -> bool:

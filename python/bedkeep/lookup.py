@@ -11,6 +11,7 @@ from typing import Callable, Iterable, Iterator, Optional
 from .changes import Changes
 from .program import Path, decoded, encoded
 from .records import WIDEST, Record, record_of
+from .regions import Order
 from .script import Script
 from .sources import Genome, lengths_of
 
@@ -28,14 +29,14 @@ class Lookup:
         self._genome_read = None if isinstance(genome, Mapping) else stamp(genome)
         self._bed_read = stamp(bed)
         self._count: Optional[int] = None  # of the file's records
-        self._ranks: dict[str, int] = {}
+        self._order = Order({})
         self.script = Script(None)
 
     def begin(self, script: Callable[[Optional[dict[str, int]]], Script] = Script) -> Script:
         """Reads the lengths of a genome file that the program took, and begins the script."""
         known = isinstance(self._genome, Mapping) or self._genome_read is not None and stamp(self._genome) == self._genome_read
         lengths = lengths_of(self._genome) if known else None
-        self._ranks = {sequence: rank for rank, sequence in enumerate(lengths or ())}
+        self._order = Order(lengths or {})
         self.script = script(lengths)
         return self.script
 
@@ -82,12 +83,8 @@ class Lookup:
                 counted.update({record: net for record, net in changes.named(name).items() if len(record) > 3})
         return self._sorted(counted)
 
-    def order(self, record: Record) -> tuple[object, ...]:
-        """What sorts records as the track has them."""
-        return (self._ranks[record[0]], int(record[1]), int(record[2]), *map(encoded, record[3:]))
-
     def _sorted(self, counted: Counter[Record]) -> list[Record]:
-        return sorted(counted.elements(), key=self.order)
+        return sorted(counted.elements(), key=self._order.key)
 
 
 def stamp(path: Path) -> Optional[tuple[int, ...]]:

@@ -5,8 +5,9 @@ import re
 from bisect import bisect_left, bisect_right
 from collections import defaultdict
 from collections.abc import Mapping
-from typing import Iterable, Iterator, Optional
+from typing import Any, Collection, Iterable, Iterator, Optional
 
+from .program import encoded
 from .records import Record
 
 Region = tuple[str, int, int]
@@ -35,6 +36,23 @@ class Regions:
             return 0
         starts, ends = self._joined[record[0]]
         return bisect_left(starts, int(record[2])) - bisect_right(ends, int(record[1]))
+
+
+class Order:
+    """The order of a track: by sequence, in the order of their lengths, by start and end, then by the bytes of the other columns."""
+
+    def __init__(self, lengths: Mapping[str, int]) -> None:
+        self.lengths = lengths
+        self._names = list(lengths)
+        self._ranks = {sequence: rank for rank, sequence in enumerate(self._names)}
+
+    def key(self, record: Record) -> tuple[Any, ...]:
+        """What sorts records."""
+        return (self._ranks[record[0]], int(record[1]), int(record[2]), *map(encoded, record[3:]))
+
+    def before(self, sequence: str, among: Collection[str]) -> Optional[str]:
+        """The last sequence before this one that is among some."""
+        return next((name for name in reversed(self._names[:self._ranks[sequence]]) if name in among), None)
 
 
 def _joined(intervals: list[tuple[int, int]]) -> tuple[list[int], list[int]]:

@@ -14,16 +14,17 @@ from typing import Any, Callable, Iterable, Iterator, Optional, Sequence, TypeVa
 
 from .conversation import Conversation, Take
 from .errors import Ended, Refused
-from .files import same_file, whole
+from .files import BEGINS, is_header, lines_of, same_file, whole
 from .interrupts import Interrupts
-from .lookup import Lookup
-from .program import Path, decoded, find
+from .lookup import Lookup, stamp
+from .placement import Looks, write_placed
+from .program import Path, decoded, encoded, find
 from .records import Record, record_of
-from .regions import Region, Regions, absent
+from .regions import Order, Region, Regions, absent
 from .rows import RECORD, Lines, Reader, Row, count_of, fields_of, row_of, shows_second
 from .script import TOGETHER, Script, accepted, edits_of, is_edit, line_of, pieces_of, text_of
 from .sources import Genome, Sources, Track, path_of
-from .tables import SCORE, frame_of_text, score_of
+from .tables import SCORE, frame_of_text, is_table, score_of
 from .wide_session import Wide, WideScript
 
 Columns = Iterable[Union[str, int]]
@@ -86,6 +87,10 @@ class Session:
             words = [find(program), "session", *(word for option in self._files.items() for word in option)]
             if width is not None:
                 words += ["-width", str(width)]
+            self._source = self._wide.source if self._wide else None if is_table(bed) else self._files["-i"]
+            self._source_read = stamp(self._source) if self._source else None
+            if self._source_read is None:
+                self._source = None
             self._lookup = Lookup(genome, self._files["-i"])
             self._talk = Conversation(words, sources.descriptors)
             try:
@@ -406,12 +411,34 @@ class Session:
         return frame_of_text(text, listed, fields_of(listed, count, self.width), names)
 
     @alone
-    def save(self, path: Path) -> None:
-        """Writes all records as a BED file, whole or not at all; `-` is standard output. ValueError if the session reads it."""
+    def save(self, path: Path, sorted: bool = False) -> None:
+        """Writes the BED file as it is after the edits, whole or not at all; `-` is standard output.
+
+        Each line that no edit is about stays where it is, byte for byte; a record that replaces another is where that one was;
+        one that is added is after the record that it follows in the track. A file packed by gzip is unpacked. sorted: the header
+        lines, then all records in their order; so are those of a table or of a pipe. ValueError if the session reads the path,
+        or if the BED file was written again since it was read.
+        """
         if self.reads(path):
             raise ValueError(f"{os.fspath(path)} is a file of this session, which isn't changed")
         with whole(path) as file:
-            self._print_track(file.write)
+            self.stream_file(file.write, sorted)
+
+    @alone
+    def stream_file(self, take: Callable[[bytes], object], sorted: bool = False) -> None:
+        """Hands on what `save` writes, some bytes at a time."""
+        if self._source is None:
+            self._print_track(take)
+            return
+        if stamp(self._source) != self._source_read:
+            raise ValueError(f"{self._files['-i']} was written again since it was read, so where its lines were isn't known")
+        if sorted:
+            headers = (line for line in lines_of(self._source, BEGINS) if is_header(line))
+            take(encoded("".join(f"{line}\n" for line in headers)))
+            self._print_track(take)
+            return
+        lengths = self.lengths or dict.fromkeys((record[0] for record in self._all()), LONGEST)
+        write_placed(self._source, self._script.moves(), Looks(self.around, self.net, Order(lengths)), take)
 
     @alone
     def stream(self, take: Callable[[bytes], object]) -> None:

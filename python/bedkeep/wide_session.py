@@ -6,14 +6,14 @@ import shutil
 import tempfile
 import weakref
 from collections.abc import Mapping
-from typing import Callable, Optional
+from typing import Callable, Iterator, Optional
 
 from .corrections import EDITS
 from .errors import Ended
 from .files import Bed
 from .program import Path, decoded, encoded
 from .records import WIDEST, record_of
-from .script import Script
+from .script import Move, Script
 from .wide import Joiner, Step, Tails, cut
 
 
@@ -28,6 +28,7 @@ class Wide:
         self.given = {option: os.fspath(path) for option, path in paths.items()}
         self.narrow = {option: bed.narrow for option, bed in self._beds.items()}
         self.width = self._beds["-i"].width
+        self.source = self._beds["-i"]._plain
         self._tails = {option: Tails(bed.width, bed.rows()) for option, bed in self._beds.items() if bed.is_wide}
 
     def named(self, failure: Ended) -> Ended:
@@ -104,6 +105,14 @@ class WideScript(Script):
 
     def parts(self, line: str) -> list[str]:
         return self._wide.parts(line)
+
+    def moves(self) -> Iterator[Move]:
+        if self._wide.tails("add") is None:
+            yield from super().moves()
+        for command, step in self._steps:
+            if step and not command.endswith("b"):
+                yield ("\t".join(step.old) + step.old_tail if step.old else None,
+                       "\t".join(step.new) + step.new_tail if step.new else None)
 
     def _follow(self, line: str) -> None:
         command, step = line.split("\t")[0], self._wide.plan(line)

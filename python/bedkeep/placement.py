@@ -1,0 +1,270 @@
+"""The track in the order of its file: a line that no edit is about stays as and where it is, and a correction is one line.
+
+- Of equal lines of the file as many stay as the track has such records now, the last ones.
+- A record that came of such a line by `replace` is put where the line was, with the line's end.
+- Any other record is added below the line of the greatest one that isn't after it in the track; if there is none, above the
+  first record's line, or in a file without a record at its end. It ends as the first line of the file does.
+
+So it depends on the file and on the lines that were done alone. Records are texts here, with all their columns.
+"""
+from __future__ import annotations
+
+import os
+from bisect import bisect_right
+from collections import Counter, defaultdict
+from collections.abc import Mapping
+from typing import BinaryIO, Callable, Iterable, Iterator, NamedTuple, Optional
+
+from .errors import Error
+from .files import is_header, line_text
+from .program import Path, decoded, encoded
+from .records import WIDEST, Record, split_row
+from .regions import Order, Region
+from .script import Move
+
+PIECE = 1 << 16  # bytes of lines that are looked through at once
+STRETCH = 1 << 20  # bytes that are copied at once
+SMALL = 1 << 22  # bytes of a file whose lines are all taken apart
+REACH = 1 << 12  # how far before a record the one before it is looked for at first
+
+
+class Copy:
+    """A copy of a record that the script took or put. origin: the record of its line in the file; record: what it is now."""
+
+    def __init__(self, origin: Optional[str]) -> None:
+        self.origin = origin
+        self.record: Optional[str] = None
+
+
+class Plan:
+    """What becomes of lines of the file, and what is added.
+
+    lines: of records whose first lines don't stay: what is put where each of these was, None for nothing
+    added: records that have no line in the file, in the order in which they were put
+    """
+
+    def __init__(self, moves: Iterable[Move]) -> None:
+        self._taken: dict[str, list[Copy]] = defaultdict(list)  # of lines of the file, in the order in which they were taken
+        self._put: dict[str, list[Copy]] = defaultdict(list)  # copies that are this record now, in the order in which they were put
+        copies = self._follow(moves)
+        counts = {record: self._count_as_lines(record) for record in self._taken}
+        self.lines: dict[str, list[Optional[str]]] = {}
+        adrift: set[Copy] = set()
+        for record, count in counts.items():
+            claims = [copy for copy in self._taken[record] if copy.record != record]
+            without = set(sorted(reversed(claims), key=lambda copy: copy.record is not None)[:count])
+            adrift |= without
+            if len(claims) > count:
+                self.lines[record] = [copy.record for copy in claims if copy not in without]
+        self.added = [copy.record for copy in copies if copy.record is not None and (copy.origin is None or copy in adrift)]
+
+    def _follow(self, moves: Iterable[Move]) -> Iterable[Copy]:
+        """Follows the script, and returns its copies in the order in which they were put last. Of equal ones that one is taken."""
+        copies: dict[Copy, None] = {}
+        for old, new in moves:
+            copy = Copy(old) if old is None or not self._put[old] else self._put[old].pop()
+            if old is not None and copy not in copies:
+                self._taken[old].append(copy)
+            copies.pop(copy, None)
+            copies[copy] = None
+            copy.record = new
+            if new is not None:
+                self._put[new].append(copy)
+        return copies
+
+    def _count_as_lines(self, record: str) -> int:
+        """Counts copies that came from elsewhere as lines of the file that stayed, if it lost some, and returns how many."""
+        others = sorted((copy for copy in self._put[record] if copy.origin != record), key=lambda copy: copy.origin is not None)
+        count = min(len(others), sum(copy.record != record for copy in self._taken[record]))
+        for copy in others[:count]:
+            copy.record = None
+        return count
+
+
+class Looks(NamedTuple):
+    """How a session is asked: for the copies around regions, and for those that the edits of a record put in; and its order."""
+
+    around: Callable[[Iterable[Region]], Counter[Record]]
+    net: Callable[[Record], int]
+    order: Order
+
+
+class Found(NamedTuple):
+    """A line of the file: at which byte it begins, its bytes, those at its end, and its record with all columns."""
+
+    begin: int
+    size: int
+    end: bytes
+    row: str
+
+
+class Change(NamedTuple):
+    """At which byte the file changes, how many bytes are left out there, and what is written there."""
+
+    begin: int
+    size: int
+    text: bytes
+
+
+def write_placed(path: Path, moves: Iterable[Move], looks: Looks, take: Callable[[bytes], object]) -> None:
+    """Hands on a BED file with what the moves of a script change, some bytes at a time."""
+    plan = Plan(moves)
+    changes = Placement(path, plan, looks).changes() if plan.lines or plan.added else []
+    with open(path, "rb") as file:
+        place = 0
+        for change in changes:
+            _copy(file, take, change.begin - place)
+            take(change.text)
+            place = change.begin + change.size
+            file.seek(place)
+        _copy(file, take, os.path.getsize(path) - place)
+
+
+def _copy(file: BinaryIO, take: Callable[[bytes], object], size: int) -> None:
+    while size and (piece := file.read(min(size, STRETCH))):
+        take(piece)
+        size -= len(piece)
+
+
+class Placement:
+    """Finds the places of a plan in the file."""
+
+    def __init__(self, path: Path, plan: Plan, looks: Looks) -> None:
+        self._path, self._plan, self._looks = path, plan, looks
+        self._added = [(split_row(row)[0], row) for row in plan.added]
+        self._names: Optional[set[str]] = None
+        with open(path, "rb") as file:
+            self._line_end = b"\r\n" if file.readline().endswith(b"\r\n") else b"\n"
+
+    def changes(self) -> list[Change]:
+        """What changes in the file, in its order."""
+        before = self._before()
+        wanted = {split_row(row)[0] for row in self._plan.lines}.union(record for record in before.values() if record)
+        found = self._find(wanted)
+        changes = []
+        changed: set[int] = set()
+        last: dict[Record, Found] = {}  # the last line of each record, as the file will be
+        for row, records in self._plan.lines.items():
+            lines = [line for line in found[split_row(row)[0]] if line.row == row]
+            if len(lines) < len(records):
+                raise Error(f"{os.fspath(self._path)} has fewer lines than the session read: {row!r}")
+            for line, new in zip(lines, records):
+                changed.add(line.begin)
+                changes.append(Change(line.begin, line.size, b"" if new is None else encoded(new) + line.end))
+                if new is not None:
+                    _keep_last(last, split_row(new)[0], line)
+        for record in wanted:
+            for line in found[record]:
+                if line.begin not in changed:
+                    _keep_last(last, record, line)
+        return sorted([*changes, *self._additions(before, last)], key=lambda change: (change.begin, change.size))
+
+    def _additions(self, before: Mapping[Record, Optional[Record]], last: Mapping[Record, Found]) -> Iterator[Change]:
+        """The added records, those of a place in track order."""
+        texts: dict[Optional[Record], list[bytes]] = defaultdict(list)
+        for record, row in sorted(self._added, key=lambda one: self._looks.order.key(one[0])):
+            texts[before[record]].append(encoded(row) + self._line_end)
+        for record_before, added in texts.items():
+            if record_before is None:
+                place, ended = self._first()
+            else:
+                line = last[record_before]
+                place, ended = line.begin + line.size, line.end.endswith(b"\n")
+            yield Change(place, 0, b"".join(added if ended else [self._line_end, *added]))
+
+    def _first(self) -> tuple[int, bool]:
+        """Where the first record's line begins, or the file's end, and whether a line has ended there."""
+        begin, ended = 0, True
+        for line, row in _lines(self._path):
+            if not is_header(row):
+                break
+            begin, ended = begin + len(line), line.endswith(b"\n")
+        return begin, ended
+
+    def _before(self) -> dict[Record, Optional[Record]]:
+        """For each added record the greatest one with a line that isn't after it in the track, or None if there is none."""
+        order, found = self._looks.order, dict[Record, Optional[Record]]()
+        added = Counter(record for record, _ in self._added)
+        windows = {record: (record[0], int(record[1]) - REACH, int(record[1]) + 1) for record in added}
+        while windows:
+            around = self._looks.around(windows.values())
+            listed = sorted((record for record, copies in around.items() if copies > added[record]), key=order.key)
+            keys = [order.key(record) for record in listed]
+            for record, (sequence, start, end) in list(windows.items()):
+                place = bisect_right(keys, order.key(record))
+                if place and listed[place - 1][0] == sequence and int(listed[place - 1][1]) >= start:
+                    found[record] = listed[place - 1]
+                    del windows[record]
+                elif start > 0:
+                    windows[record] = (sequence, end - 16 * (end - start), end)
+                else:
+                    earlier = order.before(sequence, self._sequences())
+                    if earlier is None:
+                        found[record] = None
+                        del windows[record]
+                    else:
+                        end = order.lengths[earlier]
+                        windows[record] = (earlier, end - REACH, end)
+        return found
+
+    def _sequences(self) -> set[str]:
+        """The sequences that have a record with a line, and maybe others."""
+        if self._names is None:
+            rows = self._plan.lines.values()
+            with open(self._path, "rb") as file:
+                names = {line.partition(b"\t")[0] for line in file}
+            self._names = {decoded(name) for name in names}.union(
+                row.partition("\t")[0] for listed in rows for row in listed if row)
+        return self._names
+
+    def _find(self, wanted: set[Record]) -> dict[Record, list[Found]]:
+        """The lines of each record, by its first six columns."""
+        if os.path.getsize(self._path) > SMALL and not any(row.count("\t") >= WIDEST for row in (*self._plan.lines, *self._plan.added)):
+            found = self._search(wanted)
+            there = self._looks.around((record[0], int(record[1]), int(record[2])) for record in wanted)
+            if all(len(found[record]) == there[record] - self._looks.net(record) for record in wanted):
+                return found  # Else a number has a leading zero.
+        return self._read(wanted)
+
+    def _search(self, wanted: set[Record]) -> dict[Record, list[Found]]:
+        """Looks for lines that have the text of the records and no other column."""
+        found: dict[Record, list[Found]] = defaultdict(list)
+        texts = {encoded("\t".join(record)) + end: record for record in wanted for end in (b"", b"\r")}
+        begin = 0
+        with open(self._path, "rb") as file:
+            while piece := file.read(PIECE) + file.readline():
+                lines = piece.split(b"\n")
+                if not texts.keys().isdisjoint(lines):
+                    place = begin
+                    for number, line in enumerate(lines, 1):
+                        if line in texts:
+                            record = texts[line]
+                            end = (b"\r" if line.endswith(b"\r") else b"") + (b"\n" if number < len(lines) else b"")
+                            found[record].append(Found(place, len(line) + (number < len(lines)), end, "\t".join(record)))
+                        place += len(line) + 1
+                begin += len(piece)
+        return found
+
+    def _read(self, wanted: set[Record]) -> dict[Record, list[Found]]:
+        """Takes each line apart."""
+        found: dict[Record, list[Found]] = defaultdict(list)
+        begin = 0
+        for line, row in _lines(self._path):
+            if not is_header(row):
+                record, tail = split_row(row)
+                if record in wanted:
+                    found[record].append(Found(begin, len(line), line[len(line.rstrip(b"\r\n")):], "\t".join(record) + tail))
+            begin += len(line)
+        return found
+
+
+def _keep_last(last: dict[Record, Found], record: Record, line: Found) -> None:
+    if record not in last or last[record].begin < line.begin:
+        last[record] = line
+
+
+def _lines(path: Path) -> Iterator[tuple[bytes, str]]:
+    """The lines of a file, and their texts without their ends."""
+    with open(path, "rb") as file:
+        for line in file:
+            yield line, line_text(line)
