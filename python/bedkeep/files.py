@@ -85,6 +85,7 @@ class Bed:
     """A BED file.
 
     path:    as it was given
+    source:  the path of the same file, unpacked
     width:   of its first record, or of the first one that is added to a file without a record; 0 if there is neither
     narrow:  the path of a file with its first six columns, which the program can read
     option:  what `-width` has to be for it, if it has no record
@@ -93,11 +94,11 @@ class Bed:
 
     def __init__(self, path: Path, folder: str) -> None:
         self.path = os.fspath(path)
-        self._plain = plain(path, folder)
+        self.source = plain(path, folder)
         self.headers = [line for line in self._lines(BEGINS) if line and is_header(line)]
         self.width = next((row.count("\t") + 1 for row in self.rows()), 0)
         self.option: Optional[int] = None
-        self.narrow = self._cut(folder) if self.width > WIDEST else self._plain
+        self.narrow = self._cut(folder) if self.width > WIDEST else self.source
 
     @property
     def is_wide(self) -> bool:
@@ -118,7 +119,7 @@ class Bed:
         return message.replace(f"{self.narrow}: ", f"{self.path}: ")
 
     def _lines(self, begins: Optional[bytes] = None) -> Iterator[str]:
-        return lines_of(self._plain, begins)
+        return lines_of(self.source, begins)
 
     def _cut(self, folder: str) -> str:
         target = os.path.join(folder, f"narrow-{len(os.listdir(folder))}")

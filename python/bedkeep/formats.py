@@ -13,7 +13,7 @@ The faults are what bedToBigBed of UCSC refuses in these columns and in the scor
 from __future__ import annotations
 
 import re
-from typing import Mapping, NamedTuple, Optional, Sequence
+from typing import Collection, Mapping, NamedTuple, Optional, Sequence
 
 from .records import WIDEST, Record
 from .rows import RECORD
@@ -67,14 +67,15 @@ def _has_form(kind: str, columns: Sequence[str]) -> bool:
     return all(map(DIGITS.fullmatch, numbers)) and (kind != BED9 or COLOUR.fullmatch(columns[2]) is not None)
 
 
-def default_tail(record: Record, width: int, like: str = "") -> str:
+def default_tail(record: Record, width: int, kind: Optional[str] = None) -> str:
     """The tail of a record that is added without one to a file of so many columns: one block, no colour, no summit.
 
-    like: the tail of a record of that file, which tells formats of one width apart.
+    kind: the format of the file's records, if it is known.
     """
     start, end = record[1:3]
     count = width - WIDEST
-    kind = format_of(record, like) if like else {2: BED8, 3: BED9, 4: NARROW, 6: BED12}.get(count, TEXT)
+    if kind is None:
+        kind = {2: BED8, 3: BED9, 4: NARROW, 6: BED12}.get(count, TEXT)
     known = {BED8: [start, end], BED9: [start, end, "0"], NARROW: ["0", "-1", "-1", "-1"], BROAD: ["0", "-1", "-1"],
              BED12: [start, end, "0", "1", str(int(end) - int(start)), "0"]}
     columns = known.get(kind, [])
@@ -91,10 +92,10 @@ def faults_of(record: Record, tail: str) -> list[Fault]:
     return _faults_of(format_of(record, tail), record, _columns(tail))
 
 
-def worse(old: Record, old_tail: str, new: Record, new_tail: str) -> list[str]:
-    """The faults of a new record of which the old one had none of their kind, in words."""
+def worse(old: Record, old_tail: str, new: Record, new_tail: str, allowed: Collection[str] = ()) -> list[str]:
+    """The faults of a new record of which the old one had none of their kind, in words, but for those of an allowed kind."""
     kind, columns = format_of(old, old_tail), _columns(new_tail)
-    before = {fault.kind for fault in _faults_of(kind, old, _columns(old_tail))}
+    before = {fault.kind for fault in _faults_of(kind, old, _columns(old_tail))}.union(allowed)
     if kind == TEXT or not _has_form(kind, columns):
         kind = format_of(new, new_tail)
     return [fault.text for fault in _faults_of(kind, new, columns) if fault.kind not in before]
@@ -113,12 +114,12 @@ def _faults_of(kind: str, record: Record, columns: Sequence[str], of_tail: bool 
     return found
 
 
-def follow(old: Record, tail: str, new: Record) -> Followed:
+def follow(old: Record, tail: str, new: Record, allowed: Collection[str] = ()) -> Followed:
     """The tail of a record whose first six columns become others.
 
     What begins or ends where the record does follows its end: the first block, the last one, thickStart, thickEnd. All else stays
     at its bases, the summit too. If both ends move by one distance, all moves along. What can't hold in the new record, and could
-    in the old one, is a fault.
+    in the old one, is a fault; but none of an allowed kind.
     """
     kind, columns = format_of(old, tail), _columns(tail)
     blocks, spoiled = None, ""
@@ -130,7 +131,7 @@ def follow(old: Record, tail: str, new: Record) -> Followed:
             spoiled = _move_blocks(columns, blocks, old, new)
         elif kind == NARROW:
             spoiled = _move_summit(columns, old, new)
-    spoiled = spoiled or ", ".join(worse(old, tail, new, _tail(columns)))
+    spoiled = spoiled or ", ".join(worse(old, tail, new, _tail(columns), allowed))
     if not spoiled:
         return Followed(_tail(columns))
     return Followed(tail, spoiled, _offer(old, tail, new, columns, blocks))
@@ -145,7 +146,13 @@ def shifted(record: Record, tail: str, by: int) -> tuple[Record, str]:
     return moved, follow(record, tail, moved).tail
 
 
-def fields(record: Record, tail: str, width: int = 0) -> dict[str, str]:
+def names_of(kind: str, count: int) -> list[str]:
+    """What so many columns of a tail are called."""
+    names = [*NAMES[kind][:3], "blockCount", "blockSizes", "blockStarts"] if kind == BED12 else list(NAMES[kind])
+    return names + [f"column {WIDEST + place + 1}" for place in range(len(names), count)]
+
+
+def fields(record: Record, tail: str) -> dict[str, str]:
     """The columns of a record by their names, for a merge of three records field by field.
 
     The numbers of a tail are places on the sequence, so that one field changes when one thing does. `blocks` has the gaps

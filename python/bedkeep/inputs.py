@@ -17,7 +17,7 @@ from .errors import Ended, Error
 from .files import Bed, lengths_of, lines_of, plain, refuse_inputs, whole
 from .program import Path, encoded
 from .session import Session
-from .wide import Tails
+from .wide import Joiner, Tails, Unfit
 
 
 class Inputs:
@@ -96,7 +96,7 @@ class Inputs:
         In a wide file the tails follow the records. If one can't hold any more the line has a warning, or is refused if `strict`.
         """
         lengths = self.lengths
-        step = 1 if strict and self._tails else max(len(self.lines), 1)
+        step = 1 if self._tails else max(len(self.lines), 1)
         for at in range(0, len(self.lines), step):
             lines = self.lines[at:at + step]
             refusals = {refused.number: refused.reason for refused in session.edit([line.narrow for line in lines])}
@@ -113,7 +113,7 @@ class Inputs:
         with open(track, "wb") as copy:
             session.stream(copy.write)
         tails = self._tails.get(False)
-        rows = tails.joined(lines_of(track)) if tails else lines_of(track)
+        rows = map(Joiner(tails).join, lines_of(track)) if tails else lines_of(track)
         with whole(path) as file:
             file.writelines(encoded(f"{row}\n") for row in chain(self.bed.headers, rows))
 
@@ -125,11 +125,13 @@ class Inputs:
         tails = self._tails.get(line.is_second)
         if not tails or not line.is_edit or line.refusal:
             return False
-        step = tails.plan(line.old, line.new, line.old_tail, line.new_tail)
-        if strict and step.warning:
-            line.refuse(step.warning)
+        try:
+            step = tails.plan(line.old, line.new, line.old_tail, line.new_tail, not strict)
+        except Unfit as unfit:
+            line.refuse(unfit.reason)
             line.old = line.new = None
             return True
+        assert step
         line.warning = step.warning
         tails.do(step)
         return False

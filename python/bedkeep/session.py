@@ -12,16 +12,16 @@ from heapq import nsmallest
 from types import MappingProxyType
 from typing import Any, Callable, Iterable, Iterator, Optional, Sequence, TypeVar, Union, cast
 
-from .conversation import Conversation, Take
+from .conversation import Answer, Conversation, Take
 from .errors import Ended, Refused
 from .files import BEGINS, is_header, lines_of, same_file, whole
 from .interrupts import Interrupts
 from .lookup import Lookup, stamp
 from .placement import Looks, write_placed
 from .program import Path, decoded, encoded, find
-from .records import Record, record_of
+from .records import WIDEST, Record, record_of
 from .regions import Order, Region, Regions, absent
-from .rows import RECORD, Lines, Reader, Row, count_of, fields_of, row_of, shows_second
+from .rows import RECORD, Lines, Reader, Row, count_of, fields_of, row_of, shows_second, width_of
 from .script import TOGETHER, Script, accepted, edits_of, is_edit, line_of, pieces_of, text_of
 from .sources import Genome, Sources, Track, path_of
 from .tables import SCORE, frame_of_text, is_table, score_of
@@ -52,8 +52,10 @@ class Session:
 
     genome, bed: the files; second: the second file, for intersect, subtract and the edits of it; fasta: for getfasta;
     width: the number of columns of a BED file without a record. No file is ever changed. A genome may be a dict of lengths,
-    and a BED file a DataFrame of pandas. wide: takes files of more than six columns, packed by gzip or not; the columns from
-    the seventh on go along with their records as text, and `records` and `save` have them.
+    and a BED file a DataFrame of pandas. wide: takes files of more than six columns, packed by gzip or not. The columns from
+    the seventh on go along with their records, and `records` and `save` have them. A line that gives them names a record by all
+    columns, one that gives six leaves them, moved by the rules of BED12 and narrowPeak; a line after which they can't hold is
+    refused, and the line that would fit is in its hint. leave_blocks: it is done, they are left, and `warnings` has it.
 
     Records are columns, `add("chr1", 10, 20)`, or one sequence of them, `add(("chr1", 10, 20))`: as many as the file has,
     `width`. Start counts from 0, and end is not included. A line that is refused raises Refused and changes nothing. If the
@@ -68,8 +70,9 @@ class Session:
     """
 
     def __init__(self, genome: Genome, bed: Track, second: Optional[Track] = None, fasta: Optional[Path] = None,
-                 width: Optional[int] = None, program: Optional[Path] = None, wide: bool = False) -> None:
-        self._wide = Wide(bed, second) if wide else None
+                 width: Optional[int] = None, program: Optional[Path] = None, wide: bool = False,
+                 leave_blocks: bool = False) -> None:
+        self._wide = Wide(bed, second, width, leave_blocks) if wide else None
         self._named: dict[str, list[str]] = {}
         self._opened = 0
         self._lock = threading.RLock()
@@ -86,7 +89,7 @@ class Session:
                 raise ValueError("standard input of a session is its script")
             words = [find(program), "session", *(word for option in self._files.items() for word in option)]
             if width is not None:
-                words += ["-width", str(width)]
+                words += ["-width", str(min(width, WIDEST) if wide else width)]
             self._source = self._wide.source if self._wide else None if is_table(bed) else self._files["-i"]
             self._source_read = stamp(self._source) if self._source else None
             if self._source_read is None:
@@ -370,6 +373,20 @@ class Session:
             reach *= 100
 
     @alone
+    def tails(self, record: Columns, second: bool = False) -> list[str]:
+        """The columns from the seventh on of each copy of a record, each after a TAB, in the order in which copies are taken.
+
+        Of the record the first six columns count. A file without such columns has none.
+        """
+        return self._wide.tails_of(_columns(record), second) if self._wide else []
+
+    def columns(self, second: bool = False) -> int:
+        """The number of columns of a file with those from the seventh on: 0 if it has no record, or isn't there."""
+        if self._wide:
+            return self._wide.columns(second)
+        return width_of(self._files.get("-b", "")) or 0 if second else self.width
+
+    @alone
     def net(self, record: Columns) -> int:
         """How many copies of a record the edits put in, less those that they took out. Of its columns the first six count."""
         return self._lookup.changes.net(record_of(_columns(record)))
@@ -551,7 +568,10 @@ class Session:
     def _send(self, text: str, take: Take = len, done: Callable[[str], object] = len, whole: bool = False) -> list[Refused]:
         """Sends lines; `take` gets what they print, and `done` those that were accepted. whole: also after an interrupt all of them."""
         with Interrupts(self._talk.kill) as interrupts:
-            sent, refused, hints = self._talk.ask(self._wide.sent(text) if self._wide else text, take, interrupts, whole)
+            def ask(lines: str, whole: bool) -> Answer:
+                return self._talk.ask(lines, take, interrupts, whole)
+
+            sent, refused, hints = self._wide.ask(ask, text, whole) if self._wide else ask(text, whole)
             lines = text.split("\n") if refused or interrupts.came else []
             if lines:
                 text = accepted(lines[:sent], refused)

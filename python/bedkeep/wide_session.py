@@ -1,4 +1,9 @@
-"""What a session over wide files has besides: the first six columns of its files for the program, and the tails of their records."""
+"""What a session over wide files has besides: the first six columns of its files for the program, and the tails of their records.
+
+Each record of a wide file is known here with its tail, so before lines are sent it is decided of each whether the columns after
+the sixth fit. Many lines are one exchange with the program. If it refuses one that wasn't expected to be refused, and another line
+was decided by that one, the lines from there on are taken back and sent again.
+"""
 from __future__ import annotations
 
 import os
@@ -6,30 +11,61 @@ import shutil
 import tempfile
 import weakref
 from collections.abc import Mapping
-from typing import Callable, Iterator, Optional
+from typing import Callable, Iterator, NamedTuple, Optional, Sequence
 
+from .conversation import Answer
 from .corrections import EDITS
-from .errors import Ended
+from .errors import Ended, Error
 from .files import Bed
+from .formats import DIGITS
 from .program import Path, decoded, encoded
 from .records import WIDEST, record_of
-from .script import Move, Script
-from .wide import Joiner, Step, Tails, cut
+from .script import INVERSE, Move, Script, is_edit, line_of
+from .wide import Joiner, Step, Tails, Unfit, cut
+
+Ask = Callable[[str, bool], Answer]  # sends the lines of a text to the program; all of them, or those before an interrupt
+STRANDS = {"+", "-", "."}
+FEW = 64  # lines that are sent at once after lines had to be taken back
+
+
+class Plan(NamedTuple):
+    """What is decided of a line: what the program is given, what that will do if it is done, and why it is refused here."""
+
+    sent: str
+    step: Optional[Step] = None
+    refusal: str = ""
+    hint: Sequence[str] = ()
+    is_wide: bool = False  # whether it is an edit of a wide file, which the program refuses if it has no step
+
+    def is_foreseen(self, refused: bool) -> bool:
+        """Whether the program's verdict is the one that was expected."""
+        return not self.is_wide or bool(self.refusal) or refused == (self.step is None)
 
 
 class Wide:
-    """The BED files of a session. given: their names, by option; narrow: what the program reads; width: of the track."""
+    """The BED files of a session.
 
-    def __init__(self, bed: Path, second: Optional[Path]) -> None:
+    given: their names, by option; narrow: what the program reads; source: the path of the track with all its columns, unpacked
+    width: of the track; leave: whether columns that can't follow are left as they are, with a warning
+    steps: what the edits did that were accepted last, if a file is wide; None for those of another file
+    """
+
+    def __init__(self, bed: Path, second: Optional[Path], width: Optional[int] = None, leave: bool = False) -> None:
         folder = tempfile.mkdtemp(prefix="bedkeep-")
         self.close = weakref.finalize(self, shutil.rmtree, folder, True)
         paths = {"-i": bed} if second is None else {"-i": bed, "-b": second}
         self._beds = {option: Bed(path, folder) for option, path in paths.items()}
+        for file in self._beds.values():
+            file.widen(width or 0)
         self.given = {option: os.fspath(path) for option, path in paths.items()}
-        self.narrow = {option: bed.narrow for option, bed in self._beds.items()}
+        self.narrow = {option: file.narrow for option, file in self._beds.items()}
+        self.source = self._beds["-i"].source
         self.width = self._beds["-i"].width
-        self.source = self._beds["-i"]._plain
-        self._tails = {option: Tails(bed.width, bed.rows()) for option, bed in self._beds.items() if bed.is_wide}
+        self.steps: list[Optional[Step]] = []
+        self._tails = {option: Tails(file.width, file.rows()) for option, file in self._beds.items() if file.is_wide}
+        self._leave = leave
+        self._script: Optional[Script] = None
+        self._lengths: Optional[Mapping[str, int]] = None
 
     def named(self, failure: Ended) -> Ended:
         """A failure about a file of six columns by the name of the file as it was given."""
@@ -38,30 +74,20 @@ class Wide:
             message = bed.named(message)
         return type(failure)(failure.status, message)
 
-    def sent(self, text: str) -> str:
-        """Lines of a script with the first six columns of their records."""
-        return "".join("\t".join(self.parts(line)) + "\n" for line in text.split("\n")[:-1]) if self._tails else text
+    def script(self, lengths: Optional[Mapping[str, int]]) -> Script:
+        """The script of the session, which begins."""
+        self._script = WideScript(lengths, self) if self._tails else Script(lengths)
+        return self._script
 
-    def parts(self, line: str) -> list[str]:
-        """The command of a line, and its fields without tails."""
-        command, *fields = line.split("\t")
-        return [command, *cut(command, fields, self._width(command)).fields] if command in EDITS else [command, *fields]
+    def columns(self, second: bool = False) -> int:
+        """The columns of a file: 0 of one without a record, or if there is no such file."""
+        file = self._beds.get("-b" if second else "-i")
+        return file.width if file else 0
 
-    def plan(self, line: str) -> Optional[Step]:
-        """What a line that was done does to the tails of its file."""
-        command, *fields = line.split("\t")
-        tails = self.tails(command)
-        if tails is None:
-            return None
-        half, old_tail, new_tail = cut(command, fields, tails.width)
-        count = len(half) // 2 if command.startswith("replace") else len(half)
-        old = None if command.startswith("add") else record_of(half[:count])
-        new = None if command.startswith("remove") else record_of(half[-count:])
-        return tails.plan(old, new, old_tail, new_tail)
-
-    def tails(self, command: str) -> Optional[Tails]:
-        """The tails of the file that a command edits, if it is wide."""
-        return self._tails.get("-b" if command.endswith("b") else "-i") if command in EDITS else None
+    def tails_of(self, record: Sequence[str], second: bool = False) -> list[str]:
+        """The tails of the copies of a record, in the order in which they would be taken."""
+        tails = self._tails.get("-b" if second else "-i")
+        return list(tails.of(record_of(record))) if tails else []
 
     def joiner(self) -> Callable[[bytes], bytes]:
         """Puts the tails to whole lines of the track, which come in pieces."""
@@ -71,54 +97,209 @@ class Wide:
         joiner = Joiner(tails)
         return lambda lines: b"".join(encoded(f"{joiner.join(row)}\n") for row in decoded(lines).split("\n")[:-1])
 
-    def script(self, lengths: Optional[Mapping[str, int]]) -> Script:
-        return WideScript(lengths, self)
+    def parts(self, line: str) -> list[str]:
+        """The command of a line, and its fields without tails."""
+        command, *fields = line.split("\t")
+        tails = self._of(command)
+        return [command, *cut(command, fields, tails.width).fields] if tails else [command, *fields]
 
-    def _width(self, command: str) -> int:
-        tails = self.tails(command)
-        return tails.width if tails else WIDEST
+    def ask(self, ask: Ask, text: str, whole: bool = False) -> Answer:
+        """Sends lines with the first six columns of their records, and has the tails follow those that are done.
+
+        The answer has those that are refused here too, by their numbers in the text. `steps` has what the others did.
+        """
+        self.steps = []
+        if not self._tails:
+            return ask(text, whole)
+        self._lengths = self._script.changes().lengths if self._script else None
+        lines, sent, size = text.split("\n")[:-1], 0, len(text)
+        refused: dict[int, str] = {}
+        hints: dict[int, list[str]] = {}
+        while sent < len(lines):
+            batch = _batch(lines, sent, size)
+            answer, done = self._exchange(batch, ask, whole)
+            refused.update((sent + number, reason) for number, reason in answer.refused.items())
+            hints.update((sent + number, list(map(self._given, hint))) for number, hint in answer.hints.items())
+            sent += done
+            if answer.sent < len(batch):
+                break
+            size = size * 2 if done == len(batch) else FEW
+        return Answer(sent, refused, hints)
+
+    def _exchange(self, lines: Sequence[str], ask: Ask, whole: bool) -> tuple[Answer, int]:
+        """Sends some lines, and returns the answer, and how many of them were decided by what the program did before them."""
+        plans = [self._plan(line) for line in lines]
+        answer = ask("".join(f"{plan.sent}\n" for plan in plans), whole)
+        foreseen = next((at for at, plan in enumerate(plans[:answer.sent]) if not plan.is_foreseen(at + 1 in answer.refused)), answer.sent)
+        for plan in reversed(plans[foreseen:]):
+            self._undo(plan)
+        done = self._settle(lines, plans, answer, range(foreseen, answer.sent))
+        if done < answer.sent:
+            self._go_back(plans[done:answer.sent], {number - done for number in answer.refused}, ask)
+        refused = {number: reason for number, reason in answer.refused.items() if number <= done}
+        for number, (line, plan) in enumerate(zip(lines[:done], plans), 1):
+            if plan.refusal:
+                refused[number] = plan.refusal
+            if plan.hint:
+                answer.hints[number] = list(plan.hint)
+            if number not in refused and is_edit(line):
+                self.steps.append(plan.step)
+                self._resize(line)
+        return answer._replace(refused=dict(sorted(refused.items()))), done
+
+    def _settle(self, lines: Sequence[str], plans: list[Plan], answer: Answer, places: range) -> int:
+        """Decides lines once more, by what the program did, and returns the place of the first that would be sent otherwise."""
+        for at in places:
+            plan, refused = self._plan(lines[at]), at + 1 in answer.refused
+            if plan.sent != plans[at].sent:
+                self._undo(plan)
+                return at
+            if refused:
+                self._undo(plan)
+                plan = plan._replace(step=None)
+            elif not plan.is_foreseen(refused):
+                raise Error(f"the program took a line that has no record here: {lines[at]!r}")
+            plans[at] = plan
+        return answer.sent
+
+    def _go_back(self, plans: Sequence[Plan], refused: set[int], ask: Ask) -> None:
+        """Takes back what the program did of some lines, the last one first."""
+        done = [plan.sent.split("\t") for number, plan in enumerate(plans, 1) if number not in refused and is_edit(plan.sent)]
+        text = ""
+        for command, *fields in reversed(done):
+            half = len(fields) // 2 if command.startswith("replace") else 0
+            text += line_of(INVERSE[command], *fields[half:], *fields[:half])
+        if ask(text, True).refused:
+            raise Error("lines can't be taken back")
+
+    def _plan(self, line: str) -> Plan:
+        """Decides a line, and has the tails follow it."""
+        text = line.removesuffix("\r")  # as the program reads it
+        command, *fields = text.split("\t")
+        tails = self._of(command)
+        if tails is None:
+            return Plan(line)
+        columns, old_tail, new_tail = cut(command, fields, tails.width)
+        sent = "\t".join([command, *columns]) + line[len(text):]
+        half = len(columns) // 2 if command.startswith("replace") else len(columns)
+        if half != WIDEST:
+            return Plan(sent, hint=[_count(len(fields), command, tails.width)], is_wide=True)
+        if not all(map(self._is_sound, [columns[:half], columns[-half:]])):
+            return Plan(sent, is_wide=True)
+        old = None if command.startswith("add") else record_of(columns[:half])
+        new = None if command.startswith("remove") else record_of(columns[-half:])
+        try:
+            step = tails.plan(old, new, old_tail, new_tail, self._leave)
+        except Unfit as unfit:
+            offer = [f"{command}\t" + "\t".join([*(old or ())]) + (old_tail or "") + "\t" + "\t".join(unfit.offer)] if unfit.offer else []
+            return Plan("", None, unfit.reason, [*unfit.hint, *offer], True)
+        if step:
+            tails.do(step)
+        return Plan(sent, step, is_wide=True)
+
+    def _given(self, text: str) -> str:
+        """A hint with the names of the files as they were given."""
+        for bed in self._beds.values():
+            text = text.replace(bed.narrow, bed.path)
+        return text
+
+    def _undo(self, plan: Plan) -> None:
+        tails = self._of(plan.sent.split("\t")[0])
+        if tails and plan.step:
+            tails.undo(plan.step)
+
+    def _of(self, command: str) -> Optional[Tails]:
+        """The tails of the file that a command edits, if it is wide."""
+        return self._tails.get("-b" if command.endswith("b") else "-i") if command in EDITS else None
+
+    def _is_sound(self, columns: Sequence[str]) -> bool:
+        """Whether the program takes the columns of a record for one."""
+        if not (DIGITS.fullmatch(columns[1]) and DIGITS.fullmatch(columns[2])):
+            return False
+        start, end = int(columns[1]), int(columns[2])
+        known = self._lengths is None or end <= self._lengths.get(columns[0], 0)
+        return known and start < end and all(columns[3:5]) and columns[5] in STRANDS and not {"\r", "\0"}.intersection(*columns[3:5])
+
+    def _resize(self, line: str) -> None:
+        """Follows the length of a sequence that a line corrected."""
+        command, *fields = line.split("\t")
+        if command == "resize" and self._lengths is not None:
+            self._lengths = {**self._lengths, fields[0]: int(fields[1])}
+
+
+def _count(fields: int, command: str, width: int) -> str:
+    """What is wrong about a number of columns."""
+    if command.startswith("replace"):
+        return f"{fields} columns, and a record has {width}: all are written, or the first {WIDEST}, of both records"
+    return f"{fields} columns, and the track has {width}: all are written, or the first {WIDEST}"
+
+
+def _batch(lines: Sequence[str], begin: int, size: int) -> Sequence[str]:
+    """So many lines from a place on, but a `resize` by itself: those of a batch can be taken back without the lengths before."""
+    if lines[begin].startswith("resize\t"):
+        return lines[begin:begin + 1]
+    end = next((at for at in range(begin, min(begin + size, len(lines))) if lines[at].startswith("resize\t")), begin + size)
+    return lines[begin:end]
 
 
 class WideScript(Script):
-    """The accepted edits, which the tails follow. warnings: what of a tail can't hold any more, with the line that left it so."""
+    """The accepted edits, with what they did to the tails.
+
+    warnings: what of a tail can't hold any more, with the line that left it so
+    """
 
     def __init__(self, lengths: Optional[Mapping[str, int]], wide: Wide) -> None:
         super().__init__(lengths)
         self.warnings: list[tuple[str, str]] = []
+        self._warned: list[int] = []  # the places of their steps
         self._wide = wide
-        self._steps: list[tuple[str, Optional[Step]]] = []  # of all edits that weren't taken back, with their commands
+        self._steps: list[Optional[Step]] = []  # of all edits
+        self._found: Optional[tuple[int, int]] = None  # the place of an edit among the lines, and that of its step
 
     def add(self, text: str) -> None:
         super().add(text)
-        for line in text.split("\n")[:-1]:
-            if line and not line.startswith("#"):
-                self._follow(line)
+        self._found = None
+        steps, begin = self._wide.steps, len(self._steps)
+        self._steps += steps
+        if any(step and step.warning for step in steps):
+            for place, (line, step) in enumerate(zip(filter(is_edit, text.split("\n")), steps), begin):
+                if step and step.warning:
+                    self.warnings.append((line, step.warning))
+                    self._warned.append(place)
 
     def forget(self, place: int) -> None:
         super().forget(place)
-        command, step = self._steps.pop()
-        tails = self._wide.tails(command)
-        if tails and step:
-            tails.undo(step)
-            if step.warning:
-                self.warnings.pop()
+        self._found = None
+        self._steps.pop()
+        if self._warned[-1:] == [len(self._steps)]:
+            self._warned.pop()
+            self.warnings.pop()
+
+    def explain(self, reason: str) -> None:
+        super().explain(reason)
+        self._found = None
 
     def parts(self, line: str) -> list[str]:
         return self._wide.parts(line)
 
-    def moves(self) -> Iterator[Move]:
-        if self._wide.tails("add") is None:
-            yield from super().moves()
-        for command, step in self._steps:
-            if step and not command.endswith("b"):
-                yield ("\t".join(step.old) + step.old_tail if step.old else None,
-                       "\t".join(step.new) + step.new_tail if step.new else None)
+    def reverse(self, place: int) -> str:
+        step = self._steps[self._step_of(place)]
+        if step is None:
+            return super().reverse(place)
+        rows = (row for row in (step.new_row, step.old_row) if row is not None)
+        return "\t".join([INVERSE[self.lines()[place].split("\t")[0]], *rows]) + "\n"
 
-    def _follow(self, line: str) -> None:
-        command, step = line.split("\t")[0], self._wide.plan(line)
-        tails = self._wide.tails(command)
-        if tails and step:
-            tails.do(step)
-            if step.warning:
-                self.warnings.append((line, step.warning))
-        self._steps.append((command, step))
+    def moves(self) -> Iterator[Move]:
+        if self._wide.width <= WIDEST:
+            yield from super().moves()
+            return
+        for line, step in zip(filter(is_edit, self.lines()), self._steps):
+            if step and not line.split("\t")[0].endswith("b"):
+                yield step.old_row, step.new_row
+
+    def _step_of(self, place: int) -> int:
+        """The place among the steps of an edit of that place among the lines. Edits are asked for from the last one on."""
+        lines = self.lines()
+        known, step = self._found if self._found and place <= self._found[0] else (len(lines), len(self._steps))
+        self._found = place, step - sum(map(is_edit, lines[place:known]))
+        return self._found[1]

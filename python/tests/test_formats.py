@@ -203,12 +203,12 @@ class Others(unittest.TestCase):
             self.assertEqual(format_of(record(100, 200), tail(text)), name, text)
 
     def test_default_tails(self):
-        for width, like, expected in (
-            (7, "", "."), (8, "", "5 9"), (9, "", "5 9 0"), (10, "", "0 -1 -1 -1"), (12, "", "5 9 0 1 4 0"), (11, "", ". . . . ."),
-            (8, "a b", ". ."), (9, "1.5 2 3", "0 -1 -1"), (12, "a b c d e f", ". . . . . ."), (14, "5 9 0 1 4 0 x y", "5 9 0 1 4 0 . ."),
-            (11, "5 9 1,2,3 x y", "5 9 0 . ."), (10, "a b c d", ". . . ."),
+        for width, kind, expected in (
+            (7, None, "."), (8, None, "5 9"), (9, None, "5 9 0"), (10, None, "0 -1 -1 -1"), (12, None, "5 9 0 1 4 0"),
+            (11, None, ". . . . ."), (8, "", ". ."), (9, "broadPeak", "0 -1 -1"), (12, "", ". . . . . ."),
+            (14, "BED12", "5 9 0 1 4 0 . ."), (11, "BED9", "5 9 0 . ."), (10, "", ". . . ."),
         ):
-            self.assertEqual(default_tail(record(5, 9), width, tail(like)), tail(expected))
+            self.assertEqual(default_tail(record(5, 9), width, kind), tail(expected))
             self.assertEqual(faults(record(5, 9), tail(expected)), [])
 
     def test_faults(self):

@@ -1,11 +1,12 @@
 import gzip
 import os
 import random
+import threading
 from unittest import mock
 
 import bedkeep
 from bedkeep.replay import replay
-from bedkeep.wide import Tails, cut, default_tail, faults
+from bedkeep.wide import Joiner, Tails, cut
 from helpers import Case, Outcome, tabs
 from test_desk import started
 from test_replay import LENGTHS, some_record, some_script
@@ -58,51 +59,13 @@ chr2 8 9 own 0 + 8 9 0,0,9 1 1 0""".split("\n")))
         self.assertEqual(self.desk("apply", BED12, f"remove {second}").rows, left)
         renamed = second.replace("geneB", "geneD")
         self.assertEqual(self.desk("apply", BED12, f"replace {second} {renamed}").rows, [*left[:2], renamed, left[2]])
-        outcome = self.desk("apply", BED12, f"remove {second.replace('300 300', '300 301')}")
-        self.assertEqual((outcome.status, outcome.messages),
-                         (0, ["line 1: done, but the record has other columns from the seventh on"]))
-
-    def test_what_no_longer_holds_is_said_or_refused(self):
-        script = """replace chr1 100 200 geneA 0 + chr1 120 200 geneA 0 +
-replace chr1 120 200 geneA 0 + chr1 120 180 geneA 0 +
-replace chr2 5 50 geneC 0 . chr2 5 49 geneC 0 .
-remove chr2 5 49 geneC 0 .
-add chr2 1 9 x 0 + 1 9 0 2 8 0
-add chr2 1 9 x 0 + 1 9 0 1 8,x 0"""
-        outcome = self.desk("apply", BED12, script)
-        self.assertEqual((outcome.status, outcome.messages), (0, [
-            "line 1: done, but thickStart 110 is outside of the record, blocks end 100 after the start, the record 80",
-            "line 2: done, but thickEnd 190 is outside of the record, blocks end 100 after the start, the record 60",
-            "line 3: done, but blocks end 45 after the start, the record 44",
-            "line 5: done, but blockCount 2 is not the number of blocks", "line 6: done, but blocks are not numbers"]))
-        outcome = self.desk("apply", BED12, script, "--strict")
-        self.assertEqual((outcome.status, outcome.messages), (1, [
-            "line 1: thickStart 110 is outside of the record, blocks end 100 after the start, the record 80",
-            "line 2: no such record: chr1 120 200 geneA 0 +", "line 3: blocks end 45 after the start, the record 44",
-            "line 4: no such record: chr2 5 49 geneC 0 .",
-            "line 5: blockCount 2 is not the number of blocks", "line 6: blocks are not numbers"]))
-        self.assertEqual(outcome.rows, BED12.split("\n"))
-
-    def test_the_summit_of_a_peak(self):
-        script = "replace chr1 100 200 peak1 0 . chr1 100 199 peak1 0 .\nreplace chr1 300 400 peak2 7 . chr1 300 310 peak2 7 .\nadd chr2 1 2 x 0 ."
-        outcome = self.desk("apply", PEAKS, script)
-        self.assertEqual(outcome.messages, ["line 1: done, but summit 99 is past the record's end"])
-        self.assertEqual(outcome.rows[1:], ["chr1 300 310 peak2 7 . 1e3 -1 -1 -1", "chr2 1 2 x 0 . 0 -1 -1 -1"])
-
-    def test_a_wide_second_file(self):
-        second = self.file("second.bed", tabs("chr1 150 350 m 0 + x\nchr1 150 350 m 0 + y"))
-        outcome = self.desk("apply", "chr1 1 2", "removeb chr1 150 350 m 0 + y\nremoveb chr1 150 350 m 0 + y\nadd chr1 3 4", "-b", second,
-                            "--strict")
-        self.assertEqual((outcome.status, outcome.messages, outcome.rows), (
-            1, ["line 2: the record has other columns from the seventh on"], ["chr1 1 2", "chr1 3 4"]))
-
     def test_lines_of_another_number_of_columns(self):
         outcome = self.desk("apply", BED12, "add chr1 1 2 x 0 + 1\nremove chr1 1 2\nreplace chr1 1 2 chr1 1 3")
         self.assertEqual(outcome.messages, ["line 1: wrong number of columns: 7 fields; 6 or 12 are needed",
                                             "line 2: wrong number of columns: 3 fields; 6 or 12 are needed",
                                             "line 3: wrong number of columns: 6 fields; 12, 18 or 24 are needed"])
         outcome = self.desk("apply", BED12, "replace chr2 5 50 geneC 0 . chr9 5 50 geneC 0 . 1 2 3 4 5 6\n"
-                            "replace chr2 5 50 geneC 0 . 1 2 3 4 5 6 chr2 5 5 geneC 0 . 1 2 3 4 5 6")
+                            "replace chr2 5 50 geneC 0 . 10 20 0,0,0 1 45, 0, chr2 5 5 geneC 0 . 1 2 3 4 5 6")
         self.assertEqual(outcome.messages, ["line 1: unknown sequence: 'chr9' (new chromosome, field 8)",
                                             "line 2: start not below end: '5' (new start, field 15)"])
         outcome = self.desk("apply", f"{BED12}\nchr1 1 2 x 0 +", "")
@@ -110,51 +73,6 @@ add chr2 1 9 x 0 + 1 9 0 1 8,x 0"""
         outcome = self.desk("apply", f"{BED12}\nchr1 9 2 x 0 + 1 2 0 1 1 0", "")
         self.assertEqual(outcome.status, 2)
         self.assertRegex(outcome.err, f"^{self.bed}: line 5: start not below end \\(status 3\\)\n  line 5: ")
-
-    def test_random_scripts_and_a_list_of_lines(self):
-        """Each copy has a tail of its own. Of equal records the one that has been so for longest goes first."""
-        sizes = self.file("sizes", "".join(f"{name}\t{length}\n" for name, length in LENGTHS.items()))
-        for seed in range(40):
-            with self.subTest(seed=seed):
-                pick = random.Random(seed)
-                records = [some_record(pick) for _ in range(6)]
-                now = [[pick.choice(records), f"\tt{number}\tx"] for number in range(12)]
-                bed = self.file("bed", "".join("\t".join(one) + tail + "\n" for one, tail in now))
-                corrections = self.file("corrections", "".join("\t".join(line) + "\n" for line in some_script(pick, records)))
-                lines = [line for line in replay(sizes, bed, [corrections]).lines if line.is_done]
-                for line in lines:
-                    entry = next(entry for entry in now if entry[0] == line.old) if line.old else [None, "\t.\t."]
-                    if line.old:
-                        now.remove(entry)
-                    if line.new:
-                        now.append([line.new, entry[1]])
-                self.assertEqual(sorted(Outcome("apply", sizes, bed, corrections).out.split("\n")[:-1]),
-                                 sorted("\t".join(one) + tail for one, tail in now))
-
-
-class Replayed(Wide):
-    def test_classes_go_by_six_columns(self):
-        script = """replace chr1 100 200 geneA 5 + chr1 100 210 geneA 5 +
-remove chr1 300 400 geneB 7 - 1 2 3 4 5 6
-replace chr1 300 400 geneB 6 - chr1 300 410 geneB 6 - 300 410 0 1 110 0
-replace chr1 300 400 geneB 6 - 1 2 3 4 5 6 chr1 300 410 geneB 6 - 300 410 0 1 110 0"""
-        outcome = self.desk("replay", BED12, script, "--mend", self.folder / "mend")
-        mended = (self.folder / "mend").read_text().replace("\t", " ").split("\n")
-        self.assertEqual([line for line in mended if not line.startswith("#")], [
-            "replace chr1 100 200 geneA 0 + chr1 100 210 geneA 0 +", "remove chr1 300 400 geneB 7 - 1 2 3 4 5 6",
-            "replace chr1 300 400 geneB 7 - chr1 300 410 geneB 7 - 300 410 0 1 110 0",
-            "replace chr1 300 400 geneB 6 - 1 2 3 4 5 6 chr1 300 410 geneB 6 - 300 410 0 1 110 0", ""])
-        self.assertEqual(outcome.rows[-1], "2 changed, 1 fits, 1 taken out")
-        self.assertIn(f"{self.corrections}: line 2: done, but the record has other columns from the seventh on", outcome.rows)
-
-    def test_strict_lines_are_bad_lines(self):
-        script = "replace chr1 100 200 geneA 0 + chr1 120 200 geneA 0 +\nremove chr1 100 200 geneA 0 +"
-        outcome = self.desk("replay", BED12, script, "--strict", "--tsv")
-        self.assertEqual([row.split("\t")[2] for row in outcome.out.split("\n")[1:-1]], ["bad line"])
-        self.assertIn("thickStart 110 is outside of the record", outcome.out)
-        outcome = self.desk("replay", BED12, script, "--tsv")
-        self.assertEqual([row.split("\t")[2] for row in outcome.out.split("\n")[1:-1]], ["fits", "taken out"])
-
 
 class Diffs(Wide):
     def test_tails_are_compared_too(self):
@@ -188,6 +106,10 @@ class Sessions(Case):
     def lines(self, session):
         return [" ".join(map(str, row)) for row in session.records()]
 
+    def answers(self, session, lines):
+        """Why lines are refused, with the hints, of lines with spaces."""
+        return [(one.number, one.reason, [text.replace("\t", " ") for text in one.hint]) for one in session.edit(tabs(lines))]
+
     def test_edits_and_undo(self):
         second = self.file("second.bed.gz", gzip.compress(tabs("chr1 150 350 m 0 + x").encode()))
         with self.wide(tabs(BED12), second=second) as session:
@@ -200,21 +122,216 @@ class Sessions(Case):
                          "removeb chr1 150 350 m 0 +", "addb chr1 150 350 m 0 + y"):
                 self.assertEqual(session.edit(["# why", tabs(line)]), [])
                 looks.append(self.lines(session))
-            self.assertEqual(looks[-1], [BED12.split("\n")[0], "chr1 300 390 geneB 7 - 300 400 0 1 100 0", "chr2 5 9 new 0 . 5 9 0 1 4 0",
+            self.assertEqual(looks[-1], [BED12.split("\n")[0], "chr1 300 390 geneB 7 - 300 390 0 1 90 0", "chr2 5 9 new 0 . 5 9 0 1 4 0",
                                          "chr2 8 9 own 0 + 8 9 0 1 1 0"])
-            self.assertEqual(session.warnings(), [(
-                tabs("replace chr1 300 400 geneB 7 - chr1 300 390 geneB 7 -").rstrip("\n"),
-                "thickEnd 400 is outside of the record, blocks end 100 after the start, the record 90")])
             self.assertEqual([tuple(row)[3] for row in session.region("chr2")], ["new", "own"])
             script = session.script()
             session.save(self.folder / "saved.bed")
-            self.assertEqual((self.folder / "saved.bed").read_text(), tabs("\n".join(looks[-1])))
+            self.assertEqual(sorted((self.folder / "saved.bed").read_text().split("\n")), sorted(tabs("\n".join(looks[-1])).split("\n")))
             for look in reversed(looks[:-1]):
                 session.undo()
                 self.assertEqual(self.lines(session), look)
-            self.assertEqual(session.warnings(), [])
         with bedkeep.Session(self.sizes, self.bed, second, wide=True) as again:
             self.assertEqual((again.edit(script), self.lines(again)), ([], looks[-1]))
+
+    def test_an_inverse_line_has_all_columns(self):
+        rows = BED12.split("\n")
+        with self.wide(tabs(BED12)) as session:
+            for line, inverse in (
+                ("remove chr1 100 200 geneA 0 +", f"add {rows[0]}"),
+                ("add chr2 1 2 x 0 +", "remove chr2 1 2 x 0 + 1 2 0 1 1 0"),
+                ("replace chr1 300 400 geneB 7 - chr1 300 410 geneB 7 -", f"replace chr1 300 410 geneB 7 - 300 410 0 1 110 0 {rows[1]}"),
+            ):
+                self.assertEqual(session.edit(tabs(line)), [])
+                self.assertEqual(session.inverse(), tabs(inverse))
+                self.assertEqual(session.edit(session.inverse()), [])
+                self.assertEqual(self.lines(session), rows)
+
+    def test_a_line_of_all_columns_names_a_record_by_all(self):
+        first, second, third = "chr1 100 200 g 0 + 120 180 0 2 10,20, 0,80,", "chr1 100 200 g 0 + 110 190 0 3 10,30,20, 0,40,80,", "chr2 1 2 x 0 + 1 2 0 1 1, 0,"
+        with self.wide(tabs(f"{second}\n{third}")) as session:
+            hint = ("the record is there with thickStart 110 instead of 120, thickEnd 190 instead of 180, blockCount 3 instead of 2, "
+                    "blockSizes 10,30,20, instead of 10,20,, blockStarts 0,40,80, instead of 0,80,")
+            self.assertEqual(self.answers(session, f"remove {first}\nreplace {first} {first.replace(' 0 +', ' 5 +')}\nremove {second}"),
+                             [(1, "no such record", [hint]), (2, "no such record", [hint])])
+            self.assertEqual(self.lines(session), [third])
+            self.assertEqual(session.undo(), tabs(f"remove {second}").rstrip("\n"))
+            self.assertNotIn(first.split(), session)
+            self.assertIn(second.split(), session)
+            self.assertIn(second.split()[:6], session)
+
+    def test_forms_of_a_replace(self):
+        old, new = "chr1 100 200 geneA 0 + 110 190 255,0,0 2 20,30, 0,70,", "chr1 100 210 geneA 0 + 110 190 255,0,0 2 20,40, 0,70,"
+        own = "chr1 100 210 geneA 0 + 100 210 0 1 110 0"
+        six, other = (" ".join(row.split()[:6]) for row in (old, new))
+        for line, expected in (f"{six} {other}", new), (f"{old} {other}", new), (f"{six} {own}", own), (f"{old} {own}", own):
+            with self.wide(tabs(BED12)) as session:
+                self.assertEqual(session.edit(tabs(f"replace {line}")), [])
+                self.assertEqual(self.lines(session)[0], expected)
+
+    def test_copies(self):
+        """Of copies with other columns a line of six takes the first in the file, and who puts it in again has the file's order."""
+        rows = [f"chr1 1 5 x 0 + {text}" for text in "bacab"]
+        with self.wide(tabs("\n".join(rows))) as session:
+            self.assertEqual(session.tails(("chr1", 1, 5, "x", 0, "+")), [f"\t{text}" for text in "bacab"])
+            for line, left in (("remove chr1 1 5 x 0 +", "acab"), ("add chr1 1 5 x 0 + a", "acaba"), ("remove chr1 1 5 x 0 + b", "acaa"),
+                               ("add chr1 1 5 x 0 + b", "acaba"), ("add chr1 1 5 x 0 + b", "bacaba"), ("add chr1 1 5 x 0 +", "bacab.a"),
+                               ("replace chr1 1 5 x 0 + c chr1 1 5 x 0 + z", "baab.az"), ("remove chr1 1 5 x 0 +", "aab.az")):
+                self.assertEqual(session.edit(tabs(line)), [])
+                self.assertEqual("".join(tail[1:] for tail in session.tails(("chr1", "01", "5", "x", "0", "+"))), left, line)
+            for _ in range(8):
+                session.undo()
+            self.assertEqual(self.lines(session), rows)
+            self.assertEqual((session.columns(), session.columns(True), session.tails(("chr1", 1, 5, "y", 0, "+"))), (7, 0, []))
+
+    def test_what_no_rule_keeps_valid_is_refused_with_a_line_that_would_fit(self):
+        lines = """replace chr1 100 200 geneA 0 + chr1 100 185 geneA 0 +
+replace chr1 100 200 geneA 0 + chr1 130 200 geneA 0 +
+replace chr1 100 200 geneA 0 + 110 190 255,0,0 2 20,30, 0,70, chr1 115 195 geneA 0 +
+add chr2 1 9 x 0 + 1 9 0 2 8 0
+replace chr2 5 50 geneC 0 . chr2 5 60 geneC 0 . 10 20 0,0,0 1 45, 0,
+add chr2 1 9 x 0 + a b c d e f
+replace chr2 5 50 geneC 0 . chr2 5 25 geneC 1001 ."""
+        expected = [
+            (1, "thickEnd 190 is outside of the record", [
+                "replace chr1 100 200 geneA 0 + chr1 100 185 geneA 0 + 110 185 255,0,0 2 20,15, 0,70,"]),
+            (2, "the start 130 is between blocks 1 and 2 of 2", [
+                "replace chr1 100 200 geneA 0 + chr1 170 200 geneA 0 + 170 190 255,0,0 1 30, 0,"]),
+            (3, "thickStart 110 is outside of the record", [
+                "replace chr1 100 200 geneA 0 + 110 190 255,0,0 2 20,30, 0,70, chr1 115 195 geneA 0 + 115 190 255,0,0 2 5,25, 0,55,"]),
+            (4, "blockCount 2 is not the number of blocks", []),
+            (5, "blocks end 45 after the start, the record 55", [
+                "replace chr2 5 50 geneC 0 . chr2 5 60 geneC 0 . 10 20 0,0,0 1 55, 0,"]),
+            (6, "the columns from the seventh on are not those of BED12", []), (7, "score 1001 is not from 0 to 1000", [])]
+        with self.wide(tabs(BED12)) as session:
+            self.assertEqual(self.answers(session, lines), expected)
+            self.assertEqual((self.lines(session), session.script()), (BED12.split("\n"), ""))
+            for _, _, hint in expected:
+                if hint:
+                    self.assertEqual(session.edit(tabs(hint[0])), [])
+                    session.undo()
+        with self.wide(tabs(BED12), leave_blocks=True) as session:
+            self.assertEqual([refused[:2] for refused in self.answers(session, lines)], [(number, "no such record") for number in (2, 3, 7)])
+            self.assertEqual([text for _, text in session.warnings()], [expected[place][1] for place in (0, 3, 4, 5)])
+            self.assertIn("chr1 100 185 geneA 0 + 110 190 255,0,0 2 20,30, 0,70,", self.lines(session))
+
+    def test_warnings_of_a_line_that_is_undone_go(self):
+        lines = ["remove chr2 5 50 geneC 0 .", "replace chr1 100 200 geneA 0 + chr1 100 180 geneA 0 +", "add chr2 1 9 x 0 + 1 9 0 2 8 0"]
+        with self.wide(tabs(BED12), leave_blocks=True) as session:
+            for number, line in enumerate(lines):
+                self.assertEqual(session.edit(["# why", tabs(line)]), [])
+                self.assertEqual(len(session.warnings()), number)
+            self.assertEqual(session.warnings()[0][0], tabs(lines[1]).rstrip("\n"))
+            for left in 1, 0, 0:
+                session.undo()
+                self.assertEqual(len(session.warnings()), left)
+            self.assertEqual(self.lines(session), BED12.split("\n"))
+
+    def test_a_record_that_was_invalid_comes_back(self):
+        """What the file has is never refused, whatever is wrong with it."""
+        row = "chr1 100 200 g 1001 + 10 20 0 2 10,20, 0,70,"
+        with self.wide(tabs(f"{row}\nchr2 1 2 x 0 + 1 2 0 1 1 0")) as session:
+            self.assertEqual(self.answers(session, f"remove {row}\nadd {row}\nreplace {row} chr1 100 200 h 2000 +\nreplace chr1 100 200 h 2000 + {row}"), [])
+            self.assertEqual(self.lines(session)[0], row)
+        with self.wide(tabs("chr1 100 200 g 1001 + 3 20\nchr2 1 2 x 0 + 1 2")) as session:  # two counts, and no coding part
+            self.assertEqual(self.answers(session, "add chr1 100 200 h 2000 + 1 2\nreplace chr2 1 2 x 0 + chr2 1 2 x 3000 +"), [])
+
+    def test_the_summit_of_a_peak(self):
+        with self.wide(tabs(PEAKS)) as session:
+            self.assertEqual(self.answers(session, """replace chr1 100 200 peak1 0 . chr1 100 199 peak1 0 .
+replace chr1 100 200 peak1 0 . chr1 120 210 peak1 0 .
+replace chr1 120 210 peak1 0 . chr1 130 220 peak1 0 .
+replace chr1 300 400 peak2 7 . chr1 300 310 peak2 7 .
+add chr2 1 2 x 0 ."""), [(1, "the summit at base 199 is outside of the record", [
+                "replace chr1 100 200 peak1 0 . chr1 100 199 peak1 0 . 5.5 -1 2.25 -1"])])
+            self.assertEqual(self.lines(session), ["chr1 130 220 peak1 0 . 5.5 -1 2.25 79", "chr1 300 310 peak2 7 . 1e3 -1 -1 -1",
+                                                   "chr2 1 2 x 0 . 0 -1 -1 -1"])
+
+    def test_a_wide_second_file(self):
+        second = self.file("second.bed", tabs("chr1 150 350 m 0 + x\nchr1 150 350 m 0 + y"))
+        with self.wide("chr1\t1\t2\n", second=second) as session:
+            self.assertEqual(self.answers(session, "removeb chr1 150 350 m 0 + y\nremoveb chr1 150 350 m 0 + y\nadd chr1 3 4"),
+                             [(2, "no such record", ["the record is there with column 7 x instead of y"])])
+            self.assertEqual((session.columns(), session.columns(True), session.tails(("chr1", 150, 350, "m", 0, "+"), True)), (3, 7, ["\tx"]))
+            self.assertEqual([session.undo(), session.undo()], ["add\tchr1\t3\t4", tabs("removeb chr1 150 350 m 0 + y").rstrip("\n")])
+            self.assertEqual(session.tails(("chr1", 150, 350, "m", 0, "+"), True), ["\tx", "\ty"])
+
+    def test_a_file_without_a_record(self):
+        with self.wide("# none\n", width=12) as session:
+            self.assertEqual(self.answers(session, "add chr1 1 5 x 0 +\nadd chr1 6 9 y 0 + 6 9 0 1 3 0\nadd chr1 1 5"),
+                             [(3, "wrong number of columns", ["3 columns, and the track has 12: all are written, or the first 6"])])
+            self.assertEqual(self.lines(session), ["chr1 1 5 x 0 + 1 5 0 1 4 0", "chr1 6 9 y 0 + 6 9 0 1 3 0"])
+
+    def test_random_scripts_and_a_list_of_lines(self):
+        """Each copy has a tail of its own. What is refused is none of the tails' business here: nothing follows them."""
+        sizes = self.file("sizes", "".join(f"{name}\t{length}\n" for name, length in LENGTHS.items()))
+        for seed in range(40):
+            with self.subTest(seed=seed):
+                pick = random.Random(seed)
+                records = [some_record(pick) for _ in range(6)]
+                now = [[pick.choice(records), f"t{number}"] for number in range(12)]
+                bed = self.file("bed", "".join("\t".join([*one, tail]) + "\n" for one, tail in now))
+                lines = some_script(pick, records)
+                with bedkeep.Session(sizes, bed, wide=True) as session:
+                    refused = {one.number for one in session.edit(["\t".join(line) for line in lines])}
+                    self.follow(now, [line for number, line in enumerate(lines, 1) if number not in refused])
+                    self.assertEqual(sorted(self.lines(session)), sorted(" ".join([*one, tail]) for one, tail in now))
+
+    def follow(self, now, lines):
+        """Of equal records that of the file goes first, and of those the first one."""
+        for command, *fields in lines:
+            old = None if command == "add" else tuple(fields[:6])
+            new = None if command == "remove" else tuple(fields[-6:])
+            entry = [new, "."]
+            if old:
+                at = min((not tail.startswith("t"), tail if tail == "." else "", place)
+                         for place, (one, tail) in enumerate(now) if one == old)[2]
+                entry[1] = now.pop(at)[1]
+            if new:
+                now.append(entry)
+
+    def test_lines_that_the_program_refuses_where_that_wasnt_expected(self):
+        """The genome is a pipe, so nobody but the program knows its lengths: the same as line by line."""
+        rows = "chr1 100 200 g 0 + 100 200 0 2 10,20, 0,80,\nchr1 100 200 g 0 + 100 200 0 1 100 0"
+        lines = tabs("""replace chr1 100 200 g 0 + 100 200 0 2 10,20, 0,80, chr1 100 2000 g 0 +
+remove chr1 100 200 g 0 + 100 200 0 2 10,20, 0,80,
+replace chr1 100 200 g 0 + chr1 100 150 g 0 +
+resize chr1 5000
+# after it
+replace chr1 100 150 g 0 + chr1 100 2000 g 0 +
+replace chr1 100 2000 g 0 + chr1 100 6000 g 0 +
+remove chr1 100 6000 g 0 +
+replace chr1 100 2000 g 0 + 100 2000 0 1 1900 0 chr1 100 300 g 0 +
+add chr9 1 2 x 0 +
+remove chr9 1 2 x 0 +
+add chr1 1 2 x 0 +""").replace("#\tafter\tit", "# after it")
+        before = lines[:lines.index("# after it")]
+        with self.wide(tabs(rows)) as known:
+            expected = [(one.number, one.reason) for one in known.edit(lines)]
+            after = self.lines(known)
+            while known.script() != before[before.index("remove"):]:
+                known.undo()
+            middle = self.lines(known)
+        self.assertEqual([number for number, _ in expected], [1, 7, 8, 10, 11])
+        for step in 1, 2, 5, 100:
+            with self.subTest(step=step), self.piped() as session:
+                refused, listed = [], lines.split("\n")[:-1]
+                for begin in range(0, len(listed), step):
+                    refused += [(begin + one.number, one.reason) for one in session.edit(listed[begin:begin + step])]
+                self.assertEqual((refused, self.lines(session)), (expected, after))
+                while session.script() != before[before.index("remove"):]:
+                    session.undo()
+                self.assertEqual(self.lines(session), middle)
+                with self.assertRaises(ValueError):
+                    session.undo()
+
+    def piped(self):
+        """A session over the wide file whose genome is a pipe."""
+        pipe = self.folder / "pipe"
+        pipe.unlink(missing_ok=True)
+        os.mkfifo(pipe)
+        threading.Thread(target=pipe.write_bytes, args=[self.sizes.read_bytes()]).start()
+        return bedkeep.Session(pipe, self.bed, wide=True)
 
     def test_records_of_all_columns(self):
         with self.wide(tabs(BED12)) as session:
@@ -225,7 +342,7 @@ class Sessions(Case):
             session.add(record)
             with self.refused("no such record"):
                 session.remove("chr1", 1, 2, "x", 0, "+")
-            self.assertEqual(sorted(self.lines(session)), sorted(BED12.split("\n")))
+            self.assertEqual(self.lines(session), BED12.split("\n"))
 
     def test_the_file_itself_is_not_written(self):
         with self.wide(tabs(BED12)) as session:
@@ -251,44 +368,18 @@ class Sessions(Case):
             session.end()
         self.assertEqual([name[:8] for name in begun - set(os.listdir(self.folder))], ["bedkeep-"])
 
-    def test_the_prompt(self):
-        bed = self.file("wide.bed", tabs(BED12))
-        typed = f"remove chr2 5 50 geneC 0 .\nset end geneA 180\nsave {self.folder}/saved.bed\n"
-        run = started("curate", self.sizes, bed, input=typed.encode())
-        self.assertEqual((run.returncode, run.stderr), (0, b""))
-        self.assertIn("done\ndone, but thickEnd 190 is outside of the record, blocks end 100 after the start, the record 80\n",
-                      run.stdout.decode())
-        self.assertEqual((self.folder / "saved.bed").read_text(),
-                         tabs("\n".join(BED12.split("\n")[:3]).replace("100 200", "100 180", 1)))
-
-
 class Parts(Case):
     def test_cut(self):
-        six, nine = list("abcdef"), list("abcdefghi")
+        six, nine = "c 1 2 n 0 +".split(), "c 1 3 n 0 + g h i".split()
         tail = "\tg\th\ti"
         for command, fields, width, expected in (
-            ("add", nine, 9, (six, None, tail)), ("removeb", nine, 9, (six, tail, None)), ("add", six, 9, (six, None, None)),
-            ("replace", six + six, 9, (six + six, None, None)), ("replace", nine + nine, 9, (six + six, tail, tail)),
-            ("replaceb", six + nine, 9, (six + six, None, tail)), ("replace", nine, 9, (nine, None, None)), ("add", nine, 12, (nine, None, None)), ("add", nine, 6, (nine, None, None)),
+            ("add", nine, 9, (nine[:6], None, tail)), ("removeb", nine, 9, (nine[:6], tail, None)), ("add", six, 9, (six, None, None)),
+            ("replace", six + six, 9, (six + six, None, None)), ("replace", nine + nine, 9, (nine[:6] + nine[:6], tail, tail)),
+            ("replaceb", six + nine, 9, (six + nine[:6], None, tail)), ("replace", nine + six, 9, (nine[:6] + six, tail, None)),
+            ("replace", nine, 9, (nine, None, None)), ("add", nine, 12, (nine, None, None)), ("add", nine, 6, (nine, None, None)),
         ):
             self.assertEqual(tuple(cut(command, fields, width)), expected)
-
-    def test_default_tails(self):
-        record = ("chr1", "5", "9", "n", "0", "+")
-        for width, tail in (7, "."), (9, "5 9 0"), (10, "0 -1 -1 -1"), (12, "5 9 0 1 4 0"), (8, ". ."):
-            self.assertEqual(default_tail(record, width), "".join(f"\t{column}" for column in tail.split()))
-            self.assertEqual(faults(record, default_tail(record, width)), [])
-
-    def test_faults(self):
-        record = ("chr1", "5", "9", "n", "0", "+")
-        for tail, expected in (
-            ("4 9", ["thickStart 4 is outside of the record"]), ("5 10 .", ["thickEnd 10 is outside of the record"]),
-            ("0 0 1,2,3", ["thickStart 0 is outside of the record", "thickEnd 0 is outside of the record"]),
-            ("100 200 3.5", []), ("100 200 77", []), ("x 9 0", []), ("1 2 3 4", ["summit 4 is past the record's end"]), ("1 2 3 3", []),
-            ("5 9 0 2 1,1 0,3", []), ("5 9 0 2 1,1, 1,3,", ["blocks end 4 after the start, the record 4"]),
-            ("1", []), ("1 2 3 4 5", []),
-        ):
-            self.assertEqual(faults(record, "".join(f"\t{column}" for column in tail.split())), expected)
+        self.assertEqual(cut("replace", "1 100 200 x . + c 1 5 6 n . +".split(), 7).old_tail, "\tc")  # or chromosome c, from 1 to 5
 
     def test_a_step_is_taken_back(self):
         tails = Tails(7, ["c\t1\t2\tn\t0\t+\ta", "c\t1\t2\tn\t0\t+\tb"])
@@ -298,7 +389,8 @@ class Parts(Case):
         for step in (record, other, "\tb", None), (record, None, None, None), (None, record, None, "\tz"):
             steps.append(tails.plan(*step))
             tails.do(steps[-1])
-        self.assertEqual(list(tails.joined([rows[0], "\t".join(other)])), [f"{rows[0]}\tz", "\t".join(other) + "\tb"])
+        self.assertEqual(list(map(Joiner(tails).join, [rows[0], "\t".join(other)])), [f"{rows[0]}\tz", "\t".join(other) + "\tb"])
+        self.assertIsNone(tails.plan(("c", "1", "4", "n", "0", "+"), None, None, None))
         for step in reversed(steps):
             tails.undo(step)
-        self.assertEqual(list(tails.joined(rows)), [f"{rows[0]}\ta", f"{rows[0]}\tb"])
+        self.assertEqual(list(map(Joiner(tails).join, rows)), [f"{rows[0]}\ta", f"{rows[0]}\tb"])
