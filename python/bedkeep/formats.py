@@ -191,6 +191,70 @@ def tail_of(named: Mapping[str, str]) -> str:
     return _tail(columns)
 
 
+def with_field(record: Record, tail: str, name: str, value: str) -> tuple[Record, str]:
+    """A record with another value of a column after the sixth, by its name in `fields`. ValueError if it can't have that.
+
+    thickStart, thickEnd, summit: a base, from 0, of the sequence; summit also -1 for none. blocks: START-END,START-END .. on
+    the sequence, from 0 and without the ends; the record begins and ends with them.
+    """
+    kind, columns = format_of(record, tail), _columns(tail)
+    names = [column for column in fields(record, tail) if column not in RECORD]
+    if name not in names:
+        raise ValueError(f"no column {name} here: the columns after strand are {', '.join(names)}" if names else f"no column {name} here")
+    new, place = record, names.index(name)
+    if name == "blocks":
+        blocks = _read_blocks(value)
+        new = (record[0], str(blocks[0][0]), str(blocks[-1][1]), *record[3:])
+        columns[:2] = [_moved_end(text, record, new) for text in columns[:2]]
+        columns[BLOCKS] = _columns_of_blocks(blocks, blocks[0][0], columns[BLOCKS])
+    elif name == "summit":
+        columns[place] = _offset(record, value)
+    else:
+        _refuse_value(name, value)
+        columns[place + (2 if "blocks" in names[:place] else 0)] = value
+    if kind != TEXT and not _has_form(kind, columns):
+        raise ValueError(f"{name} can't be {value} in {kind}")
+    spoiled = worse(record, tail, new, _tail(columns))
+    if spoiled:
+        raise ValueError(", ".join(spoiled))
+    return new, _tail(columns)
+
+
+def _read_blocks(text: str) -> Blocks:
+    """The blocks of a text: START-END,START-END .."""
+    pairs = [re.fullmatch("([0-9]{1,10})-([0-9]{1,10})", pair) for pair in text.removesuffix(",").split(",")]
+    blocks = [(int(pair[1]), int(pair[2])) for pair in pairs if pair]
+    if len(blocks) < len(pairs):
+        raise ValueError(f"blocks are START-END,START-END such as 100-200,300-400, and not {text}")
+    spoiled = _faults_between(blocks, blocks[0][0], blocks[-1][1])
+    if spoiled:
+        raise ValueError(spoiled[0].text)
+    return blocks
+
+
+def _offset(record: Record, base: str) -> str:
+    """The distance of a summit from the start: of a base of the record, or -1."""
+    if base in ("-1", "."):
+        return "-1"
+    if not DIGITS.fullmatch(base):
+        raise ValueError(f"a summit is a base, from 0, or -1 for none, and not {base}")
+    if not int(record[1]) <= int(base) < int(record[2]):
+        raise ValueError(f"the summit at base {base} is outside of the record")
+    return str(int(base) - int(record[1]))
+
+
+def _refuse_value(name: str, value: str) -> None:
+    """Raises a ValueError if a column can't have this value in any format."""
+    if name in THICK[:2] and not DIGITS.fullmatch(value):
+        raise ValueError(f"{name} is a base, from 0, and not {value}")
+    if name == "itemRgb" and not _is_colour(value):
+        raise ValueError(f"itemRgb is three numbers up to 255, such as 255,0,0, or 0, and not {value}")
+    if name in SCORES and not NUMBER.fullmatch(value):
+        raise ValueError(f"{name} is a number, and not {value}")
+    if not value or re.search("[\t\r\n\0]", value):
+        raise ValueError(f"{name} has to be a text without TABs and ends of lines")
+
+
 def _columns(tail: str) -> list[str]:
     return tail.split("\t")[1:]
 

@@ -3,7 +3,8 @@ import itertools
 import unittest
 
 from bed_checks import peak_problems, problems
-from bedkeep.formats import (default_tail, faults, fields, follow, format_of, record_of_fields, shifted, tail_of, worse)
+from bedkeep.formats import (default_tail, faults, fields, follow, format_of, record_of_fields, shifted, tail_of, with_field,
+                             worse)
 
 LENGTH = 7
 
@@ -263,3 +264,40 @@ class Fields(unittest.TestCase):
         self.assertEqual(tail_of({**peak, "start": "120"}), tail("1 2 3 30"))
         with self.assertRaisesRegex(ValueError, "^the summit at base 150 is outside of the record$"):
             tail_of({**peak, "start": "151"})
+
+
+class Settings(unittest.TestCase):
+    def test_a_column_by_its_name(self):
+        gene, text = record(100, 200), tail("110 200 0 2 10,20, 0,80, note")
+        for name, value, place, expected in (
+            ("thickStart", "150", (100, 200), "150 200 0 2 10,20, 0,80, note"), ("thickEnd", "180", (100, 200), "110 180 0 2 10,20, 0,80, note"),
+            ("itemRgb", "1,2,3", (100, 200), "110 200 1,2,3 2 10,20, 0,80, note"), ("column_13", "other", (100, 200), "110 200 0 2 10,20, 0,80, other"),
+            ("blocks", "90-115,150-160,190-210", (90, 210), "110 210 0 3 25,10,20, 0,60,100, note"),
+            ("blocks", "105-210", (105, 210), "110 210 0 1 105, 0, note"),
+        ):
+            self.assertEqual(with_field(gene, text, name, value), (record(*place), tail(expected)), name)
+        peak, text = record(100, 200), tail("1.5 2 3 50")
+        for name, value, expected in (("summit", "100", "1.5 2 3 0"), ("summit", "199", "1.5 2 3 99"), ("summit", "-1", "1.5 2 3 -1"),
+                                      ("summit", ".", "1.5 2 3 -1"), ("signalValue", "2e3", "2e3 2 3 50"), ("qValue", "-1", "1.5 2 -1 50")):
+            self.assertEqual(with_field(peak, text, name, value), (peak, tail(expected)))
+        self.assertEqual(with_field(peak, tail("x y"), "column_8", "z"), (peak, tail("x z")))
+        self.assertEqual(with_field(peak, tail("100 120"), "thickEnd", "0130"), (peak, tail("100 0130")))
+
+    def test_what_a_column_cant_have(self):
+        gene, text, peak = record(100, 200), tail("110 200 0 2 10,20, 0,80,"), tail("1.5 2 3 50")
+        for one, name, value, why in (
+            (text, "summit", "150", "no column summit here: the columns after strand are thickStart, thickEnd, itemRgb, blocks"),
+            (text, "thickStart", "99", "thickStart 99 is outside of the record"), (text, "thickStart", "x", "thickStart is a base, from 0, and not x"),
+            (text, "thickEnd", "105", "thickStart 110 is after thickEnd 105"), (text, "start", "1", "no column start here: .*"),
+            (text, "itemRgb", "red", "itemRgb is three numbers up to 255, such as 255,0,0, or 0, and not red"),
+            (text, "blocks", "100-120,115-200", "block 1 ends after block 2 begins"), (text, "blocks", "100-100", "block 1 has no base"),
+            (text, "blocks", "120-200", "thickStart 110 is outside of the record"),
+            (text, "blocks", "100:200", "blocks are START-END,START-END such as 100-200,300-400, and not 100:200"),
+            (peak, "summit", "200", "the summit at base 200 is outside of the record"), (peak, "pValue", "x", "pValue is a number, and not x"),
+            (peak, "summit", "x", "a summit is a base, from 0, or -1 for none, and not x"),
+            (tail("a"), "column_7", "", "column_7 has to be a text without TABs and ends of lines"), ("", "thickStart", "1", "no column thickStart here"),
+        ):
+            with self.assertRaisesRegex(ValueError, f"^{why}$"):
+                with_field(gene, one, name, value)
+        with self.assertRaisesRegex(ValueError, "^itemRgb can't be 9 in BED9$"):  # a number alone would make broadPeak of it
+            with_field(gene, tail("100 200 0"), "itemRgb", "9")
