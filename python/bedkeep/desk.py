@@ -22,6 +22,7 @@ from typing import Iterator, Optional, Sequence
 from .corrections import Line
 from .errors import Error
 from .inputs import Inputs
+from .interrupts import ending_in_order
 
 COMMANDS = ("apply", "diff", "replay", "review", "curate", "windows")
 
@@ -40,7 +41,7 @@ def main(words: Optional[Sequence[str]] = None) -> int:
         print(f"no such command: {given[0]}" if given else "no command", __doc__, sep="\n\n", end="", file=sys.stderr)
         return 2
     command = importlib.import_module(f".{given[0]}", __package__)
-    with failures():
+    with ending_in_order(), failures():
         status: int = command.main(given[1:])
         return status
 

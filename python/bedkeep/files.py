@@ -6,11 +6,12 @@ from __future__ import annotations
 
 import errno
 import gzip
+import itertools
 import os
 import shutil
 import sys
 import zlib
-from contextlib import contextmanager
+from contextlib import contextmanager, suppress
 from typing import BinaryIO, Iterator, Optional, cast
 
 from .errors import Error
@@ -19,6 +20,7 @@ from .records import NARROWEST, WIDEST
 
 GZIP = b"\x1f\x8b"
 BEGINS = b"#tb"  # with what the header lines of a BED file begin
+NUMBERS = itertools.count()  # of the files that this process writes
 
 
 @contextmanager
@@ -142,15 +144,30 @@ def lengths_of(genome: str) -> dict[str, int]:
 
 
 @contextmanager
-def whole(path: Path) -> Iterator[BinaryIO]:
-    """A file to write, which gets its name once all is written: it is there whole, or not at all.
+def whole(path: Path, new: bool = False) -> Iterator[BinaryIO]:
+    """A file to write, which gets its name once all is written: it is there whole, or not at all. Failures have its name.
 
-    `-` is standard output. That and a device or a pipe are written as they are.
+    `-` is standard output. That and a device or a pipe are written as they are. new: raises an Error if there is a file already.
     """
-    if os.fspath(path) == "-":
+    try:
+        with _written(os.fspath(path), new) as file:
+            yield file
+    except BrokenPipeError:
+        raise
+    except OSError as failure:
+        if failure.filename is None:  # Writes have no name in their failures.
+            failure.filename = "standard output" if os.fspath(path) == "-" else os.fspath(path)
+        raise
+
+
+@contextmanager
+def _written(path: str, new: bool) -> Iterator[BinaryIO]:
+    if path == "-":
         yield sys.stdout.buffer
         sys.stdout.flush()
         return
+    if new and os.path.lexists(path):
+        raise Error(f"{path} is there already")
     if os.path.exists(path) and not os.path.isfile(path):
         with open(path, "wb") as device:
             yield device
@@ -160,18 +177,22 @@ def whole(path: Path) -> Iterator[BinaryIO]:
     astray = os.path.exists(target) and not os.path.exists(path)  # absent/../file, which realpath alone finds
     if astray or not os.path.isdir(folder):
         raise FileNotFoundError(errno.ENOENT, "no such folder", os.path.dirname(path) if astray else folder)
-    beside = os.path.join(folder, f".bedkeep-{os.getpid()}")
-    with open(beside, "xb") as file:
-        try:
+    beside = os.path.join(folder, f".bedkeep-{os.getpid()}-{next(NUMBERS)}")
+    try:
+        with open(beside, "xb") as file:
             yield file
             file.flush()
             os.fsync(file.fileno())
-            if os.path.exists(target):
-                shutil.copymode(target, beside)
-            os.replace(beside, target)
-        except BaseException:
-            os.unlink(beside)
-            raise
+        if os.path.exists(target):
+            shutil.copymode(target, beside)
+        os.replace(beside, target)
+    except BaseException as failure:
+        if not isinstance(failure, FileExistsError):
+            with suppress(FileNotFoundError):
+                os.unlink(beside)
+        if isinstance(failure, OSError) and failure.filename == beside:
+            failure.filename, failure.filename2 = path, None
+        raise
 
 
 def same_file(one: Path, other: Path) -> bool:

@@ -97,7 +97,7 @@ class Session:
             self._lookup = Lookup(genome, self._files["-i"])
             self._talk = Conversation(words, sources.descriptors)
             try:
-                self.width = self._find_width("remove")
+                self.width = self._find_width("remove", loads=True)
             except Ended as failure:
                 self.end()
                 raise sources.renamed(self._wide.named(failure) if self._wide else failure) from None
@@ -565,9 +565,13 @@ class Session:
             raise refused
 
     @alone
-    def _send(self, text: str, take: Take = len, done: Callable[[str], object] = len, whole: bool = False) -> list[Refused]:
-        """Sends lines; `take` gets what they print, and `done` those that were accepted. whole: also after an interrupt all of them."""
-        with Interrupts(self._talk.kill) as interrupts:
+    def _send(self, text: str, take: Take = len, done: Callable[[str], object] = len, whole: bool = False,
+              loads: bool = False) -> list[Refused]:
+        """Sends lines; `take` gets what they print, and `done` those that were accepted.
+
+        whole: an interrupt leaves none out; loads: an interrupt ends the program at once
+        """
+        with Interrupts(self._talk.kill, at_once=loads) as interrupts:
             def ask(lines: str, whole: bool) -> Answer:
                 return self._talk.ask(lines, take, interrupts, whole)
 
@@ -579,10 +583,10 @@ class Session:
                 done(text)
         return [Refused(reason, number, lines[number - 1], tuple(hints.get(number, ()))) for number, reason in refused.items()]
 
-    def _find_width(self, command: str) -> int:
+    def _find_width(self, command: str, loads: bool = False) -> int:
         """Asks for the number of columns of a record, by records of empty columns: only one of them has the right number."""
         widths = range(3, 7)
-        refused = self._send("".join(command + "\t" * width + "\n" for width in widths))
+        refused = self._send("".join(command + "\t" * width + "\n" for width in widths), loads=loads)
         return next(width for width, why in zip(widths, refused) if why.reason != "wrong number of columns")
 
     def _view(self, words: str) -> str:

@@ -1,18 +1,23 @@
+import gzip
 import os
 import pickle
 import random
 import signal
+import subprocess
 import sys
 import threading
 import time
 from collections import Counter
+from pathlib import Path
 from unittest import mock
 
 import bedkeep
 from bedkeep.conversation import Exchange
+from bedkeep.files import whole
+from bedkeep.interrupts import ending_in_order
 from bedkeep.rows import Reader
 from bedkeep.script import Script
-from helpers import EXAMPLES, Case, many
+from helpers import EXAMPLES, Case, children, many
 
 
 class Edits(Case):
@@ -620,6 +625,30 @@ class Interrupted(Case):
         self.assertLess(time.monotonic() - begun, 10)
         alarm.join()
 
+    def test_while_it_loads(self):
+        """The first interrupt ends the program, which has answered nothing yet."""
+        alarm = threading.Timer(0.3, self.interrupt)
+        alarm.start()
+        begun = time.monotonic()
+        with self.assertRaises(KeyboardInterrupt):
+            self.session(program=self.script("slow", "exec sleep 60"))
+        self.assertLess(time.monotonic() - begun, 30)
+        alarm.join()
+        self.assertEqual(children(), [])
+
+    def test_a_group_is_done_whole(self):
+        lines = [f"add\tchr1\t{number % 900}\t1000\tx{number}" for number in range(5_000)]
+        with self.session() as session:
+            with self.after_one(Exchange, "write", 1), self.assertRaises(KeyboardInterrupt):
+                session.edit_together(lines, "all")
+            self.assertEqual(len(session.script().splitlines()), 5_001)
+            with self.after_one(Exchange, "write", 1), self.assertRaises(KeyboardInterrupt):
+                session.undo()
+            self.assertEqual((session.script(), len(session)), ("", 2))
+            with self.after_one(Exchange, "write", 1), self.assertRaises(KeyboardInterrupt):
+                session.edit_together([*lines, "remove\tchr1\t1\t2\tx"])
+            self.assertEqual((session.script(), len(session)), ("", 2))
+
     def test_from_another_thread(self):
         with self.session() as session:
             found = []
@@ -627,6 +656,77 @@ class Interrupted(Case):
             thread.start()
             thread.join()
             self.assertEqual(found, [2])
+
+
+class Stopped(Case):
+    """Other signals end a command as an exit does."""
+
+    def run_until(self, is_begun, number, *words, **environment):
+        """The status of Python with these words, which gets a signal once it has begun."""
+        package = Path(bedkeep.__file__).parent.parent
+        process = subprocess.Popen([sys.executable, *map(str, words)], env={**os.environ, "PYTHONPATH": str(package), **environment})
+        while not is_begun():
+            self.assertIsNone(process.poll())
+            time.sleep(0.01)
+        process.send_signal(number)
+        return process.wait()
+
+    def test_no_partial_file_is_left(self):
+        code = ("import sys, time\nfrom bedkeep.files import whole\nfrom bedkeep.interrupts import ending_in_order\n"
+                "with ending_in_order(), whole(sys.argv[1]) as file:\n    file.write(b'x' * 100_000)\n    time.sleep(60)\n")
+        out = self.folder / "out"
+        out.mkdir()
+
+        def is_begun():
+            return any(path.stat().st_size for path in out.iterdir())
+
+        for number in signal.SIGTERM, signal.SIGHUP:
+            self.assertEqual(self.run_until(is_begun, number, "-c", code, out / "corrected.bed"), 128 + number)
+            self.assertEqual(os.listdir(out), [])
+
+    def test_no_folder_is_left(self):
+        temporary, packed = self.folder / "temporary", self.file("genes.bed.gz", gzip.compress(self.genes.read_bytes()))
+        temporary.mkdir()
+        words = ["-m", "bedkeep", "apply", self.sizes, packed, self.file("none", ""), "-o", self.folder / "corrected.bed"]
+        begun = self.folder / "begun"
+        slow = self.script("slow", f"touch {begun}\nexec sleep 60")
+        status = self.run_until(begun.exists, signal.SIGTERM, *words, TMPDIR=str(temporary), BEDKEEP=str(slow))
+        self.assertEqual((status, os.listdir(temporary)), (128 + signal.SIGTERM, []))
+
+    def test_the_handlers_are_put_back(self):
+        handler = signal.signal(signal.SIGHUP, signal.SIG_IGN)
+        self.addCleanup(signal.signal, signal.SIGHUP, handler)
+        with ending_in_order():
+            self.assertEqual(signal.getsignal(signal.SIGHUP), signal.SIG_IGN)
+            self.assertNotEqual(signal.getsignal(signal.SIGTERM), signal.SIG_DFL)
+        self.assertEqual(signal.getsignal(signal.SIGTERM), signal.SIG_DFL)
+
+
+class Written(Case):
+    """A file is there whole, or not at all, and what is raised has its name."""
+
+    def test_failures_have_the_name_that_was_given(self):
+        none, kept = self.file("none", ""), self.file("kept", "old")
+        folder = self.folder / "folder"
+        folder.mkdir()
+        for path, message in ("/dev/full", "No space left on device"), (none / "x", "no such folder"), ("/proc/self/x", "No such file"):
+            with self.subTest(path), self.assertRaisesRegex(OSError, message) as caught, whole(path) as file:
+                file.write(b"x")
+            self.assertIn(caught.exception.filename, (str(path), str(none)))
+        with self.assertRaises(OSError) as caught, whole(folder / "x") as file:
+            raise OSError(28, "No space left on device")
+        self.assertEqual((caught.exception.filename, os.listdir(folder)), (str(folder / "x"), []))
+        with self.assertRaises(OSError) as caught, whole(folder / "x") as file:
+            open(self.folder / "absent")
+        self.assertEqual(caught.exception.filename, str(self.folder / "absent"))
+        with self.assertRaisesRegex(bedkeep.Error, "kept is there already"), whole(kept, new=True):
+            pass
+        with self.assertRaises(OSError), whole(folder / "new", new=True):
+            raise OSError(28, "No space left on device")
+        self.assertEqual((kept.read_text(), os.listdir(folder)), ("old", []))
+        with whole(folder / "new", new=True) as file:
+            file.write(b"x")
+        self.assertEqual(os.listdir(folder), ["new"])
 
 
 class Large(Case):
