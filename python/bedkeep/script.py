@@ -7,15 +7,16 @@ import operator
 import os
 import re
 from collections.abc import Mapping
+from itertools import islice
 from typing import Collection, Iterable, Iterator, Optional, Sequence, SupportsIndex, Union
 
 from .changes import Changes
+from .corrections import TOGETHER, is_marker
 from .interrupts import Interrupts
 from .records import record_of
 
 INVERSE = {"add": "remove", "remove": "add", "replace": "replace",
            "addb": "removeb", "removeb": "addb", "replaceb": "replaceb"}
-TOGETHER = "# together:"  # how the comment begins below which the lines of a paragraph are done whole or not at all
 Move = tuple[Optional[str], Optional[str]]  # the record that a line took out, and the one that it put in
 VIEW_COMMAND = re.compile(r"\n(?:open\t|close\t|print\t|printall\n|show\t|showall\t)")
 
@@ -72,17 +73,27 @@ def is_edit(line: str) -> bool:
     return bool(line) and not line.startswith("#")
 
 
+def is_reason(line: str) -> bool:
+    """Whether a line of a script is a comment on those below it."""
+    return line.startswith("#") and not is_marker(line)
+
+
+def is_together(line: str) -> bool:
+    """Whether it is the comment below which the lines of a paragraph are done whole or not at all."""
+    return line.startswith("#") and line[1:].strip().startswith(TOGETHER)
+
+
 def paragraphs(lines: Sequence[str]) -> Iterator[range]:
     """The places of the lines of each paragraph: comments, the edits below them, and the empty line after these."""
-    begin, after_edit = 0, False
+    begin, edits = 0, False
     for place, line in enumerate(lines):
-        if line.startswith("#") and after_edit:
+        if is_reason(line) and edits:
             yield range(begin, place)
-            begin = place
+            begin, edits = place, False
+        edits = edits or is_edit(line)
         if not line:
             yield range(begin, place + 1)
-            begin = place + 1
-        after_edit = is_edit(line)
+            begin, edits = place + 1, False
     yield range(begin, len(lines))
 
 
@@ -103,7 +114,7 @@ def pieces_of(text: str) -> Iterator[tuple[str, bool]]:
     begin = 0
     for places in paragraphs(lines):
         listed = lines[places.start:places.stop]
-        if any(line.startswith(TOGETHER) for line in listed) and any(map(is_edit, listed)):
+        if any(map(is_together, listed)) and any(map(is_edit, listed)):
             if begin < places.start:
                 yield "\n".join([*lines[begin:places.start], ""]), False
             yield "\n".join([*listed, ""]), True
@@ -198,16 +209,21 @@ class Script:
             self._extend(below[1:] if below[:1] == [""] and self._lines[-1:] in ([], [""]) else below)
             self._counted = len(self._lines)
 
-    def last(self) -> range:
+    def last(self) -> list[int]:
         """The places of the last edit, or of all lines of its group. Comments and empty lines are none."""
         lines = self.lines()
-        last = next((place for place in range(len(lines) - 1, -1, -1) if is_edit(lines[place])), None)
-        if last is None:
-            raise IndexError("nothing to undo")
-        first = last
-        while self._kinds[last] is Kind.TOGETHER and is_edit(lines[first - 1]):
+        [first] = last = self.last_edits(1)
+        while self._kinds[last[-1]] is Kind.TOGETHER and (is_edit(lines[first - 1]) or is_marker(lines[first - 1])):
             first -= 1
-        return range(first, last + 1)
+        return [place for place in range(first, last[-1] + 1) if is_edit(lines[place])]
+
+    def last_edits(self, count: int) -> list[int]:
+        """The places of so many last edits. IndexError if there are fewer."""
+        lines = self.lines()
+        found = list(islice((place for place in range(len(lines) - 1, -1, -1) if is_edit(lines[place])), count))
+        if len(found) < count:
+            raise IndexError("nothing to undo")
+        return found[::-1]
 
     def reverse(self, place: int) -> str:
         """The line that takes back the line at that place, once those after it are taken back."""
@@ -221,20 +237,21 @@ class Script:
 
     def _add(self, lines: list[str]) -> None:
         """Appends the lines of a call, after an empty one if the first would get the reason of the line before."""
-        if self._kinds and self._kinds[-1] in (Kind.EXPLAINED, Kind.TOGETHER) and is_edit(self._lines[-1]) and is_edit(lines[0]):
+        first, last = (next((line for line in listed if not is_marker(line)), "") for listed in (lines, reversed(self._lines)))
+        if is_edit(first) and is_edit(last) and self._kinds[-1] in (Kind.EXPLAINED, Kind.TOGETHER):
             self._lines.append("")
             self._kinds.append(Kind.SEPARATOR)
         self._extend(lines)
 
     def _extend(self, lines: list[str]) -> None:
         kind = self._kinds[-1] if self._kinds else Kind.PLAIN
-        in_comments = bool(self._lines) and self._lines[-1].startswith("#")
+        begun = bool(self._lines) and is_reason(self._lines[-1])
         for line in lines:
             if not line or kind is Kind.SEPARATOR:
                 kind = Kind.PLAIN
-            if line.startswith("#"):
-                kind = Kind.TOGETHER if line.startswith(TOGETHER) or in_comments and kind is Kind.TOGETHER else Kind.EXPLAINED
-            in_comments = line.startswith("#")
+            below, begun = begun, is_reason(line)
+            if begun:
+                kind = Kind.TOGETHER if is_together(line) or below and kind is Kind.TOGETHER else Kind.EXPLAINED
             self._kinds.append(kind)
         self._lines += lines
 

@@ -13,6 +13,7 @@ from types import MappingProxyType
 from typing import Any, Callable, Iterable, Iterator, Optional, Sequence, TypeVar, Union, cast
 
 from .conversation import Answer, Conversation, Take
+from .corrections import TOGETHER
 from .errors import Ended, Refused
 from .files import BEGINS, is_header, lines_of, same_file, whole
 from .interrupts import Interrupts
@@ -22,7 +23,7 @@ from .program import Path, decoded, encoded, find
 from .records import WIDEST, Record, record_of
 from .regions import Order, Region, Regions, absent
 from .rows import RECORD, Lines, Reader, Row, count_of, fields_of, row_of, shows_second, width_of
-from .script import TOGETHER, Script, accepted, edits_of, is_edit, line_of, pieces_of, text_of
+from .script import Script, accepted, edits_of, is_edit, line_of, pieces_of, text_of
 from .sources import Genome, Sources, Track, path_of
 from .tables import SCORE, frame_of_text, is_table, score_of
 from .wide_session import Wide, WideScript
@@ -210,10 +211,10 @@ class Session:
         text = edits_of(lines)
         if not all(map(is_edit, text.split("\n")[:-1])):
             raise ValueError("an empty line or a comment among lines that are done together")
-        comments = "\n# ".join([TOGETHER, *reason.splitlines()]).replace(f"{TOGETHER}\n#", TOGETHER)
-        self._refused = self._carry_out(f"{comments}\n{text}")
+        comments = f"{TOGETHER} {reason}".splitlines()
+        self._refused = self._carry_out("".join(f"# {line}".rstrip() + "\n" for line in comments) + text)
         for refused in self._refused:
-            refused.number -= comments.count("\n") + 1
+            refused.number -= len(comments)
         for refused in self._refused:
             if not refused.reason.startswith(UNDONE):
                 raise refused
@@ -225,7 +226,7 @@ class Session:
         The comments directly above go with it. IndexError if there is no edit.
         """
         places = self._script.last()
-        undone = "\n".join(self._script.lines()[places.start:places.stop])
+        undone = "\n".join(self._script.lines()[place] for place in places)
         self._take_back(places)
         return undone
 
@@ -542,12 +543,11 @@ class Session:
             edits = [(number, line) for number, line in enumerate(text.split("\n"), 1) if is_edit(line)]
             done = len(edits) - len(refused)
             if done:
-                end = self._script.last().stop
-                self._take_back(range(end - done, end))
+                self._take_back(self._script.last_edits(done))
             because = f"{UNDONE} {before + refused[0].number} is refused"
             return [numbers.get(number) or Refused(because, number, line) for number, line in edits]
 
-    def _take_back(self, places: range) -> None:
+    def _take_back(self, places: Sequence[int]) -> None:
         """Takes back the last edits, the last one first."""
         def forget(_: str) -> None:
             for place in reversed(places):

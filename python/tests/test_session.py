@@ -245,6 +245,27 @@ class Together(Case):
             self.assertEqual(session.script(), text[7] + "\n")
             self.assertEqual(len(session), 3)
 
+    def test_markers_are_no_reasons(self):
+        """They begin no paragraph and end none."""
+        add, was = [f"add\tchr2\t1\t2\t{name}" for name in "abcdef"], "# was: add\tchr2\t1\t3\ta"
+        text = ["#together: both", was, add[0], was, add[1], "", "# why", add[2], was, add[3], "", was, add[4]]
+        with self.session() as session:
+            session.edit(text)
+            self.assertEqual(session.script(), "\n".join([*text, ""]))
+            session.edit(["# dropped: more", add[5]])
+            self.assertEqual(session.script(), "\n".join([*text, "# dropped: more", add[5], ""]))
+            for name in "fedc":
+                self.assertEqual(session.undo(), f"add\tchr2\t1\t2\t{name}")
+            session.edit([was, add[5]])
+            self.assertEqual(session.script(), "\n".join([*text[:6], was, add[5], ""]))
+            session.undo()
+            self.assertEqual(session.undo(), "\n".join(add[:2]))
+            self.assertEqual(session.script(), "")
+            session.edit(["# why", add[2]])
+            session.edit([was, add[3]])
+            self.assertEqual(session.script(), "\n".join(["# why", add[2], "", was, add[3], ""]))
+            self.assertEqual([one.number for one in session.edit([*text[:4], "remove\tchr1\t1\t2\tx"])], [3, 5])
+
     def test_lengths_in_a_group(self):
         with self.session() as session:
             session.edit_together(["resize\tchr2\t600", "resize\tchr2\t700", "add\tchr2\t650\t700\tx"])
