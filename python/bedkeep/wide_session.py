@@ -52,7 +52,7 @@ class Wide:
 
     def __init__(self, bed: Path, second: Optional[Path], width: Optional[int] = None, leave: bool = False) -> None:
         folder = tempfile.mkdtemp(prefix="bedkeep-")
-        self.close = weakref.finalize(self, shutil.rmtree, folder, True)
+        self.close = weakref.finalize(self, _remove, folder, os.getpid())
         paths = {"-i": bed} if second is None else {"-i": bed, "-b": second}
         self._beds = {option: Bed(path, folder) for option, path in paths.items()}
         for file in self._beds.values():
@@ -225,6 +225,12 @@ class Wide:
         command, *fields = line.split("\t")
         if command == "resize" and self._lengths is not None:
             self._lengths = {**self._lengths, fields[0]: int(fields[1])}
+
+
+def _remove(folder: str, owner: int) -> None:
+    """Removes a folder, but not from a process that was forked."""
+    if os.getpid() == owner:
+        shutil.rmtree(folder, ignore_errors=True)
 
 
 def _count(fields: int, command: str, width: int) -> str:

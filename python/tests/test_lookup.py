@@ -1,8 +1,11 @@
 """What is asked of a session without a print of all its records."""
 import gc
+import gzip
 import os
 import pathlib
 import random
+import subprocess
+import sys
 import threading
 import warnings
 from collections import Counter
@@ -230,6 +233,16 @@ class Shared(Case):
                 os._exit(status)
         self.assertEqual(os.waitpid(child, 0)[1], 0)
         self.assertEqual(len(session.records()), 2)
+
+    def test_a_forked_process_leaves_the_files(self):
+        """They are those of the process that began the session, also if the other one ends as Python does."""
+        code = ("import os, sys, bedkeep\nsession = bedkeep.Session(sys.argv[1], sys.argv[2], wide=True)\n"
+                "if os.fork() == 0:\n    sys.exit()\nos.wait()\nsession.save('-')\n")
+        packed = self.file("genes.bed.gz", gzip.compress(self.genes.read_bytes()))
+        package = pathlib.Path(bedkeep.__file__).parent.parent
+        run = subprocess.run([sys.executable, "-W", "ignore", "-c", code, self.sizes, packed], stdout=subprocess.PIPE, check=True,
+                             env={**os.environ, "PYTHONPATH": str(package)})
+        self.assertIn(b"geneB", run.stdout)
 
     def test_threads_share_a_session(self):
         def work(number):
