@@ -1,54 +1,137 @@
-"""The card of each line: its verdict and reason, the line itself, what is to be said of it, and its pictures."""
+"""The cards of the page: of a line, or of several, their verdict and reason, the lines, what is to be said of them, and pictures."""
 from __future__ import annotations
 
-from itertools import zip_longest
-from typing import Sequence
+from itertools import groupby, zip_longest
+from typing import Iterable, NamedTuple, Sequence
 
 from ..corrections import Line
+from .alike import Unit
 from .intervals import sequence_of
-from .markup import escaped, with_tabs
+from .markup import escaped, number, with_tabs
 from .reviewer import Reviewed
 
-
-def state_of(reviewed: Reviewed) -> str:
-    return "refused" if reviewed.line.refusal else "done"
+THERE = "already there"
 
 
-def groups_of(reviewed: Reviewed) -> list[str]:
-    """By what the filters find a line."""
+class Card(NamedTuple):
+    """What is shown together. reviewed: of each line of the unit"""
+
+    unit: Unit
+    reviewed: Sequence[Reviewed]
+
+    @property
+    def state(self) -> str:
+        """What became of its lines: `refused` if of one."""
+        states = [state_of(one.line) for one in self.reviewed]
+        return min(states, key=["refused", "there", "done"].index)
+
+    @property
+    def groups(self) -> list[str]:
+        """By what the filters find it."""
+        return list(dict.fromkeys(group for one in self.reviewed for group in _groups_of(one)))
+
+    @property
+    def sequences(self) -> list[str]:
+        return list(dict.fromkeys(sequence_of(one.line) for one in self.reviewed))
+
+    @property
+    def commands(self) -> list[str]:
+        return list(dict.fromkeys(one.line.command for one in self.reviewed))
+
+
+def state_of(line: Line) -> str:
+    return "refused" if line.refusal else "there" if line.there else "done"
+
+
+def _groups_of(reviewed: Reviewed) -> list[str]:
     line = reviewed.line
-    groups = [state_of(reviewed)]
+    groups = [THERE if state_of(line) == "there" else state_of(line)]
     if line.refusal:
         groups.append(reviewed.finding.kind)
+    if line.warning:
+        groups.append("warnings")
     if reviewed.is_copy:
         groups.append("copies")
+    if line.group:
+        groups.append("together")
     if not any(line.comments):
         groups.append("without a reason")
     return groups
 
 
-def card(reviewed: Reviewed, several: bool) -> str:
+def html_of(card: Card, several: bool) -> str:
     """several: whether the lines are of several scripts, so that each names its own."""
-    line, state = reviewed.line, state_of(reviewed)
-    place = f"{line.file}: " if several else ""
-    searched = " ".join([line.text.replace("\t", " "), *line.comments, line.refusal, f"{place}line {line.place}"]).lower()
-    reasons = "".join(f"<p class=reason>{escaped(comment)}</p>" for comment in line.comments if comment)
-    notes = "".join(f"<li>{note}</li>" for note in reviewed.notes)
-    return (f'<article id=L{line.number} class={state} data-groups="{escaped("|".join(groups_of(reviewed)))}" '
-            f'data-command="{escaped(line.command)}" data-sequence="{escaped(sequence_of(line))}" '
-            f'data-search="{escaped(searched)}">'
-            f'<header><a class=number href="#L{line.number}">{escaped(place)}line {line.place}</a>{_verdict(reviewed)}'
+    first = card.reviewed[0].line
+    reasons = "".join(f"<p class=reason>{escaped(comment)}</p>" for comment in first.comments if comment)
+    shown = card.reviewed[:len(card.unit.shown)]
+    title = f"<h3>{escaped(card.unit.title)}</h3>" if card.unit.title else ""
+    parts = [_line(one, several) for one in shown] if len(card.reviewed) > 1 else [_body(one) for one in shown]
+    listed = _all(card, several) if card.unit.is_long else ""
+    return (f'<article id=L{first.number} class={card.state} data-groups="{escaped("|".join(card.groups))}" '
+            f'data-command="{escaped("|".join(card.commands))}" data-sequence="{escaped(chr(9).join(card.sequences))}" '
+            f'data-lines="{_ranges(one.line.number for one in card.reviewed)}" data-search="{escaped(_searched(shown, several))}">'
+            f'<header><a class=number href="#L{first.number}">{escaped(_places(card, several))}</a>{_verdict(card)}'
             '<label><input type=checkbox class=seen> seen</label></header>'
-            f'{reasons or "<p class=none>no reason given</p>"}<pre>{_written(line)}</pre>'
-            f'{f"<ul>{notes}</ul>" if notes else ""}{reviewed.figures}</article>\n')
+            f'{reasons or "<p class=none>no reason given</p>"}{title}{"".join(parts)}{listed}</article>\n')
 
 
-def _verdict(reviewed: Reviewed) -> str:
-    line, state = reviewed.line, state_of(reviewed)
-    kind = f"<span class=kind>{escaped(reviewed.finding.kind)}</span>" if line.refusal else ""
-    why = f"<b class=why>{escaped(line.refusal)}</b>" if line.refusal else ""
-    second = "<span class=kind>second file</span>" if line.is_second else ""
-    return f"<span class=state>{state}</span>{kind}{second}{why}"
+def _searched(shown: Iterable[Reviewed], several: bool) -> str:
+    """What the search looks at, beside the list of all lines."""
+    texts = [text for one in shown for text in (one.line.text.replace("\t", " "), *one.line.comments, one.line.refusal,
+                                                one.line.warning, _place(one.line, several))]
+    return " ".join(dict.fromkeys(texts)).lower()
+
+
+def _place(line: Line, several: bool) -> str:
+    return f"{line.file}: line {line.place}" if several else f"line {line.place}"
+
+
+def _places(card: Card, several: bool) -> str:
+    """Which lines are on a card."""
+    lines = [one.line for one in card.reviewed]
+    if len(lines) == 1:
+        return _place(lines[0], several)
+    return f"{_place(lines[0], several)} to {number(lines[-1].place)}"
+
+
+def _ranges(numbers: Iterable[int]) -> str:
+    """Numbers, those that follow each other as 4-9."""
+    ranges = []
+    for _, run in groupby(enumerate(numbers), key=lambda pair: pair[1] - pair[0]):
+        listed = [value for _, value in run]
+        ranges.append(f"{listed[0]}-{listed[-1]}")
+    return ",".join(ranges)
+
+
+def _verdict(card: Card) -> str:
+    """The verdict on all lines of a card, and chips for what else is to be known."""
+    lines = [one.line for one in card.reviewed]
+    kinds = dict.fromkeys(one.finding.kind for one in card.reviewed if one.line.refusal)
+    chips = [f"<span class=state>{THERE if card.state == 'there' else card.state}</span>"]
+    chips += ["<span class=kind>together</span>"] if card.unit.together else []
+    chips += [f"<span class=kind>{escaped(kind)}</span>" for kind in kinds]
+    chips += ['<span class="kind warned">warning</span>'] if any(line.warning for line in lines) else []
+    chips += ["<span class=kind>second file</span>"] if any(line.is_second for line in lines) else []
+    refusals = dict.fromkeys(line.refusal for line in lines if line.refusal)
+    return "".join(chips) + (f"<b class=why>{escaped('; '.join(list(refusals)[:2]))}</b>" if refusals else "")
+
+
+def _line(reviewed: Reviewed, several: bool) -> str:
+    """A line among several."""
+    return f"<section><p class=line>{escaped(_place(reviewed.line, several))}</p>{_body(reviewed)}</section>"
+
+
+def _body(reviewed: Reviewed) -> str:
+    """A line with what is to be said of it and its pictures."""
+    warning = f"<p class=warning>{escaped(reviewed.line.warning)}</p>" if reviewed.line.warning else ""
+    notes = "".join(f"<li>{note}</li>" for note in reviewed.notes)
+    return f"<pre>{_written(reviewed.line)}</pre>{warning}{f'<ul>{notes}</ul>' if notes else ''}{reviewed.figures}"
+
+
+def _all(card: Card, several: bool) -> str:
+    """The list of all lines of a card that shows only the first ones. The search looks at it."""
+    rows = "\n".join(escaped(f"{_place(one.line, several)}  {one.line.text}".replace("\t", " ")) for one in card.reviewed)
+    return f"<details><summary>all {number(len(card.reviewed))} lines</summary><pre class=all>{rows}</pre></details>"
 
 
 def _written(line: Line) -> str:
@@ -61,10 +144,10 @@ def _written(line: Line) -> str:
     old, new = line.fields[:half], line.fields[half:]
     widths = [max(len(a), len(b)) for a, b in zip_longest(old, new, fillvalue="")]
     by = "by".rjust(len(line.command))
-    return f"{line.command}  {_columns(old, new, widths)}\n{by}  {_columns(new, old, widths)}"
+    return f"{line.command}  {columns(old, new, widths)}\n{by}  {columns(new, old, widths)}"
 
 
-def _columns(mine: Sequence[str], other: Sequence[str], widths: Sequence[int]) -> str:
+def columns(mine: Sequence[str], other: Sequence[str], widths: Sequence[int]) -> str:
     """Columns below each other, those marked that differ."""
     marked = (escaped(a) if a == b else f"<mark>{escaped(a)}</mark>" for a, b in zip_longest(mine, other[:len(mine)]))
     return "  ".join(text + " " * (width - len(a)) for text, a, width in zip(marked, mine, widths)).rstrip()

@@ -1,13 +1,14 @@
 """Pictures of a stretch of a sequence: lanes of records and blocks, above an axis."""
 from __future__ import annotations
 
-from typing import Iterator, Mapping, NamedTuple, Optional, Sequence
+from typing import Callable, Iterator, Mapping, NamedTuple, Optional, Sequence
 
 from .intervals import Interval, Stretch
 from .markup import bases, escaped, number, shortened
+from .shapes import Shape
 
 WIDTH, LEFT, RIGHT = 900, 62, 8
-ROW, BOX = 17, 13
+ROW, BOX, THIN = 17, 13, 7
 MOST_ROWS, MOST_BOXES = 6, 10  # of a lane
 NARROW = 2  # between blocks that are drawn as one
 LETTER = 6.2  # the width of a character
@@ -26,17 +27,21 @@ class Box(NamedTuple):
     name: str
     mark: str
     tip: str
+    shape: Optional[Shape] = None
 
     @property
     def holds_name(self) -> bool:
-        return self.high - self.low >= LETTER * len(self.name) + 14
+        return not self.shape and self.high - self.low >= LETTER * len(self.name) + 14
 
 
 class Picture:
-    """An SVG, made lane by lane from its top. length: of the sequence, whose end is drawn if it is here."""
+    """An SVG, made lane by lane from its top.
 
-    def __init__(self, stretch: Stretch, length: Optional[int]) -> None:
-        self._stretch, self._length = stretch, length
+    length: of the sequence, whose end is drawn if it is here; shape: says the blocks of a record that is no plain box
+    """
+
+    def __init__(self, stretch: Stretch, length: Optional[int], shape: Callable[[Interval], Optional[Shape]] = lambda _: None) -> None:
+        self._stretch, self._length, self._shape = stretch, length, shape
         self._parts: list[str] = []
         self._top = 4.0
 
@@ -49,13 +54,14 @@ class Picture:
              named: bool = True) -> None:
         """Records in rows in which they don't overlap, and the blocks that they make."""
         boxes = list(self._packed(intervals, marks, named))
-        height = (1 + max((box.row for box in boxes), default=0)) * ROW + 6
+        left = len(intervals) - len(boxes)
+        height = (1 + max((box.row for box in boxes), default=0)) * ROW + (18 if left else 6)
         self._parts.append(f'<text class=lane x=0 y={self._top + 15:g}>{title}</text>')
         self._parts += self._blocks(blocks, height)
         self._parts += (self._box(box) for box in sorted(boxes, key=lambda box: box.mark not in PLAIN))
-        if len(boxes) < len(intervals):
+        if left:
             self._parts.append(f'<text class="far edge" x={WIDTH - RIGHT - 2} y={self._top + height - 3:g}>'
-                               f'+ {number(len(intervals) - len(boxes))} more here</text>')
+                               f'+ {number(left)} more here</text>')
         self._top += height + 5
 
     def _packed(self, intervals: Sequence[Interval], marks: Marks, named: bool) -> Iterator[Box]:
@@ -84,7 +90,7 @@ class Picture:
         low = self._x(interval.start)
         tip = " ".join([f"{interval.start}–{interval.end}", *interval.rest])
         return Box(interval, 0, low, max(self._x(interval.end), low + 2), shortened(interval.name) if named else "",
-                   classes.pop() if classes else "", tip if named else "")
+                   classes.pop() if classes else "", tip if named else "", self._shape(interval))
 
     def _blocks(self, blocks: Sequence[tuple[int, int]], height: float) -> Iterator[str]:
         """The blocks. Those between which no gap would be seen are drawn as one."""
@@ -104,11 +110,24 @@ class Picture:
     def _box(self, box: Box) -> str:
         top, name = self._top + 3 + box.row * ROW, ""
         if box.name:
-            x, where = (box.low + 5, "in") if box.holds_name else (box.high + 3, "out")
+            x, where = (box.low + 5, "in") if box.holds_name else (box.high + (8 if box.shape else 3), "out")
             name = f'<text class={where} x={x:.0f} y={top + 10:g}>{escaped(box.name)}</text>'
         mark = f'"r {box.mark}"' if box.mark else "r"
         tip = f"<title>{escaped(box.tip)}</title>" if box.tip else ""
-        return f'<g class={mark}>{tip}<path d="{_outline(box.low, box.high, top, box.interval.strand)}"/>{name}</g>'
+        outline = self._blocked(box, box.shape, top) if box.shape else _outline(box.low, box.high, top, box.interval.strand)
+        return f'<g class={mark}>{tip}<path d="{outline}"/>{name}</g>'
+
+    def _blocked(self, box: Box, shape: Shape, top: float) -> str:
+        """The blocks of a record on a line along its strand, the thick part higher than the others."""
+        middle = top + BOX / 2
+        tip = {"+": f"M{box.high:.0f} {middle - 4:g}l5 4l-5 4z", "-": f"M{box.low:.0f} {middle - 4:g}l-5 4l5 4z"}
+        paths = [f"M{box.low:.0f} {middle - 0.7:g}h{max(box.high - box.low, 2):.0f}v1.4H{box.low:.0f}z", tip.get(box.interval.strand, "")]
+        for start, end, is_thick in shape.parts():
+            if end > self._stretch.low and start < self._stretch.high:
+                low, height = self._x(start), BOX if is_thick else THIN
+                width = max(self._x(end) - low, 1.5)
+                paths.append(f"M{low:.1f} {middle - height / 2:g}h{width:.1f}v{height}h-{width:.1f}z")
+        return "".join(paths)
 
     def svg(self, title: str, beside: tuple[Optional[Interval], Optional[Interval]] = (None, None)) -> str:
         """The whole picture, with its axis; beside: the records left and right of it."""

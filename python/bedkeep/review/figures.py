@@ -2,7 +2,7 @@
 from __future__ import annotations
 
 from collections import Counter
-from typing import Iterator, Mapping, NamedTuple, Optional
+from typing import Callable, Iterator, Mapping, NamedTuple, Optional
 
 from ..classes import Finding
 from ..corrections import Line
@@ -10,6 +10,7 @@ from .drawing import Picture
 from .intervals import Interval, Stretch, asked, blocks_of, interval_of, of_record, stretches_of
 from .markup import counted, number
 from .neighbours import Neighbours
+from .shapes import Shape
 
 CLOSE = 25  # a change that is so many times smaller than its picture has a second one
 END = 200  # bases on either side of a sequence's end, in the pictures of `resize`
@@ -23,6 +24,11 @@ class Scene(NamedTuple):
     lengths: Mapping[str, int]
     distance: int  # of the blocks
     is_second: bool  # whether the track is the second file's, which has no blocks
+    shape: Callable[[Interval], Optional[Shape]] = lambda _: None  # the exons of a record
+
+    def picture(self, stretch: Stretch, length: Optional[int] = None) -> Picture:
+        """An empty picture. length: of the sequence, if it isn't what it was before"""
+        return Picture(stretch, self.lengths.get(stretch.sequence) if length is None else length, self.shape)
 
     def blocks(self, intervals: list[Interval]) -> list[tuple[int, int]]:
         return [] if self.is_second else blocks_of(intervals, self.distance)
@@ -41,7 +47,7 @@ def pictured(line: Line, finding: Finding, lengths: Mapping[str, int]) -> list[S
         ends = [lengths.get(line.fields[0]), _length(line)] if line.fields else []
         shown = [Interval(line.fields[0], max(0, end - END), end + END) for end in ends if end is not None]
         return list(stretches_of(shown)) if len(shown) == 2 else []
-    found = of_record(finding.found) if line.refusal else None
+    found = of_record(line.there or finding.found) if not line.is_done else None
     shown = [interval for interval in (*asked(line), found) if interval]
     return list(stretches_of(interval for interval in shown if interval.sequence in lengths and interval.start < interval.end))
 
@@ -57,7 +63,7 @@ def figures(line: Line, finding: Finding, scene: Scene) -> str:
     stretches = pictured(line, finding, scene.lengths)
     if line.command == "resize":
         return "".join(_resized(line, scene, stretch) for stretch in stretches)
-    if line.refusal:
+    if not line.is_done:
         return "".join(_refused(line, finding, scene, stretch) for stretch in stretches)
     return "".join(_done(line, scene, stretch) + "".join(_close(line, scene, stretch)) for stretch in stretches)
 
@@ -81,7 +87,7 @@ def _title(line: Line) -> str:
 
 def _done(line: Line, scene: Scene, stretch: Stretch, close: str = "") -> str:
     old, new = asked(line)
-    picture = Picture(stretch, scene.lengths.get(stretch.sequence))
+    picture = scene.picture(stretch)
     before = scene.track.within(stretch, scene.distance)
     after = [*before]
     if old in after:
@@ -111,14 +117,14 @@ def _close(line: Line, scene: Scene, stretch: Stretch) -> Iterator[str]:
 
 def _refused(line: Line, finding: Finding, scene: Scene, stretch: Stretch) -> str:
     old, new = asked(line)
-    found, mended = of_record(finding.found), mended_record(finding)
-    picture = Picture(stretch, scene.lengths.get(stretch.sequence))
+    found, mended = of_record(line.there or finding.found), mended_record(finding)
+    picture = scene.picture(stretch)
     wide = scene.track.within(stretch, scene.distance)
     near = [interval for interval in wide if stretch.touches(interval)]
     wanted = {interval: [mark] for interval, mark in ((old, "asked"), (new, "wished"))
               if interval and stretch.touches(interval)}
     if wanted:
-        picture.lane("refused", list(wanted), wanted)
+        picture.lane("refused" if line.refusal else "asked", list(wanted), wanted)
     picture.lane("as it is", near, scene.marks(near, found, "meant"), scene.blocks(wide))
     if mended and stretch.touches(mended):
         picture.lane("mended", [mended], {mended: ["added"]})
@@ -134,7 +140,7 @@ def mended_record(finding: Finding) -> Optional[Interval]:
 def _resized(line: Line, scene: Scene, stretch: Stretch) -> str:
     name, old, new = stretch.sequence, scene.lengths[stretch.sequence], _length(line) or 0
     before, after = Interval(name, 0, old, ("before",)), Interval(name, 0, new, ("refused" if line.refusal else "after",))
-    picture = Picture(stretch, old if line.refusal else new)
+    picture = scene.picture(stretch, old if line.refusal else new)
     picture.lane("length", [before, after], {after: ["asked" if line.refusal else "added"]})
     wide = scene.track.within(stretch, scene.distance)
     near = [interval for interval in wide if stretch.touches(interval)]

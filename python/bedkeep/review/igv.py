@@ -10,7 +10,7 @@ from ..corrections import Line
 from .intervals import asked
 from .markup import CONTROL
 
-DONE, REFUSED = "26,127,75", "179,38,30"
+DONE, REFUSED, THERE = "26,127,75", "179,38,30", "168,100,0"
 
 
 def colour_rows(lines: Sequence[Line], order: dict[str, int]) -> Iterator[str]:
@@ -19,15 +19,15 @@ def colour_rows(lines: Sequence[Line], order: dict[str, int]) -> Iterator[str]:
     for line in lines:
         for name, start, end in _places(line):
             if name in order:
-                colour = REFUSED if line.refusal else DONE
+                colour = REFUSED if line.refusal else THERE if line.there else DONE
                 rows.append((order[name], start, end, line.number,
                              f"{name}\t{start}\t{end}\t{_label(line)}\t0\t.\t{start}\t{end}\t{colour}"))
-    yield 'track name="corrections" description="corrections, done in green and refused in red" itemRgb="On"'
+    yield 'track name="corrections" description="corrections, done in green, refused in red, already there in amber" itemRgb="On"'
     yield from (row[-1] for row in sorted(rows))
 
 
 def _label(line: Line) -> str:
-    refusal = f", {line.refusal}" if line.refusal else ""
+    refusal = f", {line.refusal}" if line.refusal else ", already there" if line.there else ""
     return CONTROL.sub("_", f"line {line.place}: {line.command}{refusal}").replace("\t", " ")
 
 

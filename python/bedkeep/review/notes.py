@@ -1,14 +1,17 @@
 """What the page says of a line: what it changes, why it was refused, and what may be meant."""
 from __future__ import annotations
 
-from typing import Iterator, Mapping
+from itertools import zip_longest
+from typing import Iterable, Iterator, Mapping, Optional
 
 from ..classes import BAD, CHANGED, FOLLOWS, GONE, IGNORED, MOVED, SO, TAKEN, Finding
 from ..corrections import Line
+from ..records import Record
 from ..rows import RECORD
 from .intervals import Interval, asked, of_record
 from .markup import counted, escaped, is_whole, number, with_tabs
 
+CONFLICT = "conflict"
 SENTENCES = {
     CHANGED: "<b>Changed</b>: the record at this place differs.",
     MOVED: "<b>Moved</b>: the record is at another place.",
@@ -16,6 +19,7 @@ SENTENCES = {
     SO: "<b>Already so</b>: the track has what the line asks for, and the line can go.",
     TAKEN: "<b>Taken out</b> by a line above.",
     FOLLOWS: "<b>Follows</b> a line above: it fits once that is mended.",
+    CONFLICT: "<b>Conflict</b>: the file and the line changed the same, and a person has to decide.",
     GONE: "<b>Gone</b>: the track has no record like it that no other line takes.",
     BAD: "<b>Bad line</b>.",
 }
@@ -45,6 +49,14 @@ def difference(old: Interval, new: Interval) -> str:
     return f"{text[0].upper()}{text[1:]}."
 
 
+def beside(rows: Iterable[tuple[str, Optional[Record]]]) -> str:
+    """Records below each other, each after its title."""
+    listed = [(title, record) for title, record in rows if record]
+    widths = [max(map(len, column)) for column in zip_longest(*(record for _, record in listed), fillvalue="")]
+    texts = ("  ".join([title.ljust(7), *(text.ljust(width) for text, width in zip(record, widths))]).rstrip() for title, record in listed)
+    return f"<pre>{chr(10).join(map(escaped, texts))}</pre>"
+
+
 def link(line: Line) -> str:
     return f'<a href="#L{line.number}">line {line.place}</a>'
 
@@ -55,6 +67,11 @@ def to_copy(text: str) -> str:
     return f"{button}<code>{with_tabs(text)}</code>"
 
 
+def of_there(line: Line) -> Iterator[str]:
+    """An `add` that isn't done, with the record that is there."""
+    yield f"<b>Already there</b>: nothing is done, <code>--copies</code> adds a copy.{beside([('asked', line.new), ('there', line.there)])}"
+
+
 def of_refused(line: Line, finding: Finding, lengths: Mapping[str, int]) -> Iterator[str]:
     """The class of a refused line, what differs, and the line that fits."""
     by = f" ({link(finding.by)})" if finding.by else ""
@@ -63,6 +80,8 @@ def of_refused(line: Line, finding: Finding, lengths: Mapping[str, int]) -> Iter
         yield "<b>Already so</b>, or mistyped: the track has no record like it."
     else:
         yield f"{SENTENCES.get(finding.kind, escaped(finding.kind))}{by}{note}"
+    if finding.kind == CONFLICT and finding.found:
+        yield beside([("was", line.old), ("asked", line.new), ("there", finding.found)])
     record, found = of_record(finding.asked), of_record(finding.found)
     if record and found and record != found and finding.kind in (CHANGED, MOVED, IGNORED):
         yield difference(record, found)
@@ -70,9 +89,12 @@ def of_refused(line: Line, finding: Finding, lengths: Mapping[str, int]) -> Iter
         yield WHAT_TO_DO[line.refusal]
     if line.refusal == "end past the sequence's end":
         yield from _past(line, lengths)
-    mended = finding.mended or _mended(line, lengths)
-    if mended:
-        yield f"{'Mended' if finding.mended else 'Perhaps'}: {to_copy(mended)}"
+    if line.there:
+        yield beside([("asked", line.new), ("there", line.there)])
+    if finding.mended:
+        yield f"Mended: {to_copy(finding.mended)}"
+    for offer in dict.fromkeys(offer for offer in (*line.offers, _mended(line, lengths)) if offer and not finding.mended):
+        yield f"Perhaps: {to_copy(offer)}"
 
 
 def _past(line: Line, lengths: Mapping[str, int]) -> Iterator[str]:

@@ -13,6 +13,18 @@
   try { seen = new Set(JSON.parse(localStorage.getItem(key) || '[]')); } catch (error) { }
   const keepSeen = () => { try { localStorage.setItem(key, JSON.stringify([...seen])); } catch (error) { } };
 
+  // All lines of a card that shows only the first ones: those in which the search finds something are left in its list.
+  const lists = new Map(articles.map(article => [article, article.querySelector('.all')]).filter(([, list]) => list)
+    .map(([article, list]) => [article, { list, rows: list.textContent.split('\n'), folded: list.textContent.toLowerCase().split('\n') }]));
+  function found(article, searched) {
+    const inCard = searched.every(text => article.dataset.search.includes(text)), listed = lists.get(article);
+    if (!listed) return inCard;
+    const rows = listed.rows.filter((row, place) => searched.every(text => listed.folded[place].includes(text)));
+    listed.list.textContent = (rows.length ? rows : listed.rows).join('\n');
+    listed.list.parentNode.open = searched.length > 0 && rows.length > 0;
+    return inCard || rows.length > 0;
+  }
+
   const inGroup = article => !group || (group === 'unseen' ? !seen.has(article.id) : article.dataset.groups.split('|').includes(group));
 
   function filter() {
@@ -20,14 +32,14 @@
     let count = 0;
     for (const article of articles) {
       const data = article.dataset;
-      article.hidden = !(inGroup(article) && (!command.value || data.command === command.value)
-        && (!sequence.value || data.sequence === sequence.value) && searched.every(text => data.search.includes(text)));
+      article.hidden = !(inGroup(article) && (!command.value || data.command.split('|').includes(command.value))
+        && (!sequence.value || data.sequence.split('\t').includes(sequence.value)) && found(article, searched));
       count += !article.hidden;
     }
     for (const row of rows) row.classList.toggle('on', row.dataset.sequence === sequence.value);
     for (const button of buttons) button.classList.toggle('on', button.dataset.group === group);
     byId('none').hidden = count > 0 || !articles.length;
-    byId('shown').textContent = `${count} of ${articles.length} lines, ${seen.size} seen`;
+    byId('shown').textContent = `${count} of ${articles.length} cards, ${seen.size} seen`;
   }
 
   for (const input of [find, command, sequence]) input.addEventListener('input', filter);
@@ -49,10 +61,16 @@
   }
   byId('compact').addEventListener('click', event => event.target.classList.toggle('on', document.body.classList.toggle('compact')));
 
-  // A link leads to its line even if that is filtered away.
+  // A link leads to its line even if that is filtered away, or on a card of several.
+  const holds = (article, number) => article.dataset.lines.split(',').some(run => {
+    const [first, last] = run.split('-').map(Number);
+    return first <= number && number <= last;
+  });
   addEventListener('hashchange', () => {
-    const target = byId(location.hash.slice(1));
-    if (target && target.hidden) { all(); target.scrollIntoView(); }
+    const target = articles.find(article => holds(article, Number(location.hash.slice(2))));
+    if (!target) return;
+    if (target.hidden) all();
+    target.scrollIntoView();
   });
 
   function copied(button) {

@@ -7,24 +7,23 @@ from importlib import resources
 from typing import Iterable, Mapping, NamedTuple, Sequence
 
 from ..corrections import Line
-from .cards import card, groups_of
+from .cards import THERE, Card, html_of
 from .intervals import sequence_of
 from .markup import counted, escaped, number
 from .overview import overview
 from .printed import Side
-from .reviewer import Reviewed
 
-GROUPS = ["refused", "done", "already so", "changed", "moved", "fits but for", "taken out", "follows", "gone", "bad line",
-          "copies", "without a reason"]
-KEYS = ("Keys: <kbd>j</kbd> <kbd>k</kbd> next and last line, <kbd>n</kbd> next refused one, <kbd>x</kbd> seen, "
-        "<kbd>/</kbd> search, <kbd>Esc</kbd> all lines")
+GROUPS = ["refused", THERE, "warnings", "done", "conflict", "already so", "changed", "moved", "fits but for", "taken out", "follows",
+          "gone", "bad line", "copies", "together", "without a reason"]
+KEYS = ("Keys: <kbd>j</kbd> <kbd>k</kbd> next and last card, <kbd>n</kbd> next refused one, <kbd>x</kbd> seen, "
+        "<kbd>/</kbd> search, <kbd>Esc</kbd> all")
 
 
 class Contents(NamedTuple):
     """What the page is made of.
 
     scripts, bed: as they were given; sums: the SHA-256 of each input; version: the program's
-    lines: all of the scripts; reviewed: one for each correction; before, after: the track; distance: of the blocks
+    lines: all of the scripts; cards: of all corrections; before, after: the track; distance: of the blocks
     """
 
     scripts: Sequence[str]
@@ -32,30 +31,34 @@ class Contents(NamedTuple):
     sums: Sequence[tuple[str, str]]
     version: str
     lines: Sequence[Line]
-    reviewed: Sequence[Reviewed]
+    cards: Sequence[Card]
     lengths: Mapping[str, int]
     before: Side
     after: Side
     distance: int
     has_second: bool
 
+    @property
+    def run(self) -> list[Line]:
+        """The corrections."""
+        return [line for line in self.lines if line.is_run]
+
 
 def page(contents: Contents) -> str:
     """The text of the HTML file."""
     title = f"{', '.join(map(os.path.basename, contents.scripts))} over {os.path.basename(contents.bed)}"
-    run = [one.line for one in contents.reviewed]
-    cards = "".join(card(one, len(contents.scripts) > 1) for one in contents.reviewed)
+    cards = "".join(html_of(card, len(contents.scripts) > 1) for card in contents.cards)
     key = contents.sums[-1][1][:16]
     return f"""<!doctype html>
 <html lang="en"><head><meta charset="utf-8"><meta name="viewport" content="width=device-width,initial-scale=1">
 <meta name="color-scheme" content="light dark"><title>{escaped(title)}</title><style>
 {_text("style.css")}</style></head>
 <body data-key="{key}"><header><h1>{escaped(title)}</h1><p class=quiet>{_head(contents)}</p>{_counts(contents)}</header>
-<main><h2>Sequences</h2>{overview(run, contents.lengths, contents.before, contents.after)}
+<main><h2>Sequences</h2>{overview(contents.run, contents.lengths, contents.before, contents.after)}
 <h2>Corrections</h2>{_colours(contents)}
 {_bar(contents)}
 <div id="cards">
-{cards}</div><p id="none" class=quiet hidden>No line is left by these filters.</p></main>
+{cards}</div><p id="none" class=quiet hidden>No card is left by these filters.</p></main>
 {_footer(contents)}
 <script>
 {_text("page.js")}</script></body></html>
@@ -74,10 +77,12 @@ def _head(contents: Contents) -> str:
 
 def _counts(contents: Contents) -> str:
     """Some numbers before and after all corrections."""
-    refused = sum(bool(one.line.refusal) for one in contents.reviewed)
-    done = len(contents.reviewed) - refused
-    figures = [("corrections", number(len(contents.reviewed)), ""), ("done", number(done), "yes" if done else ""),
+    run = contents.run
+    refused, there = sum(bool(line.refusal) for line in run), sum(bool(line.there and not line.refusal) for line in run)
+    done, warned = len(run) - refused - there, sum(bool(line.warning) for line in run)
+    figures = [("corrections", number(len(run)), ""), ("done", number(done), "yes" if done else ""),
                ("refused", number(refused), "no" if refused else "")]
+    figures += [(what, number(count), "meant") for what, count in ((THERE, there), ("warnings", warned)) if count]
     for what, before, after in (("records", contents.before.records, contents.after.records),
                                 ("blocks", contents.before.blocks, contents.after.blocks),
                                 ("bases covered", contents.before.covered, contents.after.covered)):
@@ -100,19 +105,19 @@ def _colours(contents: Contents) -> str:
 
 def _bar(contents: Contents) -> str:
     """Search and filters."""
-    counts = Counter(group for one in contents.reviewed for group in groups_of(one))
+    counts = Counter(group for card in contents.cards for group in card.groups)
     groups = [group for group in GROUPS if counts[group]] + [group for group in counts if group not in GROUPS]
     buttons = "".join(f'<button class=group data-group="{escaped(group)}">{escaped(group)} '
                       f"<small>{number(counts[group])}</small></button>" for group in groups)
     order = {name: place for place, name in enumerate(contents.lengths)}
-    names = {sequence_of(one.line) for one in contents.reviewed} - {""}
+    names = {name for card in contents.cards for name in card.sequences} - {""}
     listed = sorted(names, key=lambda name: (order.get(name, len(order)), name))
-    commands = sorted({one.line.command for one in contents.reviewed if sequence_of(one.line)})
+    commands = sorted({line.command for line in contents.run if sequence_of(line)})
     return ('<div id="bar"><input id="find" type=search aria-label="search" placeholder="search: a name, a reason, a position">'
             f'<select id="command" aria-label="command"><option value="">each command</option>{_options(commands)}</select>'
             f'<select id="sequence" aria-label="sequence"><option value="">each sequence</option>{_options(listed)}</select>'
             f'<button id="compact">compact</button><div id="groups"><button class="group on" data-group="">all '
-            f'<small>{number(len(contents.reviewed))}</small></button>{buttons}'
+            f'<small>{number(len(contents.cards))}</small></button>{buttons}'
             '<button class=group data-group="unseen">not seen</button><span id="shown" class=quiet></span></div></div>')
 
 

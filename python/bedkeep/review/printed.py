@@ -1,14 +1,17 @@
 """What the program printed of a track at one time: the records near the corrections, and what all of them come to."""
 from __future__ import annotations
 
-from bisect import bisect_left
+import mmap
 from collections import Counter
-from typing import Callable, Iterator, Sequence, Union, overload
+from contextlib import contextmanager
+from typing import Callable, Iterator, Union
 
+from ..program import decoded
 from .intervals import Interval, Stretch, Windows
 
 BINS = 240  # of the overview of a sequence
 AROUND = 6  # records that are kept on either side of a window, however far they are
+PIECE = 1 << 20  # bytes that are looked at at once
 
 
 class Side:
@@ -35,106 +38,145 @@ class Side:
         lengths: of the sequences whose density is shown
         """
         for name, rows in _sequences(blocks):
-            self._read_blocks(name, *_bounds(rows))
+            self._read_blocks(name, rows)
+            self.covered[name] = rows.bases() if touching == blocks else 0
         for name, rows in _sequences(touching) if touching != blocks else ():
-            starts, ends = _bounds(rows)
-            self.covered[name] = sum(ends) - sum(starts)
+            self.covered[name] = rows.bases()
         for name, rows in _sequences(track):
             self.records[name] = len(rows)
             if name in lengths:
-                self._bins[name] = _bins(Starts(rows), lengths[name])
+                self._bins[name] = rows.density(lengths[name])
             self._read_records(name, rows)
 
-    def _read_blocks(self, name: str, starts: list[int], ends: list[int]) -> None:
+    def _read_blocks(self, name: str, rows: Rows) -> None:
         """All blocks of a sequence. They don't overlap, so their ends are in order too."""
-        self.blocks[name] = len(starts)
-        self.covered[name] = sum(ends) - sum(starts)
-        near: set[int] = set()
+        self.blocks[name] = len(rows)
+        near: dict[int, Interval] = {}
         for stretch in self._windows.of(name):
-            first, last = bisect_left(ends, stretch.low), bisect_left(starts, stretch.high + 1)
-            near.update(range(first, last))
-            if first < last:
-                self._begins[stretch] = starts[first]
-        self.near_blocks += (Interval(name, starts[place], ends[place]) for place in sorted(near))
+            begin = rows.first(lambda block: block.end >= stretch.low)
+            last = rows.first(lambda block: block.start > stretch.high, begin)
+            touching = dict(rows.between(begin, last))
+            near.update(touching)
+            if touching:
+                self._begins[stretch] = touching[begin].start
+        self.near_blocks += near.values()
 
-    def _read_records(self, name: str, rows: Sequence[str]) -> None:
+    def _read_records(self, name: str, rows: Rows) -> None:
         """The records that touch a window: they are in blocks that do, so few others are looked at."""
-        starts = Starts(rows)
-        near: set[int] = set()
-        reaching: list[tuple[int, int]] = []  # the ends and places of records that may reach into the next window
-        at = 0
+        near: dict[int, Interval] = {}
+        reaching: dict[int, Interval] = {}  # records that may reach into the next window
+        at = rows.begin
         for stretch in self._windows.of(name):
-            first = bisect_left(starts, min(stretch.low, self._begins.get(stretch, stretch.low)))
-            last = bisect_left(starts, stretch.high + 1)
+            begun = rows.first(lambda record: record.start >= stretch.low)
+            first = rows.first(lambda record: record.start >= self._begins.get(stretch, stretch.low)) if (
+                self._begins.get(stretch, stretch.low) < stretch.low) else begun
+            last = rows.first(lambda record: record.start > stretch.high, begun)
             if first > at:
-                at, reaching = first, []
-            reaching += ((int(rows[place].split("\t", 3)[2]), place) for place in range(at, last))
+                at, reaching = first, {}
+            reaching.update(rows.between(at, last))
             at = max(at, last)
-            reaching = [(end, place) for end, place in reaching if end >= stretch.low]
-            near.update(place for _, place in reaching)
-            begun = bisect_left(starts, stretch.low)
-            near.update(range(max(0, begun - AROUND), begun), range(last, min(len(rows), last + AROUND)))
-        self.near += (_interval(rows[place]) for place in sorted(near))
+            reaching = {place: record for place, record in reaching.items() if record.end >= stretch.low}
+            near.update(reaching)
+            near.update(rows.between(rows.back(begun, AROUND), begun))
+            near.update(rows.between(last, rows.on(last, AROUND)))
+        self.near += (near[place] for place in sorted(near))
 
     def density(self, name: str) -> list[int]:
         """How many records begin in each of the equal parts of a sequence."""
         return self._bins.get(name, [0] * BINS)
 
 
-class Starts(Sequence[int]):
-    """The starts of rows, read when they are looked at."""
+class Rows:
+    """The rows of one sequence, in their order, within a text that isn't held: each is found by the place where it begins."""
 
-    def __init__(self, rows: Sequence[str]) -> None:
-        self._rows = rows
+    def __init__(self, text: Union[mmap.mmap, bytes], begin: int, end: int) -> None:
+        self._text, self.begin, self._end = text, begin, end
 
     def __len__(self) -> int:
-        return len(self._rows)
+        return sum(piece.count(b"\n") for piece in self._pieces(self.begin, self._end))
 
-    @overload
-    def __getitem__(self, at: int) -> int: ...
-    @overload
-    def __getitem__(self, at: slice) -> list[int]: ...
+    def first(self, holds: Callable[[Interval], bool], begin: int = -1) -> int:
+        """The place of the first row from which on something holds, if it holds from some row on."""
+        return first_line(self._text, max(begin, self.begin), self._end, lambda line: holds(_interval(line)))
 
-    def __getitem__(self, at: Union[int, slice]) -> Union[int, list[int]]:
-        if isinstance(at, slice):
-            return [int(row.split("\t", 2)[1]) for row in self._rows[at]]
-        return int(self._rows[at].split("\t", 2)[1])
+    def between(self, begin: int, end: int) -> Iterator[tuple[int, Interval]]:
+        """The rows from one place to another, with their places."""
+        while begin < end:
+            after = self._text.find(b"\n", begin) + 1
+            yield begin, _interval(self._text[begin:after - 1])
+            begin = after
+
+    def back(self, place: int, count: int) -> int:
+        """The place some rows before another."""
+        for _ in range(count):
+            if place > self.begin:
+                place = self._text.rfind(b"\n", self.begin, place - 1) + 1 or self.begin
+        return place
+
+    def on(self, place: int, count: int) -> int:
+        """The place some rows after another."""
+        for _ in range(count):
+            if place < self._end:
+                place = self._text.find(b"\n", place) + 1
+        return place
+
+    def bases(self) -> int:
+        """The sum of their lengths."""
+        total = 0
+        for piece in self._pieces(self.begin, self._end):
+            columns = piece[:-1].replace(b"\n", b"\t").split(b"\t")
+            total += sum(map(int, columns[2::3])) - sum(map(int, columns[1::3]))
+        return total
+
+    def density(self, length: int) -> list[int]:
+        """How many begin in each of the equal parts of a sequence of this length."""
+        edges = [self.begin]
+        for number in range(1, BINS):
+            edges.append(self.first(lambda row: row.start >= length * number // BINS, edges[-1]))
+        return [sum(piece.count(b"\n") for piece in self._pieces(begin, end)) for begin, end in zip(edges, [*edges[1:], self._end])]
+
+    def _pieces(self, begin: int, end: int) -> Iterator[bytes]:
+        """The text from one place to another, whole rows at a time."""
+        while begin < end:
+            after = min(self._text.find(b"\n", min(begin + PIECE, end) - 1) + 1, end)
+            yield self._text[begin:after]
+            begin = after
 
 
-def _sequences(path: str) -> Iterator[tuple[str, list[str]]]:
-    """The rows of a file, sequence by sequence. Those of one are one after another."""
-    with open(path, encoding="utf-8", errors="surrogateescape", newline="\n") as file:
-        rows = file.read().split("\n")[:-1]
-    first = 0
-    while first < len(rows):
-        name = rows[first].partition("\t")[0]
-        last = _first(first, len(rows), lambda at: not rows[at].startswith(f"{name}\t"))
-        yield name, rows[first:last]
-        first = last
-
-
-def _bounds(rows: Sequence[str]) -> tuple[list[int], list[int]]:
-    """The starts and the ends of rows of three columns."""
-    texts = "\t".join(rows).split("\t")
-    return list(map(int, texts[1::3])), list(map(int, texts[2::3]))
-
-
-def _first(low: int, high: int, holds: Callable[[int], bool]) -> int:
-    """The first place from which on something holds, if it holds from some place on."""
+def first_line(text: Union[mmap.mmap, bytes], low: int, high: int, holds: Callable[[bytes], bool]) -> int:
+    """The place of the first line from which on something holds, if it holds from some line on, or the end."""
     while low < high:
-        middle = (low + high) // 2
-        if holds(middle):
-            high = middle
+        begin = text.rfind(b"\n", low, (low + high) // 2) + 1 or low
+        end = text.find(b"\n", begin) + 1
+        if holds(text[begin:end - 1]):
+            high = begin
         else:
-            low = middle + 1
+            low = end
     return low
 
 
-def _bins(starts: Sequence[int], length: int) -> list[int]:
-    edges = [bisect_left(starts, length * number // BINS) for number in range(BINS)]
-    return [end - first for first, end in zip(edges, [*edges[1:], len(starts)])]
+@contextmanager
+def _mapped(path: str) -> Iterator[Union[mmap.mmap, bytes]]:
+    """The bytes of a file, which isn't held."""
+    with open(path, "rb") as file:
+        if not file.read(1):
+            yield b""
+            return
+        with mmap.mmap(file.fileno(), 0, access=mmap.ACCESS_READ) as text:
+            yield text
 
 
-def _interval(row: str) -> Interval:
-    name, start, end, *rest = row.split("\t")
+def _sequences(path: str) -> Iterator[tuple[str, Rows]]:
+    """The rows of a file, sequence by sequence. Those of one are one after another."""
+    with _mapped(path) as text:
+        begin = 0
+        while begin < len(text):
+            name = text[begin:text.find(b"\t", begin) + 1]
+            end = first_line(text, begin, len(text), lambda line: not line.startswith(name))
+            yield decoded(name[:-1]), Rows(text, begin, end)
+            begin = end
+
+
+def _interval(line: bytes) -> Interval:
+    name, start, end, *rest = decoded(line).split("\t")
     return Interval(name, int(start), int(end), tuple(rest))

@@ -1,17 +1,18 @@
 """Goes through the lines of the corrections, one after another, over the records near them."""
 from __future__ import annotations
 
-from typing import Iterable, Mapping, NamedTuple, Optional
+from typing import Collection, Iterable, Mapping, NamedTuple, Optional, Sequence
 
-from ..classes import THERE, Finding
+from ..classes import Finding
 from ..corrections import Line
 from ..errors import Error
 from .figures import Scene, figures, pictured
 from .intervals import FAR, Interval, Stretch, Windows, asked, blocks_of
 from .markup import counted, escaped, number
 from .neighbours import Neighbours
-from .notes import difference, link, of_refused
+from .notes import difference, link, of_refused, of_there
 from .printed import Side
+from .shapes import Tails
 
 
 class Differs(Error):
@@ -28,12 +29,12 @@ class Reviewed(NamedTuple):
     is_copy: bool
 
 
-def windows_of(findings: Iterable[Finding], lengths: Mapping[str, int], distance: int) -> Windows:
-    """The stretches of the pictures of all lines, a little wider than the distance of the blocks."""
+def windows_of(findings: Iterable[Finding], lengths: Mapping[str, int], distance: int, shown: Collection[int]) -> Windows:
+    """The stretches of all pictures, a little wider than the distance of the blocks. shown: the numbers of the lines that have any"""
     stretches: list[Stretch] = []
     now = dict(lengths)
     for finding in findings:
-        stretches += pictured(finding.line, finding, now)
+        stretches += pictured(finding.line, finding, now) if finding.line.number in shown else ()
         resize(finding.line, now)
     return Windows(stretches, distance + 1)
 
@@ -47,38 +48,42 @@ def resize(line: Line, lengths: dict[str, int]) -> None:
 class Reviewer:
     """The tracks before the next line, and which line put each of their records there.
 
-    first, second: the tracks before all lines; distance: of the blocks
+    first, second: the tracks before all lines; distance: of the blocks; shown: the numbers of the lines that have pictures, or None
+    if all have; the records of others needn't be among those of the tracks; tails: those of both files
     """
 
-    def __init__(self, first: Side, second: Optional[Side], lengths: Mapping[str, int], distance: int) -> None:
+    def __init__(self, first: Side, second: Optional[Side], lengths: Mapping[str, int], distance: int,
+                 shown: Optional[Collection[int]] = None, tails: Sequence[Tails] = (Tails(0, {}), Tails(0, {}))) -> None:
         self._first = Neighbours(first.near)
         self._second = Neighbours(second.near) if second else None
         self._lengths = dict(lengths)
         self._distance = distance
+        self._shown, self._tails = shown, tails
         self._makers: dict[tuple[bool, Interval], Line] = {}
 
     def look(self, finding: Finding) -> Reviewed:
         """Says what is to be seen of a line, and carries it out if the program did."""
         line = finding.line
         track, other = (self._second, self._first) if line.is_second else (self._first, self._second)
-        pictures = figures(line, finding, self._scene(line, track, other)) if track else ""
+        is_shown = self._shown is None or line.number in self._shown
+        self._tails[line.is_second].follow(line)
+        pictures = figures(line, finding, self._scene(line, track, other)) if track and is_shown else ""
         new = asked(line)[1]
         is_copy = bool(line.is_done and track and new and track.has(new))
         if line.refusal:
             notes = list(of_refused(line, finding, self._lengths))
+        elif line.there:
+            notes = list(of_there(line))
         elif line.command == "resize":
             notes = [self._resized(line)]
         else:
-            notes = self._carry_out(line, track)
+            notes = self._carry_out(line, track, is_shown)
         if is_copy:
-            notes.append("<b>Already there</b>: this is a copy of a record of the track." if finding.kind == THERE else
-                         "<b>A copy</b>: the track has this record already.")
-        if line.warning:
-            notes.append(escaped(line.warning))
+            notes.append("<b>A copy</b>: the track has this record already.")
         return Reviewed(line, finding, notes, pictures, is_copy)
 
     def _scene(self, line: Line, track: Neighbours, other: Optional[Neighbours]) -> Scene:
-        return Scene(track, other, self._lengths, self._distance, line.is_second)
+        return Scene(track, other, self._lengths, self._distance, line.is_second, self._tails[line.is_second].shape)
 
     def _resized(self, line: Line) -> str:
         old = self._lengths[line.fields[0]]
@@ -87,23 +92,23 @@ class Reviewer:
         change = f"{counted(abs(new - old), 'base')} {'more' if new > old else 'fewer'}"
         return f"{escaped(line.fields[0])}: {number(old)} → {number(new)}, {change}."
 
-    def _carry_out(self, line: Line, track: Optional[Neighbours]) -> list[str]:
+    def _carry_out(self, line: Line, track: Optional[Neighbours], is_shown: bool) -> list[str]:
         """Changes the track, and says what came of it."""
         old, new = asked(line)
         if track is None or not (old or new):
             raise Differs(f"line {line.number} was done, but names no record")
         notes = []
-        before = self._blocks(line, track)
+        before = self._blocks(line, track) if is_shown else 0
         if old:
             maker = self._makers.get((line.is_second, old))
             if maker:
                 notes.append(f"The record was put in by {link(maker)}.")
-            if not track.remove(old):
+            if not track.remove(old) and is_shown:
                 raise Differs(f"line {line.number} was done, but its record isn't there")
         if new:
             track.add(new)
             self._makers[line.is_second, new] = line
-        after = self._blocks(line, track)
+        after = self._blocks(line, track) if is_shown else 0
         if old and new:
             notes.append(difference(old, new))
         if before and after and before != after and not line.is_second:

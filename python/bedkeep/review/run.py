@@ -6,16 +6,21 @@ import subprocess
 from typing import NamedTuple, Optional, Sequence
 
 from ..corrections import Line
+from ..files import Bed
 from ..inputs import Inputs
 from ..program import find
+from ..records import WIDEST, split_row
 from ..replay import replay_inputs
 from ..script import line_of
 from ..session import Session
-from .intervals import Windows
+from .alike import units_of
+from .cards import Card
+from .intervals import Windows, of_record
 from .overview import shown_lengths
 from .page import Contents
 from .printed import Side
 from .reviewer import Differs, Reviewer, windows_of
+from .shapes import Tails
 
 
 class Printed(NamedTuple):
@@ -32,7 +37,8 @@ class Printing(Session):
     def write(self, folder: str, distance: int) -> Printed:
         """Writes the track and its blocks."""
         track = os.path.join(folder, f"track-{len(os.listdir(folder))}")
-        self.save(track)
+        with open(track, "xb") as file:
+            self._print(file.write)
         blocks = self._write_blocks(folder, distance)
         return Printed(track, blocks, self._write_blocks(folder, 0) if distance else blocks)
 
@@ -43,22 +49,26 @@ class Printing(Session):
         return path
 
 
-def review(inputs: Inputs, distance: int, sums: Sequence[tuple[str, str]], strict: bool = False) -> Contents:
+def review(inputs: Inputs, distance: int, sums: Sequence[tuple[str, str]], copies: bool = False, leave_blocks: bool = False) -> Contents:
     """All that the page shows. Differs if its pictures don't arrive at what the program printed."""
     lengths = inputs.lengths
-    findings = replay_inputs(inputs, strict=strict).findings
+    findings = replay_inputs(inputs).findings
     lines = [finding.line for finding in findings]
-    windows = windows_of(findings, lengths, distance)
+    units = list(units_of(findings))
+    pictured = {finding.line.number for unit in units for finding in unit.shown}
+    windows = windows_of(findings, lengths, distance, pictured)
     shown = shown_lengths(lines, lengths)
     session = Printing(inputs.genome, inputs.bed.narrow, inputs.second.narrow if inputs.second else None, width=inputs.width)
     with session:
         before, after = [_side(printed, windows, shown) for printed in _prints(inputs, session, lines, distance)]
     second_before, second_after = _second(inputs, lines, windows)
-    reviewer = Reviewer(before, second_before, lengths, distance)
-    reviewed = [reviewer.look(finding) for finding in findings]
+    tails = [_tails(bed, side) for bed, side in ((inputs.bed, before), (inputs.second, second_before))]
+    reviewer = Reviewer(before, second_before, lengths, distance, pictured, tails)
+    reviewed = {finding.line.number: reviewer.look(finding) for finding in findings}
     reviewer.check(windows, after, second_after)
     scripts = list(dict.fromkeys(line.file for line in inputs.lines))
-    return Contents(scripts, inputs.bed.path, sums, _version(), inputs.lines, reviewed, lengths, before, after, distance,
+    cards = [Card(unit, [reviewed[finding.line.number] for finding in unit.findings]) for unit in units]
+    return Contents(scripts, inputs.bed.path, sums, _version(), inputs.lines, cards, lengths, before, after, distance,
                     bool(inputs.second))
 
 
@@ -81,11 +91,20 @@ def _second(inputs: Inputs, lines: Sequence[Line], windows: Windows) -> tuple[Op
     return before, after
 
 
+def _tails(bed: Optional[Bed], side: Optional[Side]) -> Tails:
+    """The columns after the sixth of the records near the corrections."""
+    if not bed or not side or bed.width <= WIDEST:
+        return Tails(0, {})
+    near = set(side.near)
+    rows = ((of_record(record), tail) for record, tail in map(split_row, bed.rows()))
+    return Tails(bed.width, {interval: tail for interval, tail in rows if interval in near})
+
+
 def _of_track(line: Line) -> Line:
     """An edit of the second file as one of the track."""
     text = line.narrow.replace("b\t", "\t", 1) if line.is_second else line.narrow
     own = Line(line.number, line.file, line.place, text)
-    own.refusal = line.refusal
+    own.refusal, own.there = line.refusal, line.there
     return own
 
 
