@@ -190,9 +190,7 @@ replace chr1 300 400 b 0 + chr1 300 450 b 0 + 300 450 9,9,9"""))
         self.assertEqual(self.review(self.sizes, wide, script).status, 0)
         page = Page((self.folder / "page.html").read_text())
         self.assertEqual(page.faults, [])
-        self.assertIn("thickEnd", page.texts["L1"])
         self.assertIn("End 50 bases later.", page.texts["L2"])
-        self.assertEqual(self.review(self.sizes, wide, script, "--strict").status, 1)
 
     def test_second_file_has_its_own_lines(self):
         script = self.file("corrections", tabs("addb chr1 1 2\nreplaceb chr1 1 2 chr1 5 9\nremoveb chr1 1 2"))
@@ -213,6 +211,98 @@ replace chr1 300 400 b 0 + chr1 300 450 b 0 + 300 450 9,9,9"""))
         self.assertIn("<i>\ufffd\u2402", page.texts["L2"])
         self.assertNotIn("copy", page.texts["L2"])
         ElementTree.parse(self.folder / "page.session.xml")
+
+
+class Cards(Case):
+    """Which lines share a card, and what it shows."""
+
+    def page(self, bed, script, *words):
+        path = self.folder / "page.html"
+        self.outcome = Outcome("review", self.file("long", "chr1\t100000000\nchr2\t500\n"), self.file("bed", bed),
+                               self.file("script", script), "-o", path, *words)
+        self.text = path.read_text()
+        page = Page(self.text)
+        self.assertEqual(page.faults, [])
+        return page
+
+    def test_many_shifts_by_one_distance_are_one_card(self):
+        rows = [f"chr1\t{1000 * at}\t{1000 * at + 50}\tg{at}" for at in range(4000)]
+        moved = [f"replace\t{row}\tchr1\t{1000 * at + 7}\t{1000 * at + 57}\tg{at}" for at, row in enumerate(rows)]
+        page = self.page("\n".join(rows), "# a patched contig\n" + "\n".join(moved) + "\n\nremove\tchr2\t5\t9\tx\n")
+        self.assertEqual(list(page.articles), ["L2", "L4003"])
+        text = page.texts["L2"]
+        self.assertIn("4,000 records shifted by 7", text)
+        self.assertIn("a patched contig", text)
+        self.assertEqual((page.articles["L2"]["data-lines"], page.articles["L2"]["data-groups"]), ("2-4001", "done"))
+        self.assertEqual(self.text.count("<figure>"), 3 + 1)
+        for at in 0, 1234, 3999:  # All of them can be found.
+            self.assertIn(f"line {at + 2}  replace chr1 {1000 * at} {1000 * at + 50} g{at} ", text)
+        self.assertLess(len(self.text), 1_000_000)
+        self.assertTrue("corrections<b>4,001</b>" in self.text and "done<b>4,000</b>" in self.text)
+
+    def lines_of(self, script):
+        rows = "".join(f"chr1\t{1000 * at}\t{1000 * at + 50}\tg{at}\t{at}\t+\n" for at in range(30))
+        page = self.page(rows, script)
+        return [named["data-lines"] for named in page.articles.values()]
+
+    def changed(self, change, count=25):
+        """Lines that change so many records. change: the columns from the second on, of the record at its place"""
+        return "".join("\t".join(["replace", "chr1", *map(str, (1000 * at, 1000 * at + 50, f"g{at}", at, "+")), "chr1",
+                                  *map(str, change(1000 * at, 1000 * at + 50, f"g{at}", at))]) + "\n" for at in range(count))
+
+    def test_what_is_the_same_change(self):
+        same = [lambda start, end, name, score: (start + 5, end + 5, name, score, "+"),
+                lambda start, end, name, score: (start, end, name, 777, "+"),
+                lambda start, end, name, score: (start, end, name, score, "-"),
+                lambda start, end, name, score: (start, end + 20, f"new_{name}.1"[4:], score, "+"),
+                lambda start, end, name, score: (start, end, f"x{name}", score, "+")]
+        for change in same:
+            self.assertEqual(self.lines_of(self.changed(change)), ["1-25"])
+        self.assertEqual(self.lines_of(self.changed(same[0], 20)), [f"{at}-{at}" for at in range(1, 21)])  # too few
+        different = [lambda start, end, name, score: (start + score + 1, end + score + 1, name, score, "+"),
+                     lambda start, end, name, score: (start, end, name, score + 1, "+")]
+        for change in different:
+            self.assertEqual(len(self.lines_of(self.changed(change))), 25)
+
+    def test_another_reason_is_another_card(self):
+        lines = self.changed(lambda start, end, name, score: (start, end, name, 777, "+"), 30).split("\n")
+        self.assertEqual(self.lines_of("# one\n" + "\n".join(lines[:22]) + "\n# other\n" + "\n".join(lines[22:])),
+                         ["2-23", *(f"{at}-{at}" for at in range(25, 33))])
+
+    def test_lines_that_are_done_together_are_one_card(self):
+        bed = "chr1\t100\t200\tA\nchr1\t300\t400\tB\n"
+        page = self.page(bed, "# together: one gene\nreplace\tchr1\t100\t200\tA\tchr1\t100\t400\tA\nremove\tchr1\t300\t400\tB\n"
+                              "\nremove\tchr1\t100\t400\tA\n")
+        self.assertEqual({name: named["data-lines"] for name, named in page.articles.items()}, {"L2": "2-3", "L5": "5-5"})
+        self.assertIn("<p class=reason>one gene</p>", self.text)
+        self.assertEqual(page.articles["L2"]["data-groups"], "done|together")
+        self.assertIn('The record was put in by <a href="#L2">line 2</a>', self.text)
+        self.assertIn("line 2 to 3", page.texts["L2"])
+
+    def test_exons_and_coding_part(self):
+        # Exons 100 to 120, 150 to 160, 180 to 200, the coding part from 110 to 190. The picture shows 18 to 292 in 830 units from 62.
+        bed = "chr1\t100\t200\tg\t0\t+\t110\t190\t0\t3\t20,10,20,\t0,50,80,\n"
+        script = "replace\tchr1\t100\t200\tg\t0\t+\tchr1\t100\t210\tg\t0\t+\n"
+        self.page(bed, script)
+
+        def at(position):
+            return f"{62 + (position - 18) * 830 / 274:.1f}"
+
+        drawn = re.findall('"r removed"><title>.*?</title><path d="(.*?)"', self.text)[0]
+        self.assertEqual(re.findall(r"M([0-9.]+) [0-9.]+h[0-9.]+v(7|13)h", drawn),
+                         [(at(100), "7"), (at(110), "13"), (at(150), "13"), (at(180), "13"), (at(190), "7")])
+        after = re.findall('"r added"><title>.*?</title><path d="(.*?)"', self.text)[0]
+        width = re.findall(r"M([0-9.]+) [0-9.]+h([0-9.]+)v7h", after)[-1]
+        self.assertEqual(width, (at(190), f"{20 * 830 / 274:.1f}"))  # The last exon ends with the gene.
+
+    def test_genome_for_igv(self):
+        self.page("chr1\t1\t5\n", "")
+        self.assertEqual((self.folder / "page.chrom.sizes").read_text(), "chr1\t100000000\nchr2\t500\n")
+        self.assertEqual(ElementTree.parse(self.folder / "page.session.xml").getroot().get("genome"), "page.chrom.sizes")
+        (self.folder / "page.chrom.sizes").unlink()
+        self.page("chr1\t1\t5\n", "", "--igv", "hg38")
+        self.assertEqual(ElementTree.parse(self.folder / "page.session.xml").getroot().get("genome"), "hg38")
+        self.assertFalse((self.folder / "page.chrom.sizes").exists())
 
 
 class Arrival(Case):

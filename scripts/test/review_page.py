@@ -54,7 +54,7 @@ AFTER = """<script>
     for (const option of select.options) {
       choose(select, option.value);
       clicks++;
-      const wanted = [...document.querySelectorAll('article')].filter(a => !option.value || a.dataset[name] === option.value);
+      const wanted = [...document.querySelectorAll('article')].filter(a => !option.value || a.dataset[name].split(/[|\\t]/).includes(option.value));
       wants(`${name} ${option.value}`, visible().length, wanted.length);
     }
     press('Escape');

@@ -74,7 +74,7 @@ class Picture:
         for interval in sorted(nearest[:MOST_BOXES], key=lambda interval: (interval in plain, interval)):
             box = self._placed(interval, named, left.get(interval, []))
             low, high = box.low, box.high
-            reach = high if box.holds_name or not box.name else high + LETTER * len(box.name) + 4
+            reach = high if box.holds_name or not box.name else high + LETTER * len(box.name) + (14 if box.shape else 4)
             if reach > WIDTH:
                 box, reach = box._replace(name=""), high
             row = next((at for at, taken in enumerate(rows) if all(reach + 2 < a or low > b + 2 for a, b in taken)), len(rows))
