@@ -64,6 +64,11 @@ def is_header(line: str) -> bool:
     return not line or line[0] == "#" or line in ("track", "browser") or line.startswith(("track ", "browser "))
 
 
+def headers_of(path: Path) -> list[str]:
+    """The header and comment lines of a BED file."""
+    return [line for line in lines_of(path, BEGINS) if is_header(line)]
+
+
 def is_plain(path: Path) -> bool:
     """Whether the program can read a file as it is, and we as often as we want."""
     if not os.path.isfile(path):
@@ -78,8 +83,8 @@ def plain(path: Path, folder: str) -> str:
     if name != "-" and is_plain(name):
         return name
     target = os.path.join(folder, f"plain-{len(os.listdir(folder))}")
-    with open(target, "wb") as copy:
-        copy.write(read_bytes(name))
+    with opened(name) as file, open(target, "wb") as copy:
+        shutil.copyfileobj(file, copy)
     return target
 
 
@@ -89,18 +94,24 @@ class Bed:
     path:    as it was given
     source:  the path of the same file, unpacked
     width:   of its first record, or of the first one that is added to a file without a record; 0 if there is neither
-    narrow:  the path of a file with its first six columns, which the program can read
+    narrow:  the path of a file with its first six columns, which the program can read; of the same file if it is no BED file, so
+             that the program says what it is
     option:  what `-width` has to be for it, if it has no record
-    headers: its header and comment lines
     """
 
     def __init__(self, path: Path, folder: str) -> None:
         self.path = os.fspath(path)
         self.source = plain(path, folder)
-        self.headers = [line for line in self._lines(BEGINS) if line and is_header(line)]
-        self.width = next((row.count("\t") + 1 for row in self.rows()), 0)
+        first = next(self.rows(), "").split("\t")
+        self.width = len(first) if first != [""] else 0
         self.option: Optional[int] = None
-        self.narrow = self._cut(folder) if self.width > WIDEST else self.source
+        is_bed = all(text.isascii() and text.isdigit() for text in first[1:NARROWEST])
+        self.narrow = self._cut(folder) if self.width > WIDEST and is_bed else self.source
+
+    @property
+    def headers(self) -> list[str]:
+        """Its header and comment lines."""
+        return headers_of(self.source)
 
     @property
     def is_wide(self) -> bool:
@@ -114,19 +125,16 @@ class Bed:
 
     def rows(self) -> Iterator[str]:
         """The lines that have a record."""
-        return (line for line in self._lines() if line and (line[0] not in "#tb" or not is_header(line)))
+        return (line for line in lines_of(self.source) if line and (line[0] not in "#tb" or not is_header(line)))
 
     def named(self, message: str) -> str:
         """A message of the program with the name of this file."""
         return message.replace(f"{self.narrow}: ", f"{self.path}: ")
 
-    def _lines(self, begins: Optional[bytes] = None) -> Iterator[str]:
-        return lines_of(self.source, begins)
-
     def _cut(self, folder: str) -> str:
         target = os.path.join(folder, f"narrow-{len(os.listdir(folder))}")
         with open(target, "wb") as file:
-            for number, line in enumerate(self._lines(), 1):
+            for number, line in enumerate(lines_of(self.source), 1):
                 if is_header(line):
                     file.write(b"\n")
                     continue

@@ -1,7 +1,6 @@
 """Finds records of a session without a print of all: in the BED file that it read, and in the edits since."""
 from __future__ import annotations
 
-import mmap
 import os
 import re
 from collections import Counter
@@ -16,7 +15,7 @@ from .script import Script
 from .sources import Genome, lengths_of
 
 PIECE = 1 << 20
-FEW = 4  # names that are looked for one after another
+FEW = 12  # names that are looked for one after another
 HEADER = re.compile(rb"^(?:#.*|(?:track|browser)(?: .*)?)?\r?$", re.MULTILINE)
 MAY_BE_HEADER = re.compile(rb"\n[#tb\r\n]")
 
@@ -64,7 +63,7 @@ class Lookup:
         return self._count + self.changes.added
 
     def named(self, names: Iterable[str]) -> dict[str, list[Record]]:
-        """The records of each name as they are after the edits, in track order, copies as often as they are there."""
+        """The records of each name as they are after the edits, in track order, each copy."""
         wanted = set(names)
         found: dict[str, Counter[Record]] = {name: Counter() for name in wanted}
         for record in _named(self._bed, wanted):
@@ -74,7 +73,7 @@ class Lookup:
         return {name: self._sorted(counted) for name, counted in found.items()}
 
     def search(self, part: str) -> list[Record]:
-        """The records that have this in their names, in any case, in track order, copies as often as they are there."""
+        """The records that have this in their names, in any case, in track order, each copy."""
         folded = part.casefold()
         counted = Counter(_with(self._bed, folded))
         changes = self.changes
@@ -106,23 +105,18 @@ def _count(lines: bytes) -> int:
 
 
 def _named(bed: str, names: set[str]) -> Iterator[Record]:
-    """The records of a BED file that have one of the names: it is gone through once for each if they are few, else line by line."""
-    if len(names) > FEW:
-        yield from _of_names(bed, names)
-        return
-    for name in names:
-        pattern = re.compile(rb"\t" + re.escape(encoded(name)) + rb"(?=[\t\r\n]|\Z)")
-        yield from (record for record in _matched(bed, pattern) if record[3] == name)
-
-
-def _of_names(bed: str, names: set[str]) -> Iterator[Record]:
+    """The records of a BED file that have one of the names. Few names are looked for in the text, others line by line."""
     wanted = set(map(encoded, names))
     with open(bed, "rb") as file:
+        while len(wanted) <= FEW and (piece := file.read(PIECE) + file.readline()):
+            for name in wanted:
+                yield from (record for record in map(_record, _containing(piece, piece, b"\t" + name))
+                            if record and encoded(record[3]) == name)
         for line in file:
             columns = line.split(b"\t", 4)
             if len(columns) > 3 and columns[3].rstrip(b"\r\n") in wanted:
                 record = _record(line)
-                if record and record[3] in names:
+                if record:
                     yield record
 
 
@@ -130,36 +124,19 @@ def _with(bed: str, part: str) -> Iterator[Record]:
     """The records of a BED file that have the folded text in their folded names."""
     with open(bed, "rb") as file:
         while piece := file.read(PIECE) + file.readline():
-            for line in _containing(piece, part) if part.isascii() else re.findall(rb".*\n?", piece):
+            for line in _containing(piece, piece.lower(), encoded(part)) if part.isascii() else re.findall(rb".*\n?", piece):
                 record = _record(line)
                 if record and part in record[3].casefold():
                     yield record
 
 
-def _containing(lines: bytes, part: str) -> Iterator[bytes]:
-    """Those of the lines that have a text of ASCII letters in them, in any case."""
-    lower, wanted = lines.lower(), encoded(part)
-    place = lower.find(wanted)
+def _containing(lines: bytes, searched: bytes, part: bytes) -> Iterator[bytes]:
+    """Those of the lines that have some bytes in the text that is searched, which is of the same length."""
+    place = searched.find(part)
     while 0 <= place < len(lines):
         end = lines.find(b"\n", place) + 1 or len(lines)
         yield lines[lines.rfind(b"\n", 0, place) + 1:end]
-        place = lower.find(wanted, end)
-
-
-def _matched(bed: str, pattern: re.Pattern[bytes]) -> Iterator[Record]:
-    """The records with a name of the lines in which a pattern is found."""
-    if not os.path.getsize(bed):
-        return
-    with open(bed, "rb") as file, mmap.mmap(file.fileno(), 0, access=mmap.ACCESS_READ) as text:
-        before = -1
-        for found in pattern.finditer(text):
-            begin = text.rfind(b"\n", 0, found.start()) + 1
-            if begin != before:
-                end = text.find(b"\n", begin)
-                record = _record(text[begin:] if end < 0 else text[begin:end + 1])
-                before = begin
-                if record:
-                    yield record
+        place = searched.find(part, end)
 
 
 def _record(line: bytes) -> Optional[Record]:

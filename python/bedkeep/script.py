@@ -48,6 +48,9 @@ def edits_of(lines: Union[str, Iterable[str]]) -> str:
         text = lines if lines.endswith("\n") or not lines else f"{lines}\n"
     else:
         listed = list(lines)
+        for line in listed:
+            if not isinstance(line, str):
+                raise TypeError(f"a line of a script is text with TABs, and not {line!r}")
         text = "\n".join([*listed, ""])
         if text.count("\n") != len(listed):
             text = "\n".join([*(line.rstrip("\n") for line in listed), ""])

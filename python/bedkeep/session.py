@@ -15,7 +15,7 @@ from typing import Any, Callable, Iterable, Iterator, Optional, Sequence, TypeVa
 from .conversation import Answer, Conversation, Take
 from .corrections import TOGETHER
 from .errors import Ended, Refused
-from .files import BEGINS, is_header, lines_of, same_file, whole
+from .files import headers_of, is_plain, same_file, whole
 from .interrupts import Interrupts
 from .lookup import Lookup, stamp
 from .placement import Looks, write_placed
@@ -101,6 +101,8 @@ class Session:
                 self.width = self._find_width("remove", loads=True)
             except Ended as failure:
                 self.end()
+                if not wide and any(map(_needs_wide, (bed, second))):
+                    failure.hint = ("wide=True takes files of more than six columns, and those that gzip packed",)
                 raise sources.renamed(self._wide.named(failure) if self._wide else failure) from None
             except BaseException:
                 self.end()
@@ -451,8 +453,7 @@ class Session:
         if stamp(self._source) != self._source_read:
             raise ValueError(f"{self._files['-i']} was written again since it was read, so where its lines were isn't known")
         if sorted:
-            headers = (line for line in lines_of(self._source, BEGINS) if is_header(line))
-            take(encoded("".join(f"{line}\n" for line in headers)))
+            take(encoded("".join(f"{line}\n" for line in headers_of(self._source))))
             self._print_track(take)
             return
         lengths = self.lengths or dict.fromkeys((record[0] for record in self._all()), LONGEST)
@@ -605,6 +606,13 @@ class Session:
             self.close(mine[0])
             self.open(name, words)
         return name
+
+
+def _needs_wide(track: Track) -> bool:
+    """Whether it is a file that only a wide session takes."""
+    if not isinstance(track, (str, os.PathLike)) or not os.path.isfile(track):
+        return False
+    return not is_plain(track) or (width_of(track) or 0) > WIDEST
 
 
 def _columns(record: object) -> list[str]:

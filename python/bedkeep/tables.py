@@ -125,7 +125,7 @@ def _column(place: int, values: Any) -> Any:
     if place == SCORE:
         return values.map(score_of, na_action="ignore")
     if not (values == values.round()).all():
-        raise ValueError(f"a {RECORD[place]} of the table is no whole number")
+        raise ValueError(f"the table's column {RECORD[place]} has numbers that aren't whole")
     return values.astype("int64")
 
 

@@ -314,6 +314,8 @@ class Types(Case):
             for lines in self.folder / "corrections", b"add\tchr1\t1\t2\tx", {"add\tchr1\t1\t2\tx": 1}, [("add", "chr1")], 5:
                 with self.subTest(lines), self.assertRaises(TypeError):
                     session.edit(lines)
+            with self.assertRaisesRegex(TypeError, "text with TABs, and not .'add'"):
+                session.edit([("add", "chr1", 1, 2)])
             for lines in "corrections", str(self.folder / "corrections"):
                 with self.assertRaisesRegex(ValueError, "no line of a script"):
                     session.edit(lines)

@@ -476,6 +476,20 @@ class Ends(Case):
         with self.assertRaises(ValueError):
             bedkeep.Session(self.sizes, "/dev/stdin")
 
+    def test_files_that_a_wide_session_takes(self):
+        packed = self.file("genes.bed.gz", gzip.compress(self.genes.read_bytes()))
+        eight = self.file("eight.bed", "chr1\t1\t2\tx\t0\t+\t1\t2\n")
+        for bed, second in (packed, None), (eight, None), (self.genes, eight):
+            with self.assertRaises(bedkeep.Ended) as caught:
+                bedkeep.Session(self.sizes, bed, second)
+            self.assertRegex(str(caught.exception), "wide=True")
+            bedkeep.Session(self.sizes, bed, second, wide=True).close()
+        other = self.file("other.gff", "chr1\tsource\tgene\t10\t20\t.\t+\t.\tID=x\n")
+        for wide in False, True:
+            with self.assertRaisesRegex(bedkeep.Damaged, "wrong number of columns") as caught:
+                bedkeep.Session(self.sizes, other, wide=wide)
+            self.assertEqual(caught.exception.file, str(other))
+
     def test_where_the_program_is(self):
         for program in self.folder / "absent", self.sizes:
             with self.assertRaises(bedkeep.NotFound):
