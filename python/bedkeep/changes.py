@@ -1,6 +1,7 @@
 """What edits changed, counted line by line, so that a question about it costs the same after any number of them."""
 from __future__ import annotations
 
+from collections import Counter
 from collections.abc import Mapping
 from typing import Iterator, Optional, Sequence
 
@@ -20,6 +21,7 @@ class Changes:
         self._given = lengths
         self._resized: dict[str, list[int]] = {}  # the lengths that a sequence got, one after another
         self._by_name: dict[str, dict[Record, int]] = {}
+        self._second: Counter[Record] = Counter()  # by the edits of the second file
 
     def do(self, command: str, fields: Sequence[str]) -> None:
         """Counts a line that was done."""
@@ -37,9 +39,9 @@ class Changes:
         else:
             self._count(command, fields, -1)
 
-    def net(self, record: Record) -> int:
-        """The copies of a record that the edits put in, less those that they took out."""
-        return self._by_name.get(name_of(record), {}).get(record, 0)
+    def net(self, record: Record, second: bool = False) -> int:
+        """The copies of a record that the edits put into the track, or the second file, less those that they took out."""
+        return self._second[record] if second else self._by_name.get(name_of(record), {}).get(record, 0)
 
     def names(self) -> Iterator[str]:
         """The names of the records whose number of copies differs."""
@@ -65,13 +67,18 @@ class Changes:
             self.lengths[sequence] = resized[-1] if resized else self._given_length(sequence)
 
     def _count(self, command: str, fields: Sequence[str], copies: int) -> None:
-        half = len(fields) // 2 if command == "replace" else 0
-        if command in ("remove", "replace"):
-            self._change(record_of(fields[:half or len(fields)]), -copies)
-        if command in ("add", "replace"):
-            self._change(record_of(fields[half:]), copies)
+        second = command.endswith("b")
+        kind = command[:-1] if second else command
+        half = len(fields) // 2 if kind == "replace" else len(fields)
+        if kind != "add":
+            self._change(record_of(fields[:half]), -copies, second)
+        if kind != "remove":
+            self._change(record_of(fields[-half:]), copies, second)
 
-    def _change(self, record: Record, copies: int) -> None:
+    def _change(self, record: Record, copies: int, second: bool) -> None:
+        if second:
+            self._second[record] += copies
+            return
         self.added += copies
         name = name_of(record)
         counted = self._by_name.setdefault(name, {})

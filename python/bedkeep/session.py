@@ -149,6 +149,11 @@ class Session:
         columns = _columns(record)
         return not self._send(line_of("replace", *columns, *columns))
 
+    def has_second(self, record: Columns) -> bool:
+        """Whether the second file has the record. False if there is no such file."""
+        columns = _columns(record)
+        return not self._send(line_of("replaceb", *columns, *columns))
+
     def __repr__(self) -> str:
         return f"<bedkeep.Session of {self._files['-i']}: {', '.join(self._state())}>"
 
@@ -390,9 +395,12 @@ class Session:
         return width_of(self._files.get("-b", "")) or 0 if second else self.width
 
     @alone
-    def net(self, record: Columns) -> int:
-        """How many copies of a record the edits put in, less those that they took out. Of its columns the first six count."""
-        return self._lookup.changes.net(record_of(_columns(record)))
+    def net(self, record: Columns, second: bool = False) -> int:
+        """How many copies of a record the edits put in, less those that they took out. Of its columns the first six count.
+
+        second: into the second file
+        """
+        return self._lookup.changes.net(record_of(_columns(record)), second)
 
     @property
     @alone

@@ -49,9 +49,12 @@ class Edits(Case):
             session.remove_second("chr1", 150, 350)
             session.replace_second(("chr1", 0, 110), ("chr1", 0, 120))
             self.assertEqual(session.view("intersect"), [("chr1", 100, 120, "geneA")])
+            for record, there, net in (("chr1", 0, 120), True, 1), (("chr1", 150, 350), False, -1), (("chr1", 0, 110), False, 0):
+                self.assertEqual((session.has_second(record), session.net(record, second=True), session.net(record)), (there, net, 0))
             with self.refused("no such record"):
                 session.remove_second("chr1", 150, 350)
         with self.session() as session, self.refused("no second file"):
+            self.assertFalse(session.has_second(("chr1", 0, 110)))
             session.add_second("chr1", 0, 110)
 
     def test_a_refused_line_has_a_hint(self):
