@@ -116,14 +116,18 @@ class Model:
         out += lines
 
 
-def some_record(chance, width):
+def some_record(chance, width, few=False):
+    """A record of three to six columns, or of eight. few: one of a few."""
+    if few:
+        return "\t".join(["chr1", "10", chance.choice(["20", "25"]), "a", "0", "+", chance.choice("xyz"), "t"][:max(width, 3)])
     sequence = chance.choice([*LENGTHS, "chr1", "chr1"])
     start = chance.randrange(0, LENGTHS[sequence], 10)
     end = min(start + chance.choice([5, 10, 15]), LENGTHS[sequence])
-    return "\t".join([sequence, str(start), str(end), chance.choice("abA"), chance.choice(["0", "1"]), chance.choice("+-")][:width])
+    columns = [sequence, str(start), str(end), chance.choice("abA"), chance.choice(["0", "1"]), chance.choice("+-"), chance.choice("xy"), "t"]
+    return "\t".join(columns[:width])
 
 
-def some_file(chance, width):
+def some_file(chance, width, few=False):
     ends = chance.choice([["\n"], ["\n"], ["\r\n"], ["\n", "\r\n"]])
     lines = []
     for _ in range(chance.choice([0, 1, 2, 12, 12, 25])):
@@ -133,21 +137,21 @@ def some_file(chance, width):
         elif kind < 0.3 and lines:
             lines.append(chance.choice(lines))
         else:
-            columns = some_record(chance, width).split("\t")
+            columns = some_record(chance, width, few).split("\t")
             columns[1] = chance.choice(["", "", "0", "00"]) + columns[1]
             lines.append("\t".join(columns))
     text = "".join(line + chance.choice(ends) for line in lines)
     return (text[:-1] if chance.random() < 0.3 and text.endswith("\n") and not text.endswith("\r\n") else text).encode()
 
 
-def some_moves(chance, model, width, count):
+def some_moves(chance, model, width, count, few=False):
     """Moves that fit, some of them back to records that were there before."""
-    known = [copy.record for copy in model.copies] + [some_record(chance, width) for _ in range(3)]
+    known = [copy.record for copy in model.copies] + [some_record(chance, width, few) for _ in range(3)]
     for _ in range(count):
         there = sorted(model.track())
         kind = chance.choice(["add", "remove", "replace", "replace"]) if there else "add"
         old = chance.choice(there) if kind != "add" else None
-        new = None if kind == "remove" else chance.choice(known) if chance.random() < 0.5 else some_record(chance, width)
+        new = None if kind == "remove" else chance.choice(known) if chance.random() < 0.5 else some_record(chance, width, few)
         model.move(old, new)
         yield old, new
 
@@ -165,9 +169,9 @@ class Random(Case):
     """Without the program: the model answers what the session is asked."""
 
     def placed(self, path, model, moves):
-        track = Counter(tuple(record.split("\t")) for record in model.track().elements())
-        net = Counter(tuple(new.split("\t")) for _, new in moves if new)
-        net.subtract(tuple(old.split("\t")) for old, _ in moves if old)
+        track = Counter(tuple(record.split("\t")[:6]) for record in model.track().elements())
+        net = Counter(tuple(new.split("\t")[:6]) for _, new in moves if new)
+        net.subtract(tuple(old.split("\t")[:6]) for old, _ in moves if old)
 
         def around(regions):
             listed = list(regions)
@@ -181,11 +185,11 @@ class Random(Case):
 
     def test_many_files_and_scripts(self):
         chance = random.Random(17)
-        for number in range(700):
-            width = chance.randrange(3, 7)
-            text = some_file(chance, width)
+        for number in range(900):
+            width, few = chance.choice([3, 4, 5, 6, 8]), number % 3 == 0
+            text = some_file(chance, width, few)
             model = Model(text)
-            moves = list(some_moves(chance, model, width, chance.choice([0, 1, 2, 5, 9])))
+            moves = list(some_moves(chance, model, width, chance.choice([0, 1, 2, 5, 9, 14]), few))
             path = self.file("random.bed", text)
             sizes = {"SMALL": chance.choice([0, 1 << 22]), "PIECE": chance.choice([1, 40, 1 << 16]), "REACH": chance.choice([1, 64, 4096])}
             with self.subTest(number, text=text, moves=moves), mock.patch.multiple(placement, **sizes):
