@@ -59,12 +59,13 @@ def _tail(columns: Sequence[str]) -> str:
 class Unfit(Exception):
     """An edit that isn't done for the columns after the sixth.
 
-    reason: why, in words; hint: lines about it; offer: the record of all columns that would fit instead of the new one, if any
+    reason: why, in words; hint: lines about it
+    offer:  the records of a `replace` that would fit, the old one and the new one, with all their columns; or none
     """
 
-    def __init__(self, reason: str, hint: Sequence[str] = (), offer: Optional[Record] = None) -> None:
+    def __init__(self, reason: str, hint: Sequence[str] = (), offer: Sequence[str] = ()) -> None:
         super().__init__(reason)
-        self.reason, self.hint, self.offer = reason, tuple(hint), offer
+        self.reason, self.hint, self.offer = reason, tuple(hint), tuple(offer)
 
 
 class Step(NamedTuple):
@@ -140,7 +141,7 @@ class Tails:
         spoiled = ", ".join(self._spoiled(old, taken, new, put))
         if spoiled and not leave:
             followed = follow(old, taken, new) if old else None
-            raise Unfit(spoiled, (), (*new, *followed.tail.split("\t")[1:]) if followed and not followed.fault else None)
+            raise Unfit(spoiled, (), _offer(old, taken, "\t".join(new) + followed.tail) if old and followed and not followed.fault else ())
         return Step(old, taken, new, put, spoiled)
 
     def do(self, step: Step) -> None:
@@ -162,7 +163,7 @@ class Tails:
         if followed.fault and "score" in self._kinds:
             followed = follow(old, tail, new, ("score",))
         if followed.fault and not leave:
-            raise Unfit(followed.fault, (), followed.offer)
+            raise Unfit(followed.fault, (), _offer(old, tail, "\t".join(followed.offer)) if followed.offer else ())
         return Step(old, tail, new, followed.tail, followed.fault)
 
     def _spoiled(self, old: Optional[Record], taken: str, new: Record, put: str) -> list[str]:
@@ -193,6 +194,10 @@ class Tails:
 
     def _sample(self) -> Iterator[tuple[Record, str]]:
         return islice(chain.from_iterable(zip(repeat(record), tails) for record, tails in self._file.items()), SAMPLE)
+
+
+def _offer(old: Record, tail: str, new: str) -> Sequence[str]:
+    return "\t".join(old) + tail, new
 
 
 def _unlike(record: Record, tail: str, tails: Sequence[str]) -> str:

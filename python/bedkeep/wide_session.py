@@ -191,7 +191,7 @@ class Wide:
         try:
             step = tails.plan(old, new, old_tail, new_tail, self._leave)
         except Unfit as unfit:
-            offer = [f"{command}\t" + "\t".join([*(old or ())]) + (old_tail or "") + "\t" + "\t".join(unfit.offer)] if unfit.offer else []
+            offer = ["\t".join([command, *unfit.offer])] if unfit.offer else []
             return Plan("", None, unfit.reason, [*unfit.hint, *offer], True)
         if step:
             tails.do(step)

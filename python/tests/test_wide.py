@@ -192,16 +192,17 @@ add chr2 1 9 x 0 + 1 9 0 2 8 0
 replace chr2 5 50 geneC 0 . chr2 5 60 geneC 0 . 10 20 0,0,0 1 45, 0,
 add chr2 1 9 x 0 + a b c d e f
 replace chr2 5 50 geneC 0 . chr2 5 25 geneC 1001 ."""
+        gene = BED12.split("\n")[0]
         expected = [
             (1, "thickEnd 190 is outside of the record", [
-                "replace chr1 100 200 geneA 0 + chr1 100 185 geneA 0 + 110 185 255,0,0 2 20,15, 0,70,"]),
+                f"replace {gene} chr1 100 185 geneA 0 + 110 185 255,0,0 2 20,15, 0,70,"]),
             (2, "the start 130 is between blocks 1 and 2 of 2", [
-                "replace chr1 100 200 geneA 0 + chr1 170 200 geneA 0 + 170 190 255,0,0 1 30, 0,"]),
+                f"replace {gene} chr1 170 200 geneA 0 + 170 190 255,0,0 1 30, 0,"]),
             (3, "thickStart 110 is outside of the record", [
-                "replace chr1 100 200 geneA 0 + 110 190 255,0,0 2 20,30, 0,70, chr1 115 195 geneA 0 + 115 190 255,0,0 2 5,25, 0,55,"]),
+                f"replace {gene} chr1 115 195 geneA 0 + 115 190 255,0,0 2 5,25, 0,55,"]),
             (4, "blockCount 2 is not the number of blocks", []),
             (5, "blocks end 45 after the start, the record 55", [
-                "replace chr2 5 50 geneC 0 . chr2 5 60 geneC 0 . 10 20 0,0,0 1 55, 0,"]),
+                "replace chr2 5 50 geneC 0 . 10 20 0,0,0 1 45, 0, chr2 5 60 geneC 0 . 10 20 0,0,0 1 55, 0,"]),
             (6, "the columns from the seventh on are not those of BED12", []), (7, "score 1001 is not from 0 to 1000", [])]
         with self.wide(tabs(BED12)) as session:
             self.assertEqual(self.answers(session, lines), expected)
@@ -243,7 +244,7 @@ replace chr1 100 200 peak1 0 . chr1 120 210 peak1 0 .
 replace chr1 120 210 peak1 0 . chr1 130 220 peak1 0 .
 replace chr1 300 400 peak2 7 . chr1 300 310 peak2 7 .
 add chr2 1 2 x 0 ."""), [(1, "the summit at base 199 is outside of the record", [
-                "replace chr1 100 200 peak1 0 . chr1 100 199 peak1 0 . 5.5 -1 2.25 -1"])])
+                "replace chr1 100 200 peak1 0 . 5.5 -1 2.25 99 chr1 100 199 peak1 0 . 5.5 -1 2.25 -1"])])
             self.assertEqual(self.lines(session), ["chr1 130 220 peak1 0 . 5.5 -1 2.25 79", "chr1 300 310 peak2 7 . 1e3 -1 -1 -1",
                                                    "chr2 1 2 x 0 . 0 -1 -1 -1"])
 
