@@ -1,38 +1,49 @@
 """Why a line no longer fits: the class of each line of a script over a file, with the record that it is about.
 
 `Classifier` goes through the lines a second time, after the program's verdicts, over the track as it is once the lines above are
-mended; so a chain of corrections (X to Y, then Y to Z) can be mended whole.
+mended; so a chain of corrections (X to Y, then Y to Z) can be mended whole. A line whose record isn't there is merged with the
+record that another release made of it (see `merge`): the only one of the same name that overlaps it, or of two the nearer one. A
+record without a name has to be at the same place, or to have the other columns.
 """
 from __future__ import annotations
 
-from collections import Counter, defaultdict, deque
-from typing import Any, Callable, Iterable, Iterator, Mapping, NamedTuple, Optional, Sequence
+from collections import defaultdict, deque
+from itertools import groupby
+from typing import Any, Callable, Collection, Iterator, Mapping, NamedTuple, Optional, Sequence
 
-from .corrections import Line
-from .records import Record, differing, distance, name_of, overlap, strand_of
+from .carry import APART, DIFFERS
+from .corrections import ABSENT, Line
+from .formats import default_tail, follow, worse
+from .merge import Version, merge
+from .records import NAMELESS, WIDEST, Record, differing, distance, name_of, strand_of
 from .rows import RECORD
 from .tracks import Track
 
 FITS = "fits"  # it is done
-THERE = "already there"  # an `add` that is done, of a record that the file has
-IGNORED = "fits but for"  # it fits but for the column that may differ
-SO = "already so"  # the file has the new record, and the old one is gone
-CHANGED = "changed"  # the record has another name, score or strand
+THERE = "already there"  # an `add` that isn't done, of a record that the file has
+IGNORED = "fits but for"  # it fits but for the columns that may differ
+SO = "already so"  # the file has what the line asks for
+CHANGED = "changed"  # the record has another name, score or strand, or other columns after the sixth
 MOVED = "moved"  # the record is at another place
+CONFLICT = "conflict"  # both changed one field, or two records fit equally: a person has to settle it
 TAKEN = "taken out"  # a line above took the record
 FOLLOWS = "follows"  # it fits as soon as a line above is mended
 GONE = "gone"
 BAD = "bad line"  # it is no correction of this file
+NAME = RECORD.index("name")
+DOABLE = {FITS, THERE, IGNORED, SO, CHANGED, MOVED, FOLLOWS}
 
 
 class Finding(NamedTuple):
     """What a line is about.
 
     kind:   one of the classes above
-    found:  the record that is there
+    found:  the record that is there; of a line that is `gone` one to look at
+    tail:   its columns after the sixth
     mended: the line that fits, or nothing
     by:     the line of the script that it is about
     note:   what else is to be said
+    unlike: the fields of a conflict
     """
 
     line: Line
@@ -41,6 +52,8 @@ class Finding(NamedTuple):
     mended: str = ""
     by: Optional[Line] = None
     note: str = ""
+    tail: str = ""
+    unlike: tuple[str, ...] = ()
 
     @property
     def asked(self) -> Optional[Record]:
@@ -57,50 +70,82 @@ class Finding(NamedTuple):
         return self.kind not in (FITS, THERE, IGNORED)
 
 
-class Tier(NamedTuple):
-    """Records that may be meant.
-
-    kind: the class if it is one of them; key: what is least for the best of them; sure: whether it is hardly another record
-    """
-
-    kind: str
-    records: list[Record]
-    key: Callable[[Record], Any]
-    sure: bool
-
-
 class Classifier:
-    """Goes through the lines of one file's track, in their order, and says what each is about.
+    """Says what each line is about. sides: of the track, and of the second file if there is one."""
 
-    lines: all edits of this file; lengths: of the genome file; ignore: the column that may differ; copies: whether an `add` of a
-    record that is there is done
+    def __init__(self, track: Side, second: Optional[Side] = None) -> None:
+        self._track, self._second = track, second
+        self._sides = [track, second] if second else [track]
+
+    def look(self, lines: Sequence[Line]) -> Iterator[Finding]:
+        """Says what each line is about, and carries it out, mended if it can be; the lines of a group all or none."""
+        for group, together in groupby(lines, key=lambda line: line.group):
+            if group:
+                yield from self._look_together(list(together))
+            else:
+                yield from map(self._look, together)
+
+    def _look(self, line: Line) -> Finding:
+        if line.command == "resize":
+            return [side.look(line) for side in self._sides][0]
+        return (self._second if line.is_second and self._second else self._track).look(line)
+
+    def _look_together(self, lines: Sequence[Line]) -> list[Finding]:
+        """The findings of a group's lines. If one can't be mended the others stay out too."""
+        marks = [side.mark() for side in self._sides]
+        findings = [self._look(line) for line in lines]
+        wrong = next((finding for finding in findings if finding.kind not in DOABLE), None)
+        if not wrong:
+            return findings
+        for side, mark in zip(self._sides, marks):
+            side.back_to(mark, lines)
+        note = f"not done, since line {wrong.line.place} isn't"
+        return [Finding(finding.line, CONFLICT, finding.found, by=wrong.line, note=note)
+                if finding.kind in (FITS, IGNORED, CHANGED, MOVED, FOLLOWS) else finding for finding in findings]
+
+
+class Side:
+    """Goes through the lines of one file's track, in their order.
+
+    track: the records near the lines; lines: all edits of this file; lengths: of the genome file; ignore: the columns that may
+    differ; copies: whether an `add` of a record that is there is done; leave_blocks: whether a line is done that leaves columns
+    after the sixth which can't hold
     """
 
-    def __init__(self, track: Track, lines: Sequence[Line], lengths: Mapping[str, int], ignore: Optional[int] = None,
-                 copies: bool = True) -> None:
-        self._track, self._ignore, self._copies = track, ignore, copies
-        self._lengths = dict(lengths)
-        self._takers: dict[Record, Line] = {}
-        self._makers: dict[Record, Line] = {}
-        self._heirs: dict[Record, Record] = {}  # what a mended line put instead of its new record
-        # How many lines below take a record that the program had for them: a mended line leaves it to them.
-        self._reserved = Counter(line.old for line in lines if line.old and not line.refusal)
+    def __init__(self, track: Track, lines: Sequence[Line], lengths: Mapping[str, int], ignore: Collection[int] = (),
+                 copies: bool = False, leave_blocks: bool = False) -> None:
+        self._track, self._ignore, self._copies, self._leave_blocks = track, set(ignore), copies, leave_blocks
+        self._known = Memory(lengths)
         self._next: dict[Record, deque[Line]] = defaultdict(deque)
+        self._names: dict[Record, dict[int, set[Optional[str]]]] = defaultdict(dict)  # which lines name a record, with which tail
         for line in lines:
             if line.old:
                 self._next[line.old].append(line)
-        self._is_corrected = self._has_all(line for line in lines if line.new and (line.refusal or not line.old))
+            for record, tail in (line.old, line.old_tail), (line.new, line.new_tail):
+                if record:
+                    self._names[record].setdefault(line.number, set()).add(tail)
+
+    def mark(self) -> tuple[int, int]:
+        """A point to go back to."""
+        return self._track.mark(), self._known.mark()
+
+    def back_to(self, mark: tuple[int, int], lines: Sequence[Line]) -> None:
+        """Takes back what was done since then, of lines that aren't settled."""
+        self._track.back_to(mark[0])
+        self._known.back_to(mark[1])
+        for line in lines:
+            if line.new:
+                self._known.set(self._known.pending, line.new, line)
 
     def look(self, line: Line) -> Finding:
         """Says what a line is about, and carries it out, mended if it can be."""
         if line.command == "resize" and not line.refusal:
-            self._lengths[line.fields[0]] = int(line.fields[1])
+            self._known.set(self._known.lengths, line.fields[0], int(line.fields[1]))
             return Finding(line, FITS)
-        if not line.is_edit:
-            return Finding(line, BAD, note=line.message)
         if line.old:
             self._next[line.old].popleft()
-            self._reserved[line.old] -= not line.refusal
+        if not line.is_edit or line.refusal and line.refusal not in (ABSENT, DIFFERS) and not line.refusal.startswith(APART):
+            return Finding(line, BAD, note=line.message)
         finding = self._find(line)
         self._carry_out(finding)
         return finding
@@ -108,116 +153,226 @@ class Classifier:
     def _find(self, line: Line) -> Finding:
         old = line.old
         if old is None:
-            there = next((record for record in self._outcomes(line) if self._track.count_of_file(record)), None)
-            return Finding(line, THERE, there) if there else Finding(line, FITS)
-        if self._track.has(old):
-            return Finding(line, FOLLOWS, old, by=self._makers.get(old)) if line.refusal else Finding(line, FITS)
-        heir = self._heirs.get(old)
-        if heir and self._track.count(heir) > max(self._reserved[heir], 0):
-            kind = IGNORED if differing(old, heir) == [self._ignore] else CHANGED if heir[:3] == old[:3] else MOVED
-            return self._mended(line, kind, heir)._replace(by=self._makers[heir])
-        if old in self._takers:
-            return Finding(line, TAKEN, by=self._takers[old])
-        for record in self._outcomes(line):
-            if self._track.count_of_file(record):
-                return Finding(line, SO, record)
-        return self._candidate(line, old)
+            return self._find_added(line)
+        if self._track.has(old, line.old_tail):
+            return self._fitting(line)
+        heir = self._known.heirs.get(old)
+        if heir and heir.record and self._track.has(*heir):
+            return self._merged(line, heir)._replace(by=self._known.makers.get(heir.record))
+        if old in self._known.pending:
+            return Finding(line, CONFLICT, by=self._known.pending[old], note="its record would come of a line that isn't settled")
+        if old in self._known.takers and not self._beside(line):
+            return Finding(line, TAKEN, by=self._known.takers[old])
+        for version in self._outcomes(line):
+            held = self._track.of_file(*version)
+            if held:
+                return Finding(line, SO, version.record, tail=held.tail)
+        return self._candidate(line)
 
-    def _has_all(self, lines: Iterable[Line]) -> bool:
-        """Whether the file, before any line, has what comes of each of these lines, and of one at least."""
-        found = set()
-        for line in lines:
-            outcomes = list(self._outcomes(line))
-            last = outcomes[-1]
-            if not any(other.number > line.number and not other.new for other in self._next.get(last, ())):
-                found.add(any(self._track.count_of_file(record) for record in outcomes))
-        return found == {True}
+    def _find_added(self, line: Line) -> Finding:
+        new = line.new
+        assert new
+        if self._copies or self._known.net.get(new, 0) < 0:
+            return Finding(line, FOLLOWS if line.refusal else FITS)
+        if self._track.has(new, line.new_tail):
+            return Finding(line, THERE, new)
+        for version in self._outcomes(line):
+            if self._track.of_file(*version):
+                return Finding(line, THERE, version.record)
+        beside = [one for one in self._track.around(new) if name_of(one) == name_of(new) and name_of(one) not in NAMELESS
+                  and 0 <= self._known.net.get(one, 0) < self._track.count(one)]
+        if line.is_second or not beside:
+            return Finding(line, FOLLOWS if line.refusal else FITS)
+        nearest = min((distance(one, new), one) for one in beside)[1]
+        tail = self._track.first(nearest)
+        mine, theirs = Version(new, line.new_tail).fields, Version(nearest, tail).fields
+        unlike = tuple(name for name, text in mine.items() if theirs.get(name) != text)
+        return Finding(line, CONFLICT, nearest, note="the file has one of its name there", tail=tail, unlike=unlike)
 
-    def _outcomes(self, line: Line) -> Iterator[Record]:
+    def _fitting(self, line: Line) -> Finding:
+        """The finding of a line whose record is there, now that lines above are mended."""
+        if not line.refusal:
+            return Finding(line, FITS)
+        old = line.old or ()
+        tail = self._track.first(old, line.old_tail)
+        fault = self._fault(Version(old, tail), Version(line.new, line.new_tail)) if line.new else ""
+        return Finding(line, CONFLICT if fault else FOLLOWS, old, by=self._known.makers.get(old), note=fault, tail=tail)
+
+    def _outcomes(self, line: Line) -> Iterator[Version]:
         """The new record, and what lines below make of it."""
-        record, after = line.new, line.number
+        record, tail, after = line.new, line.new_tail, line.number
         while record:
-            yield record
+            yield Version(record, tail)
             later = next((other for other in self._next.get(record, ()) if other.number > after), None)
             if later is None:
                 return
-            record, after = later.new, later.number
+            record, tail, after = later.new, later.new_tail, later.number
 
-    def _candidate(self, line: Line, old: Record) -> Finding:
-        """The finding over the record that is likely to be meant; of two that fit as well none is mended."""
-        if self._ignore is not None:
-            agreeing = [record for record in self._track.at(old)
-                        if differing(old, record) == [self._ignore] and self._is_free(record)]
-            if len(agreeing) == 1:
-                return self._mended(line, IGNORED, agreeing[0])
-        for kind, records, key, sure in self._tiers(old):
-            best = _least([record for record in records if self._is_free(record)], key)
-            if best and not (sure or line.new) and self._is_corrected:
-                return Finding(line, SO, note="the file has the other corrections")
-            if len(best) == 1:
-                return self._mended(line, kind, best[0])
-            if best:
-                return Finding(line, kind, best[0], note=f"{len(best)} records fit as well")
-        return Finding(line, GONE) if line.new else Finding(line, SO, note="no record like it is there")
+    def _candidate(self, line: Line) -> Finding:
+        """The finding over the record that another release made of the line's; of two that fit equally none is taken."""
+        agreeing = [version for version in self._beside(line) if self._is_ignored(line, version)]
+        if len(agreeing) == 1:
+            return self._merged(line, agreeing[0])
+        best = _least(self._likely(line), lambda version: self._far(line, version))
+        if len(best) > 1:
+            return Finding(line, CONFLICT, best[0].record, note=f"{len(best)} records fit equally", tail=best[0].tail or "")
+        if best:
+            return self._merged(line, best[0])
+        here = min(self._beside(line), key=lambda version: self._far(line, version), default=None)
+        if line.new:
+            return Finding(line, GONE, here.record if here else None)
+        note = "another record is at its place" if here else "no record like it is there"
+        return Finding(line, SO, here.record if here else None, note=note)
 
-    def _tiers(self, old: Record) -> Iterator[Tier]:
-        """The records that may be meant, the likeliest first."""
-        def near(record: Record) -> object:
-            return record[0] != old[0], strand_of(record) != strand_of(old), distance(record, old)
+    def _likely(self, line: Line) -> list[Version]:
+        """The records that the line's may have become: of its name; without a name at its place, or with its other columns."""
+        old = line.old or ()
+        if name_of(old) not in NAMELESS:
+            return [version for version in self._free(line) if name_of(version.record) == name_of(old)]
+        if not line.new:
+            return []
+        return [version for version in self._free(line)
+                if version.record[:3] == old[:3] or len(old) > 4 and version.record[3:] == old[3:]]
 
-        def alike(record: Record) -> object:
-            return len(differing(old, record))
+    def _is_ignored(self, line: Line, version: Version) -> bool:
+        """Whether a record at the line's place differs in columns alone that may differ. A name counts if it is removed."""
+        unlike = set(differing(line.old or (), version.record))
+        return bool(unlike) and unlike <= self._ignore - (set() if line.new else {NAME})
 
-        def laps(record: Record) -> bool:
-            return overlap(record, old) and strand_of(record) == strand_of(old)
+    def _beside(self, line: Line) -> list[Version]:
+        """The records at the place of the line's."""
+        return [version for version in self._free(line) if version.record[:3] == (line.old or ())[:3]]
 
-        here = list(self._track.at(old))
-        named = [record for record in self._track.named(old) if record[:3] != old[:3]]
-        yield Tier(CHANGED, [record for record in here if name_of(record) == name_of(old)], alike, True)
-        yield Tier(MOVED, [record for record in named if laps(record)], near, True)
-        yield Tier(CHANGED, here, alike, False)
-        yield Tier(MOVED, named, near, False)
-        if not self._track.is_telling(old):
-            around = self._track.around(old)
-            yield Tier(MOVED, [record for record in around if laps(record) and name_of(record) == name_of(old)], near, False)
+    def _free(self, line: Line) -> list[Version]:
+        """The records of the file that overlap the line's, and that no other line names."""
+        found = []
+        for record in self._track.around(line.old or ()):
+            tails = self._track.all_of_file(record)
+            for tail in tails if line.old_tail is not None else tails[:1]:
+                if not self._is_named(record, tail, line):
+                    found.append(Version(record, tail))
+        return found
 
-    def _is_free(self, record: Record) -> bool:
-        """Whether the file has a copy that no line below has been given."""
-        return self._track.count_of_file(record) > max(self._reserved[record], 0)
+    def _is_named(self, record: Record, tail: str, line: Line) -> bool:
+        """Whether another line names a record."""
+        return any(number != line.number and (None in tails or tail in tails or line.old_tail is None)
+                   for number, tails in self._names.get(record, {}).items())
 
-    def _mended(self, line: Line, kind: str, found: Record) -> Finding:
+    def _far(self, line: Line, version: Version) -> tuple[bool, int, int]:
+        """How far a record is from the line's: for two that may be meant."""
+        old = line.old or ()
+        mine, theirs = Version(old, line.old_tail).fields, version.fields
+        unlike = sum(theirs.get(name) != text for name, text in mine.items())
+        return strand_of(version.record) != strand_of(old), distance(version.record, old), unlike
+
+    def _merged(self, line: Line, theirs: Version) -> Finding:
         """The line over the record that is there: what the correction leaves alone is as it is there."""
-        old, new = line.old, line.new
-        if old is None or new is None:
-            return Finding(line, kind, found, "\t".join([line.command, *found]))
-        merged = tuple(mine if was != mine else theirs for was, mine, theirs in zip(old, new, found))
-        if merged == found:
-            return Finding(line, SO, found, note="it has what the correction changes")
-        if not int(merged[1]) < int(merged[2]) <= self._lengths.get(merged[0], 0):
-            return Finding(line, kind, found, note="start and end of the mended record don't fit")
-        both = [RECORD[column] for column in differing(old, new) if found[column] not in (old[column], new[column])]
-        note = f"the file has another {' and '.join(both)} too" if both else ""
-        return Finding(line, kind, found, "\t".join([line.command, *found, *merged]) + (line.new_tail or ""), note=note)
+        old, new = line.old or (), line.new
+        found, tail = theirs.record, theirs.tail or ""
+        unlike = set(differing(old, found))
+        kind = IGNORED if unlike and unlike <= self._ignore else MOVED if old[:3] != found[:3] else CHANGED
+        if not new:
+            return Finding(line, kind, found, f"{line.command}\t{_columns(theirs, line.old_tail)}", tail=tail)
+        merged = merge(Version(old, line.old_tail), Version(new, line.new_tail), theirs, self._known.lengths)
+        if not merged.version:
+            return Finding(line, CONFLICT, found, note=merged.note, tail=tail, unlike=merged.unlike)
+        if merged.version.record == found and merged.version.tail in (None, tail):
+            return Finding(line, SO, found, note="it has what the correction changes", tail=tail)
+        fault = self._fault(theirs, merged.version)
+        if fault:
+            return Finding(line, CONFLICT, found, note=fault, tail=tail)
+        mended = f"{line.command}\t{_columns(theirs, line.old_tail)}\t{merged.version.columns}"
+        return Finding(line, kind, found, mended, tail=tail)
+
+    def _fault(self, old: Version, new: Version) -> str:
+        """Why the columns after the sixth can't hold, or can't follow if the line doesn't have them."""
+        if self._leave_blocks or not old.tail:
+            return ""
+        if new.tail is None:
+            return follow(old.record, old.tail, new.record, self._track.faults).fault
+        return ", ".join(worse(old.record, old.tail, new.record, new.tail, self._track.faults))
 
     def _carry_out(self, finding: Finding) -> None:
-        line = finding.line
-        old, new = line.old, line.new
-        if finding.mended:
-            fields = finding.mended.split("\t")[1:]
-            old = tuple(fields[:len(old or ())])
-            new = tuple(fields[len(old):2 * len(old)]) or None
-        elif finding.kind not in (FITS, FOLLOWS, THERE) or finding.kind == THERE and not self._copies:
+        """Changes the track, and keeps what lines below need to know."""
+        line, known = finding.line, self._known
+        if finding.kind == CONFLICT and line.new:
+            known.set(known.pending, line.new, line)
+        if finding.kind == SO and line.new and finding.found:
+            known.set(known.heirs, line.new, Version(finding.found, finding.tail))
+        if not finding.mended and finding.kind not in (FITS, FOLLOWS):
             return
-        self._track.do(line, old, new)
-        if line.old:
-            self._takers[line.old] = line
-        if new and line.new:
-            self._makers[new] = line
-            self._heirs[line.new] = new
+        done = line.again(finding.mended) if finding.mended else line
+        old, new = done.asked()
+        taken = ""
+        if old:
+            taken = self._track.take(old, done.old_tail)
+            known.move(old, -1)
+            known.set(known.takers, line.old or (), line)
+            if known.heirs.get(line.old or ()) == (old, taken):
+                known.set(known.heirs, line.old or (), Version(()))
+        if new:
+            tail = self._tail(done, old, taken, new)
+            self._track.put(new, tail, line)
+            known.move(new, 1)
+            known.set(known.makers, new, line)
+            known.set(known.heirs, line.new or (), Version(new, tail))
+
+    def _tail(self, line: Line, old: Optional[Record], taken: str, new: Record) -> str:
+        """The columns after the sixth of a record that a line puts in."""
+        if line.new_tail is not None:
+            return line.new_tail
+        if old:
+            return follow(old, taken, new).tail if taken else ""
+        return default_tail(new, line.width, self._track.format) if line.width > WIDEST else ""
 
 
-def _least(records: list[Record], key: Callable[[Record], Any]) -> list[Record]:
+class Memory:
+    """What lines below need to know of those above, so that it can be taken back.
+
+    takers:  the line that took a record, by the record as the line has it
+    makers:  the line that put a record in
+    heirs:   what a line put in instead of its new record
+    pending: the new records of lines that aren't settled
+    net:     the copies of a record that lines put in, less those that they took out
+    lengths: of the sequences
+    """
+
+    def __init__(self, lengths: Mapping[str, int]) -> None:
+        self.takers: dict[Record, Line] = {}
+        self.makers: dict[Record, Line] = {}
+        self.heirs: dict[Record, Version] = {}
+        self.pending: dict[Record, Line] = {}
+        self.net: dict[Record, int] = {}
+        self.lengths = dict(lengths)
+        self._before: list[tuple[dict[Any, Any], Any, Any]] = []
+
+    def set(self, where: dict[Any, Any], key: object, value: object) -> None:
+        self._before.append((where, key, where.get(key)))
+        where[key] = value
+
+    def move(self, record: Record, copies: int) -> None:
+        self.set(self.net, record, self.net.get(record, 0) + copies)
+
+    def mark(self) -> int:
+        """A point to go back to."""
+        return len(self._before)
+
+    def back_to(self, mark: int) -> None:
+        while len(self._before) > mark:
+            where, key, value = self._before.pop()
+            if value is None:
+                del where[key]
+            else:
+                where[key] = value
+
+
+def _columns(version: Version, tail: Optional[str]) -> str:
+    """A record as a line has it: with its columns after the sixth if the line has them."""
+    return "\t".join(version.record) + ((version.tail or "") if tail is not None else "")
+
+
+def _least(versions: list[Version], key: Callable[[Version], Any]) -> list[Version]:
     """All for which the key is least."""
-    keys = [key(record) for record in records]
+    keys = [key(version) for version in versions]
     first = min(keys, default=None)
-    return [record for record, value in zip(records, keys) if value == first]
+    return [version for version, value in zip(versions, keys) if value == first]

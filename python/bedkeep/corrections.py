@@ -175,7 +175,7 @@ class Line:
         if self.refusal.startswith("wrong number"):
             return f"{self.refusal}: {len(self.fields)} fields{self._needed()}"
         if self.refusal == ABSENT:
-            return ": ".join([ABSENT, " ".join(self._halves()[0]), *self.hints[:1]])
+            return ": ".join([ABSENT, " ".join(self._halves()[0]), *self.hints[:self.old_tail is not None]])
         if self.refusal not in COLUMN_OF:
             return f"{self.refusal}: {self.command}"
         halves, column = self._halves(), COLUMN_OF[self.refusal]

@@ -16,8 +16,7 @@ from .differences import Rows, differences
 from .errors import Error
 from .pairs import Change, changes
 from .program import encoded
-from .records import name_of, split_row
-from .tracks import NAMELESS
+from .records import NAMELESS, name_of, split_row
 
 
 class Difference:

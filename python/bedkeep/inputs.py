@@ -1,23 +1,22 @@
 """What the commands of the desk are given, read once: a genome file, a BED file, a second file, and scripts of corrections.
 
     with Inputs(genome, bed, corrections, second) as inputs, inputs.session() as session:
-        inputs.judge(session)  # has the program carry out all lines; then each line has its refusal, and its records
-        session.save(path)
+        inputs.carry(session)  # has the program carry out all lines; then each line has its verdict, and its records
+        inputs.save(session, path)
 """
 from __future__ import annotations
 
 import os
 import tempfile
-from itertools import chain
 from types import TracebackType
 from typing import Optional, Sequence
 
+from .carry import Carrier
 from .corrections import Line, read_lines
 from .errors import Ended, Error
-from .files import Bed, lengths_of, lines_of, plain, refuse_inputs, whole
-from .program import Path, encoded
+from .files import Bed, lengths_of, plain, refuse_inputs
+from .program import Path
 from .session import Session
-from .wide import Joiner, Tails, Unfit
 
 
 class Inputs:
@@ -34,23 +33,21 @@ class Inputs:
         if given.count("-") > 1:
             raise Error("only one file can be standard input")
         self._folder = tempfile.TemporaryDirectory(prefix="bedkeep-")
+        self._named: list[tuple[str, str]] = []  # the paths that the program reads, and the names as they were given
         try:
             self.lines: list[Line] = read_lines(given[2:2 + len(corrections)])
-            self.genome = plain(genome, self._folder.name)
-            self.bed = Bed(bed, self._folder.name)
-            self.second = Bed(second, self._folder.name) if second else None
-            self._named = [(self.genome, given[0])]
+            self.genome = self._plain(given[0])
+            self._bed = self._plain(given[1])
+            self._second = self._plain(given[-1]) if second else None
+            self.bed = self._opened(self._bed, given[1])
+            self.second = self._opened(self._second, given[-1]) if self._second else None
         except BaseException:
             self.close()
             raise
         for line in self.lines:
-            file = self._file_of(line)
+            file = self.second if line.is_second else self.bed
             if file and line.command in ("add", "addb"):
                 file.widen(len(line.fields))
-        self._tails = {is_second: Tails(file.width, file.rows())
-                       for is_second, file in ((False, self.bed), (True, self.second)) if file and file.is_wide}
-        for line in self.lines:
-            file = self._file_of(line)
             line.cut(file.width if file else 0)
 
     def __enter__(self) -> Inputs:
@@ -76,62 +73,43 @@ class Inputs:
 
     @property
     def width(self) -> Optional[int]:
-        """What `-width` of a session over these files is, if one has no record."""
+        """What `-width` of a session over the first six columns of these files is, if one has no record."""
         return self.bed.option or (self.second.option if self.second else None)
 
     def named(self, message: str) -> str:
         """A message of the program with the names of the files as they were given."""
+        message = self.bed.named(message)
+        message = self.second.named(message) if self.second else message
         for path, name in self._named:
             message = message.replace(f"{path}: ", f"{name}: ")
-        message = self.bed.named(message)
-        return self.second.named(message) if self.second else message
+        return message
 
-    def session(self) -> Session:
-        """A session over the first six columns of the files."""
-        return Session(self.genome, self.bed.narrow, self.second.narrow if self.second else None, width=self.width)
+    def session(self, leave_blocks: bool = False) -> Session:
+        """A session over the files, with all their columns. leave_blocks: whether a line is done that leaves blocks which can't hold."""
+        empty = next((file.width for file in (self.bed, self.second) if file and file.option), None)
+        return Session(self.genome, self._bed, self._second, width=empty, wide=True, leave_blocks=leave_blocks)
 
-    def judge(self, session: Session, strict: bool = False) -> list[Line]:
-        """Has the program carry out all lines, and returns those that are refused.
+    def second_session(self) -> Session:
+        """A session over the second file alone, as its track."""
+        assert self.second and self._second
+        return Session(self.genome, self._second, width=self.second.width if self.second.option else None, wide=True)
 
-        In a wide file the tails follow the records. If one can't hold any more the line has a warning, or is refused if `strict`.
-        """
-        lengths = self.lengths
-        step = 1 if self._tails else max(len(self.lines), 1)
-        for at in range(0, len(self.lines), step):
-            lines = self.lines[at:at + step]
-            refusals = {refused.number: refused.reason for refused in session.edit([line.narrow for line in lines])}
-            for number, line in enumerate(lines, 1):
-                line.judge(refusals.get(number, ""), lengths)
-                if self._follow(line, strict):
-                    session.undo()
+    def carry(self, session: Session, copies: bool = False) -> list[Line]:
+        """Has a session carry out all lines, and returns those that are refused. copies: as for a Carrier."""
+        Carrier(session, copies).carry(self.lines)
         return [line for line in self.lines if line.refusal]
 
-    def save(self, session: Session, path: Path) -> None:
-        """Writes the corrected track, whole or not at all: the headers of the BED file, then all records with their tails."""
+    def save(self, session: Session, path: Path, sorted: bool = False) -> None:
+        """Writes the corrected track, whole or not at all, in the order of its file, or if `sorted` in the track's order."""
         refuse_inputs(path, self.given)
-        track = os.path.join(self.folder, "track")
-        with open(track, "wb") as copy:
-            session.stream(copy.write)
-        tails = self._tails.get(False)
-        rows = map(Joiner(tails).join, lines_of(track)) if tails else lines_of(track)
-        with whole(path) as file:
-            file.writelines(encoded(f"{row}\n") for row in chain(self.bed.headers, rows))
+        session.save(path, sorted)
 
-    def _file_of(self, line: Line) -> Optional[Bed]:
-        return self.second if line.is_second else self.bed
+    def _plain(self, name: str) -> str:
+        path = plain(name, self._folder.name)
+        self._named.append((path, name))
+        return path
 
-    def _follow(self, line: Line, strict: bool) -> bool:
-        """Has the tails follow a line that was done, and says whether it has to be undone."""
-        tails = self._tails.get(line.is_second)
-        if not tails or not line.is_edit or line.refusal:
-            return False
-        try:
-            step = tails.plan(line.old, line.new, line.old_tail, line.new_tail, not strict)
-        except Unfit as unfit:
-            line.refuse(unfit.reason)
-            line.old = line.new = None
-            return True
-        assert step
-        line.warning = step.warning
-        tails.do(step)
-        return False
+    def _opened(self, path: str, name: str) -> Bed:
+        bed = Bed(path, self._folder.name)
+        bed.path = name
+        return bed

@@ -5,8 +5,7 @@ from bisect import bisect_left
 from collections import defaultdict
 from typing import Callable, Iterable, Iterator, Mapping, NamedTuple, Optional, Sequence
 
-from .records import Record, distance, name_of, overlap, split_row, strand_of
-from .tracks import COMMON, NAMELESS
+from .records import COMMON, NAMELESS, Record, distance, name_of, overlap, split_row, strand_of
 
 Key = Callable[[Record], Optional[Record]]  # what is the same for two records that may be one, or None
 

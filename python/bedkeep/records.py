@@ -4,6 +4,8 @@ from __future__ import annotations
 from typing import Sequence
 
 Record = tuple[str, ...]
+NAMELESS = {"", "."}
+COMMON = 64  # a name that more records of the file have says nothing of one of them
 NARROWEST, WIDEST = 3, 6  # columns of a record that the program takes; those after them are its tail, a text that begins with a TAB
 
 

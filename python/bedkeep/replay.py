@@ -4,39 +4,35 @@
     for finding in replayed.findings: ...   # one for each line that is no comment, no empty line and no line of a view
     for line in replayed.mended(): ...      # the script again
 
-The program judges all lines. Then the records that they take and put are followed once more without it, which has to arrive at the
-records that the program ended with.
+The program judges all lines. Those whose record isn't there are merged with what the release made of it, as `classes` says.
 """
 from __future__ import annotations
 
 import os
 import sys
-from typing import Iterator, Optional, Sequence
+from contextlib import ExitStack
+from typing import Iterator, Optional, Sequence, Union
 
-from .classes import SO, THERE, Classifier, Finding
+from .classes import CONFLICT, GONE, SO, Classifier, Finding, Side
 from .corrections import Line
-from .desk import inputs_of, parser_of
+from .desk import inputs_of, naming, parser_of, write_refused
 from .errors import Error
-from .files import Bed
+from .files import whole
 from .inputs import Inputs
+from .mending import mended
 from .program import Path, encoded
-from .records import split_row
+from .records import COMMON, NAMELESS, Record, distance, name_of, overlap
 from .reports import report, table
 from .rows import RECORD
 from .session import Session
-from .tracks import Total, Track, Wanted
-
-
-class Differs(Error):
-    """The records that were followed line by line aren't those that the program ended with."""
+from .tracks import near_lines
 
 
 class Replayed:
     """What came of a replay. lines: all of the scripts; findings: one for each correction, in their order."""
 
-    def __init__(self, lines: Sequence[Line], findings: Sequence[Finding], copies: bool) -> None:
+    def __init__(self, lines: Sequence[Line], findings: Sequence[Finding]) -> None:
         self.lines, self.findings = lines, findings
-        self._copies = copies
 
     @property
     def is_refused(self) -> bool:
@@ -44,98 +40,89 @@ class Replayed:
         return any(finding.is_refused for finding in self.findings)
 
     def mended(self) -> Iterator[str]:
-        """The lines of the scripts again, those that can be mended after what they were, and without those that are already so.
-
-        A `remove` of a record that nothing is like stays as a comment, since it may be mistyped.
-        """
-        findings = {finding.line.number: finding for finding in self.findings}
-        for line in self.lines:
-            finding = findings.get(line.number)
-            if finding and finding.mended:
-                yield f"# {finding.kind}, was: {line.text}"
-                yield finding.mended
-            elif finding and finding.kind == SO and not finding.found:
-                yield f"# {finding.note}: {line.text}"
-            elif not finding or finding.kind != SO and (finding.kind != THERE or self._copies):
-                yield line.text
+        """The lines of the scripts again: mended, or if they can't be, as they were or as a comment. See `mending`."""
+        return mended(self.lines, self.findings)
 
 
-def replay(genome: Path, bed: Path, corrections: Sequence[Path], second: Optional[Path] = None, ignore: Optional[str] = None,
-           copies: bool = True, strict: bool = False) -> Replayed:
-    """Replays corrections.
+def replay(genome: Path, bed: Path, corrections: Sequence[Path], second: Optional[Path] = None,
+           ignore: Union[str, Sequence[str]] = (), copies: bool = False, leave_blocks: bool = False) -> Replayed:
+    """Replays scripts of corrections over a BED file, which may be another release than the one they were made for.
 
-    ignore: `name`, `score` or `strand`, if that may differ; copies: whether an `add` of a record that is there is kept; strict:
-    whether a line is refused that leaves a tail which can't hold
+    No file is changed. Positions count from 0, and ends are not included. Raises an Error if a file can't be used; a line that
+    doesn't fit raises nothing, and has its finding.
+
+    ignore: which of `name`, `score` and `strand` may differ; copies: whether an `add` of a record that is there puts a copy in;
+    leave_blocks: whether a line is done after which columns from the seventh on can't hold
     """
     with Inputs(genome, bed, corrections, second) as inputs:
-        return replay_inputs(inputs, ignore, copies, strict)
+        return replay_inputs(inputs, [ignore] if isinstance(ignore, str) else ignore, copies, leave_blocks)
 
 
-def replay_inputs(inputs: Inputs, ignore: Optional[str] = None, copies: bool = True, strict: bool = False) -> Replayed:
+def replay_inputs(inputs: Inputs, ignore: Sequence[str] = (), copies: bool = False, leave_blocks: bool = False) -> Replayed:
     """The same for inputs that are open. Their lines have their verdicts afterwards."""
-    with inputs.session() as session:
-        inputs.judge(session, strict)
-        total = _total(session)
-    column = None if ignore is None else RECORD.index(ignore)
-    classifiers = {False: _classifier(inputs, inputs.bed, False, total, column, copies)}
-    if inputs.second:
-        total = _total_of_second(inputs, inputs.second)
-        classifiers[True] = _classifier(inputs, inputs.second, True, total, column, copies)
-    findings = [_look(line, classifiers) for line in inputs.lines if line.is_run]
-    return Replayed(inputs.lines, findings, copies)
+    runs = [line for line in inputs.lines if line.is_run]
+    columns = [RECORD.index(name) for name in ignore]
+    with ExitStack() as stack:
+        sessions = {False: stack.enter_context(inputs.session(leave_blocks))}
+        if inputs.second and any(line.is_second for line in runs):
+            sessions[True] = stack.enter_context(inputs.second_session())
+        of = {second: [line for line in runs if line.is_second == second] for second in sessions}
+        tracks = {second: near_lines(session, of[second]) for second, session in sessions.items()}
+        inputs.carry(sessions[False], copies)
+        sides = {second: Side(track, [line for line in of[second] if line.is_edit], inputs.lengths, columns, copies, leave_blocks)
+                 for second, track in tracks.items()}
+        findings = list(Classifier(sides[False], sides.get(True)).look(runs))
+        for second, session in sessions.items():
+            findings = _with_others(findings, session, second)
+    return Replayed(inputs.lines, findings)
 
 
-def _look(line: Line, classifiers: dict[bool, Classifier]) -> Finding:
-    if line.command == "resize":  # It is for both files.
-        return [classifier.look(line) for classifier in classifiers.values()][0]
-    return classifiers[line.is_second and line.is_edit].look(line)
+def _with_others(findings: Sequence[Finding], session: Session, second: bool) -> list[Finding]:
+    """The findings, those of records that are gone with a record of the name elsewhere, to look at."""
+    lost = {finding.line.number: name_of(finding.line.old) for finding in findings
+            if finding.kind in (GONE, SO) and finding.line.is_second == second and finding.line.old and not finding.mended
+            and not finding.by and (finding.kind == GONE or not finding.line.new) and name_of(finding.line.old) not in NAMELESS}
+    if not lost:
+        return list(findings)
+    listed = session.named(set(lost.values()))
+    named = {record for finding in findings for record in (finding.line.old, finding.line.new)}
+    return [_with_other(finding, [record for record in listed[lost[finding.line.number]] if record not in named])
+            if finding.line.number in lost else finding for finding in findings]
 
 
-def _total(session: Session) -> Total:
-    """The total of a session's track."""
-    total = Total()
-    session.stream(total.add_lines)
-    return total
-
-
-def _total_of_second(inputs: Inputs, second: Bed) -> Total:
-    """The total of the second file's records, which no view prints: its edits are those of a track of its own."""
-    with Session(inputs.genome, second.narrow, width=second.option) as session:
-        lines = [line for line in inputs.lines if line.is_done and (line.is_second or line.command == "resize")]
-        if session.edit([line.narrow.replace("b\t", "\t", 1) if line.is_second else line.narrow for line in lines]):
-            raise Differs("the second file's edits were refused over it alone")
-        return _total(session)
-
-
-def _classifier(inputs: Inputs, bed: Bed, second: bool, final: Total, ignore: Optional[int], copies: bool) -> Classifier:
-    """A classifier over the track before, once the lines that were done arrive at the program's last track."""
-    lines = [line for line in inputs.lines if line.is_edit and line.is_second == second]
-    before = Track(Wanted(lines)).load(split_row(row)[0] for row in bed.rows())
-    after = before.copy()
-    for line in lines:
-        if bool(line.old and not after.has(line.old)) != bool(line.refusal):
-            raise Differs(f"line {line.number} was {'refused' if line.refusal else 'done'} against the records that were followed")
-        if not line.refusal:
-            after.do(line, line.old, line.new)
-    if after.total != final:
-        raise Differs("the lines don't arrive at the program's last track")
-    return Classifier(before, lines, inputs.lengths, ignore, copies)
+def _with_other(finding: Finding, records: Sequence[Record]) -> Finding:
+    """The finding with the nearest of the records of its name elsewhere. One that moved as a whole is a conflict."""
+    old = finding.line.old or ()
+    others = [record for record in records if not overlap(record, old)]
+    if not 0 < len(records) <= COMMON or not others:
+        return finding
+    other = min(others, key=lambda record: (record[0] != old[0], distance(record, old), record))
+    by = int(other[1]) - int(old[1])
+    if finding.kind == GONE and other[0] == old[0] and by == int(other[2]) - int(old[2]):
+        return finding._replace(kind=CONFLICT, found=other, note=f"one of its name is {abs(by)} bases away, and doesn't overlap it")
+    note = f"one of its name is at {' '.join(other[:3])}"
+    return finding._replace(note=f"{finding.note}; {note}" if finding.note else note)
 
 
 def main(words: Sequence[str]) -> int:
-    """Prints what each line is about, and returns the status: 1 if lines are refused."""
+    """Prints what each line is about, and returns the status: 1 if lines don't fit."""
     parser = parser_of("replay", "Says of each line that no longer fits why, with the record that it is about.")
-    parser.add_argument("--ignore", choices=RECORD[3:], metavar="COLUMN", help="name, score or strand: it may differ")
-    parser.add_argument("--no-copies", dest="copies", action="store_false", help="leaves out each add of a record that is there")
-    parser.add_argument("--mend", metavar="FILE", help="writes the script again with lines that fit, and never over a file")
+    parser.add_argument("--ignore", choices=RECORD[3:], metavar="COLUMN", action="append", default=[],
+                        help="name, score or strand: it may differ; for several columns give it several times")
+    parser.add_argument("--mend", metavar="FILE", help="""writes the script again with lines that fit, and never over a file. What only
+        the release or only the correction changed is taken from it; what both changed is left as a conflict, commented out.
+        Nothing is mended to a record that has another name, or that doesn't overlap""")
     parser.add_argument("--tsv", action="store_true", help="prints a table")
     given = parser.parse_intermixed_args(words)
+    if given.mend == "-":
+        raise Error("--mend needs a file, since the report is on standard output")
     if given.mend and os.path.lexists(given.mend):
         raise Error(f"{given.mend} is there already")
     with inputs_of(given) as inputs:
-        replayed = replay_inputs(inputs, given.ignore, given.copies, given.strict)
+        replayed = replay_inputs(inputs, given.ignore, given.copies, given.leave_blocks)
+        write_refused(given.refused, inputs)
     if given.mend:
-        with open(given.mend, "xb") as file:
+        with naming(given.mend), whole(given.mend) as file:
             file.writelines(encoded(f"{line}\n") for line in replayed.mended())
     rows = table(replayed.findings) if given.tsv else report(replayed.findings)
     sys.stdout.buffer.writelines(encoded(f"{row}\n") for row in rows)

@@ -1,163 +1,151 @@
-"""A track followed line by line without the program: the records that a script may be about, and a sum over all others.
+"""The records near the lines of a script, followed line by line without the program.
 
-`Wanted` says which records these are, so that of a large file only few are held. A `Total` has the number of records and the sum
-of their hashes, by which a track that was followed is compared with the one that the program ended with.
+`near_lines` asks a session for them before any line is carried out, so that of a large file few are held.
 """
 from __future__ import annotations
 
-import bisect
-from collections import defaultdict, deque
-from typing import Iterable, Iterator, Optional
+from collections import Counter, defaultdict
+from functools import cached_property
+from typing import Iterable, Iterator, NamedTuple, Optional, Sequence
 
 from .corrections import Line
-from .program import decoded
-from .records import Record, name_of
+from .formats import faults_of, format_of
+from .records import Record, overlap
+from .session import Session
 
-NAMELESS = {"", "."}
-BIN = 14  # records around a place are looked for by stretches of 2 to the power of this many bases
-COMMON = 64  # a name that more records of the file have says nothing of one of them
-
-
-class Wanted:
-    """Which records the lines of a script may be about: those at their places, of their names, and around them."""
-
-    def __init__(self, lines: Iterable[Line]) -> None:
-        self._places: set[Record] = set()
-        self._names: dict[str, int] = {}  # of refused lines, with the number of records of the file
-        windows: dict[str, list[tuple[int, int]]] = defaultdict(list)
-        for line in lines:
-            self._places.update(record[:3] for record in (line.old, line.new) if record)
-            if line.old and line.refusal:
-                windows[line.old[0]].append((int(line.old[1]), int(line.old[2])))
-                if name_of(line.old) not in NAMELESS:
-                    self._names[name_of(line.old)] = 0
-        self._windows = {sequence: _joined(listed) for sequence, listed in windows.items()}
-
-    def __contains__(self, record: Record) -> bool:
-        if record[:3] in self._places:
-            return True
-        if len(record) > 3 and self._names.get(record[3], COMMON + 1) <= COMMON:
-            return True
-        if record[0] not in self._windows:
-            return False
-        starts, ends = self._windows[record[0]]
-        at = bisect.bisect_left(starts, int(record[2]))
-        return at > 0 and ends[at - 1] > int(record[1])
-
-    def count(self, record: Record) -> None:
-        """Counts the name of a record of the file."""
-        if len(record) > 3 and record[3] in self._names:
-            self._names[record[3]] += 1
-
-    def is_telling(self, name: str) -> bool:
-        """Whether a name distinguishes a record from others."""
-        return name not in NAMELESS and self._names.get(name, 0) <= COMMON
+STRETCH = 14  # records around a place are looked for by stretches of 2 to the power of this many bases
+Region = tuple[str, int, int]
 
 
-def _joined(intervals: list[tuple[int, int]]) -> tuple[list[int], list[int]]:
-    """The starts and the ends of the intervals, those that overlap joined."""
-    starts: list[int] = []
-    ends: list[int] = []
-    for start, end in sorted(intervals):
-        if ends and start <= ends[-1]:
-            ends[-1] = max(ends[-1], end)
-        else:
-            starts.append(start)
-            ends.append(end)
-    return starts, ends
+class Held(NamedTuple):
+    """A copy of a record: its columns after the sixth, and the number of the line that put it there, or 0 for one of the file."""
 
-
-class Total:
-    """The number of records and the sum of the hashes of their lines, which are the same for the same records in any order."""
-
-    def __init__(self, count: int = 0, hashes: int = 0) -> None:
-        self.count, self.hashes = count, hashes
-
-    def add(self, row: str, copies: int = 1) -> None:
-        self.count += copies
-        self.hashes += copies * hash(row)
-
-    def add_lines(self, lines: bytes) -> None:
-        """Counts whole lines."""
-        for row in decoded(lines).split("\n")[:-1]:
-            self.add(row)
-
-    def __eq__(self, other: object) -> bool:
-        return isinstance(other, Total) and (self.count, self.hashes) == (other.count, other.hashes)
+    tail: str
+    line: int
 
 
 class Track:
-    """The copies of the records that are wanted, found by place, name and stretch, and the total of all.
+    """The copies of records, found by place, and what was done to them, so that it can be taken back.
 
-    Of each copy is known which line put it there, or 0 for one of the file.
+    Copies with different columns after the sixth are taken in the order of a session: those of the file in its order, then those
+    that were added, by their text.
     """
 
-    def __init__(self, wanted: Wanted) -> None:
-        self.total = Total()
-        self._wanted = wanted
-        self._copies: dict[Record, deque[int]] = {}
-        self._by: dict[tuple[str, object], dict[Record, None]] = defaultdict(dict)
+    def __init__(self) -> None:
+        self._file: dict[Record, list[str]] = defaultdict(list)  # the columns after the sixth of the copies of the file
+        self._copies: dict[Record, list[Held]] = defaultdict(list)
+        self._stretches: dict[tuple[str, int], dict[Record, None]] = defaultdict(dict)
+        self._done: list[tuple[bool, Record, int, Held]] = []  # whether it was put in, which, at which place among its copies
 
-    def load(self, records: Iterable[Record]) -> Track:
-        for record in records:
-            self.total.add("\t".join(record))
-            self._wanted.count(record)
-            if record in self._wanted:
-                self._hold(record, 0)
-        return self
+    def hold(self, record: Record, tail: str) -> None:
+        """Takes a copy of the file in."""
+        self._file[record].append(tail)
+        self._put(record, len(self._copies[record]), Held(tail, 0))
 
-    def copy(self) -> Track:
-        other = Track(self._wanted)
-        other.total = Total(self.total.count, self.total.hashes)
-        for record, copies in self._copies.items():
-            for line in copies:
-                other._hold(record, line)
-        return other
+    def has(self, record: Record, tail: Optional[str] = None) -> bool:
+        """Whether a copy is there, with these columns after the sixth if they are given."""
+        return any(True for _ in self._of(record, tail))
 
-    def do(self, line: Line, old: Optional[Record], new: Optional[Record]) -> None:
-        """Carries out a line with these records. Of copies the one that was there first is taken."""
-        if old:
-            self.total.add("\t".join(old), -1)
-            self._copies[old].popleft()
-        if new:
-            self.total.add("\t".join(new))
-            self._hold(new, line.number)
+    def first(self, record: Record, tail: Optional[str] = None) -> str:
+        """The columns after the sixth of the copy that `take` takes."""
+        return next(self._of(record, tail)).tail
 
-    def has(self, record: Record) -> bool:
-        return bool(self._copies.get(record))
+    def of_file(self, record: Record, tail: Optional[str] = None) -> Optional[Held]:
+        """The first copy of the file that is there."""
+        return next((held for held in self._of(record, tail) if not held.line), None)
 
     def count(self, record: Record) -> int:
+        """How many copies are there."""
         return len(self._copies.get(record, ()))
 
-    def count_of_file(self, record: Record) -> int:
-        """How many copies of it no line has put there."""
-        return sum(not line for line in self._copies.get(record, ()))
+    def all_of_file(self, record: Record) -> list[str]:
+        """The different columns after the sixth of the copies of the file, in their order."""
+        return list(dict.fromkeys(held.tail for held in self._of(record, None) if not held.line))
 
-    def at(self, record: Record) -> Iterable[Record]:
-        """The records at the place of this one."""
-        return self._by.get(("place", record[:3]), ())
+    def take(self, record: Record, tail: Optional[str] = None) -> str:
+        """Takes out the copy that was there first, and returns its columns after the sixth."""
+        held = next(self._of(record, tail))
+        place = self._copies[record].index(held)
+        self._done.append((False, record, place, self._copies[record].pop(place)))
+        return held.tail
 
-    def named(self, record: Record) -> Iterable[Record]:
-        """The records of the name of this one, if the name says anything."""
-        return self._by.get(("name", name_of(record)), ()) if self.is_telling(record) else ()
+    def put(self, record: Record, tail: str, line: Line) -> None:
+        """Puts in a copy for a line."""
+        place = len(self._copies[record])
+        self._done.append((True, record, place, Held(tail, line.number)))
+        self._put(record, place, Held(tail, line.number))
 
-    def is_telling(self, record: Record) -> bool:
-        return self._wanted.is_telling(name_of(record))
+    def around(self, record: Record) -> Iterator[Record]:
+        """The records that overlap one."""
+        near = dict.fromkeys(other for stretch in _stretches(record) for other in self._stretches.get(stretch, ()))
+        return (other for other in near if self._copies[other] and overlap(record, other))
 
-    def around(self, record: Record) -> Iterable[Record]:
-        """The records near this one, and among them all that overlap it."""
-        return dict.fromkeys(other for stretch in _stretches(record) for other in self._by.get(("stretch", stretch), ()))
+    def mark(self) -> int:
+        """A point to go back to."""
+        return len(self._done)
 
-    def _hold(self, record: Record, line: int) -> None:
-        copies = self._copies.get(record)
-        if copies is None:
-            copies = self._copies[record] = deque()
-            self._by["place", record[:3]][record] = None
-            self._by["name", name_of(record)][record] = None
-            for stretch in _stretches(record):
-                self._by["stretch", stretch][record] = None
-        copies.append(line)
+    def back_to(self, mark: int) -> None:
+        """Takes back all that was done since then."""
+        while len(self._done) > mark:
+            was_put, record, place, held = self._done.pop()
+            if was_put:
+                self._copies[record].pop(place)
+            else:
+                self._put(record, place, held)
+
+    @cached_property
+    def format(self) -> Optional[str]:
+        """The format of the columns after the sixth."""
+        return next((format_of(record, tails[0]) for record, tails in self._file.items()), None)
+
+    @cached_property
+    def faults(self) -> frozenset[str]:
+        """The kinds of what can't hold in the file already."""
+        return frozenset(fault.kind for record, tails in self._file.items() for tail in tails for fault in faults_of(record, tail))
+
+    def _of(self, record: Record, tail: Optional[str]) -> Iterator[Held]:
+        return (held for held in self._ordered(record) if tail is None or held.tail == tail)
+
+    def _ordered(self, record: Record) -> list[Held]:
+        """The copies in the order in which they are taken."""
+        held = self._copies.get(record, [])
+        if len(held) < 2 or len({one.tail for one in held}) == 1:
+            return held
+        left = sorted(held, key=lambda one: (one.tail, one.line))
+        gone = Counter(self._file[record]) - Counter(one.tail for one in held)
+        ordered = []
+        for tail in self._file[record]:
+            if gone[tail]:
+                gone[tail] -= 1
+            else:
+                ordered.append(left.pop(next(place for place, one in enumerate(left) if one.tail == tail)))
+        return ordered + left
+
+    def _put(self, record: Record, place: int, held: Held) -> None:
+        self._copies[record].insert(place, held)
+        for stretch in _stretches(record):
+            self._stretches[stretch][record] = None
 
 
 def _stretches(record: Record) -> Iterator[tuple[str, int]]:
-    return ((record[0], number) for number in range(int(record[1]) >> BIN, (int(record[2]) - 1 >> BIN) + 1))
+    return ((record[0], number) for number in range(int(record[1]) >> STRETCH, (int(record[2]) - 1 >> STRETCH) + 1))
+
+
+def near_lines(session: Session, lines: Iterable[Line]) -> Track:
+    """The records of a session that overlap one that a line names."""
+    track = Track()
+    is_wide = session.columns() > session.width
+    for record, copies in session.around(list(regions_of(lines))).items():
+        for tail in session.tails(record) if is_wide else [""] * copies:
+            track.hold(record, tail)
+    return track
+
+
+def regions_of(lines: Iterable[Line]) -> Iterator[Region]:
+    """The intervals that lines name; of two that overlap what has both."""
+    for line in lines:
+        named = line.records()
+        if len(named) > 1 and overlap(*named):
+            yield named[0][0], min(int(one[1]) for one in named), max(int(one[2]) for one in named)
+        else:
+            yield from ((one[0], int(one[1]), int(one[2])) for one in named)

@@ -72,7 +72,7 @@ class Wide:
         message = failure.message
         for bed in self._beds.values():
             message = bed.named(message)
-        return type(failure)(failure.status, message)
+        return type(failure)(failure.status, message, failure.hint)
 
     def script(self, lengths: Optional[Mapping[str, int]]) -> Script:
         """The script of the session, which begins."""

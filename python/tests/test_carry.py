@@ -1,6 +1,10 @@
 """Scripts of corrections: reasons, groups and markers; and what comes of their lines."""
+from unittest import mock
+
+import bedkeep
+from bedkeep.carry import Carrier
 from bedkeep.corrections import is_marker, read_text
-from helpers import Case
+from helpers import Case, Outcome, tabs
 
 
 class Paragraphs(Case):
@@ -34,3 +38,151 @@ class Paragraphs(Case):
         self.assertEqual([line.comments for line in runs], [("one gene",), ("one gene",), (), ("why", "of two"), ()])
         self.assertEqual(runs[3].heading, ("# why", "# together: of two"))
         self.assertEqual([line.number for line in read_text("\nadd\tx", "more", 7)], [8, 9])
+
+
+class Commands(Case):
+    """What must not happen, each with its own files and commands."""
+
+    def setUp(self):
+        super().setUp()
+        self.sizes = self.file("sizes", "chr1\t1000\n")
+
+    def run_on(self, command, bed, script, *words):
+        """A command over the text of a BED file and of a script, and what it printed; spaces for TABs in the rows."""
+        bed, script = self.file("bed", tabs(bed)), self.file("script", script.replace("~", "\t"))
+        outcome = Outcome(command, self.sizes, bed, script, *words)
+        outcome.rows = outcome.out.replace("\t", " ").split("\n")[:-1]
+        outcome.messages = [row.replace(f"{script}: ", "") for row in outcome.err.split("\n")[:-1]]
+        return outcome
+
+    def mended(self, bed, script, *words):
+        """What `replay --mend` writes, line by line with spaces for TABs, its status, and the rows of what `apply` makes of it."""
+        mend = self.folder / "mend"
+        mend.unlink(missing_ok=True)
+        status = self.run_on("replay", bed, script, "--mend", mend, *words).status
+        again = Outcome("apply", self.sizes, self.bed_of(bed), mend)
+        return mend.read_text().replace("\t", " ").split("\n")[:-1], status, again.out.replace("\t", " ").split("\n")[:-1], again.status
+
+    def bed_of(self, text):
+        return self.file("again.bed", tabs(text))
+
+    def test_no_other_record_is_removed(self):
+        lines, status, rows, again = self.mended(
+            "chr1 100 200 isoB\nchr1 500 600 g2",
+            "# isoA is an artefact\nremove~chr1~100~200~isoA\nreplace~chr1~500~600~g2~chr1~500~620~g2\n")
+        self.assertEqual((lines, status, rows, again), ([
+            "# isoA is an artefact", "# dropped: remove chr1 100 200 isoA", "replace chr1 500 600 g2 chr1 500 620 g2"], 1,
+            ["chr1 100 200 isoB", "chr1 500 620 g2"], 0))
+        for bed, script in (("chr1 150 260", "remove~chr1~100~200\n"), ("chr1 900 950 MIR1", "remove~chr1~100~200~MIR1\n")):
+            lines, status, rows, again = self.mended(bed, script)
+            self.assertEqual((lines, status, rows, again), ([f"# dropped: {script[:-1]}".replace("~", " ")], 1, [bed], 0))
+        self.assertIn("one of its name is at chr1 900 950", self.run_on("replay", bed, script).out)
+
+    def test_a_mended_line_moves_along_or_is_a_conflict(self):
+        script = "replace~chr1~500~600~g2~chr1~490~600~g2\n"
+        self.assertEqual(self.mended("chr1 530 630 g2", script), (
+            ["# was: replace chr1 500 600 g2 chr1 490 600 g2", "replace chr1 530 630 g2 chr1 520 630 g2"], 1, ["chr1 520 630 g2"], 0))
+        self.assertEqual(self.mended("chr1 510 600 g2", f"# begins earlier\n{script}add~chr1~1~2~x\n"), ([
+            "# begins earlier", "# conflict: base chr1 500 600 g2 (start 500)", "# conflict: mine chr1 490 600 g2 (start 490)",
+            "# conflict: theirs chr1 510 600 g2 (start 510)", "# replace chr1 500 600 g2 chr1 490 600 g2", "add chr1 1 2 x"], 1,
+            ["chr1 1 2 x", "chr1 510 600 g2"], 0))
+
+    def test_what_is_there_is_not_added_once_more(self):
+        outcome = self.run_on("apply", "chr1 390 500 geneC", "add~chr1~390~500~geneC\nadd~chr1~0390~500~geneC\n")
+        self.assertEqual((outcome.status, outcome.rows, outcome.messages), (0, ["chr1 390 500 geneC"], [
+            "line 1: already there: chr1 390 500 geneC", "line 2: already there: chr1 390 500 geneC"]))
+        outcome = self.run_on("apply", "chr1 390 500 geneC", "add~chr1~391~500~geneC\n")
+        self.assertEqual((outcome.status, outcome.rows, outcome.messages), (1, ["chr1 390 500 geneC"], [
+            "line 1: there with another start: chr1 390 500 geneC",
+            "  this would fit: replace chr1 390 500 geneC chr1 391 500 geneC"]))
+        outcome = self.run_on("apply", "chr1 390 500 geneC", "add~chr1~391~500~geneC\nadd~chr1~390~500~geneC\n", "--copies")
+        self.assertEqual((outcome.status, outcome.rows), (0, ["chr1 390 500 geneC", "chr1 390 500 geneC", "chr1 391 500 geneC"]))
+        for bed, script in ("chr1 390 500", "add~chr1~391~500\n"), ("chr1 390 500 .", "add~chr1~391~500~.\n"):
+            self.assertEqual(self.run_on("apply", bed, script).status, 0)
+
+    def test_what_was_taken_out_may_come_back(self):
+        """Also among copies, and beside a record of its name."""
+        bed = "chr1 390 500 geneC\nchr1 390 500 geneC\nchr1 400 500 geneC"
+        outcome = self.run_on("apply", bed, "remove~chr1~390~500~geneC\nadd~chr1~390~500~geneC\nadd~chr1~390~500~geneC\n")
+        self.assertEqual((outcome.status, outcome.messages), (0, ["line 3: already there: chr1 390 500 geneC"]))
+        self.assertEqual(sorted(outcome.rows), sorted(bed.split("\n")))
+        outcome = self.run_on("apply", "chr1 100 200 A", "# together: two\nreplace~chr1~100~200~A~chr1~100~150~A\nadd~chr1~140~200~A\n")
+        self.assertEqual((outcome.status, outcome.rows), (0, ["chr1 100 150 A", "chr1 140 200 A"]))
+
+    def test_the_second_file(self):
+        second = self.file("second", tabs("chr1 1 5 a\nchr1 1 5 a\nchr1 1 5 b"))
+        script = "addb~chr1~1~5~a\nremoveb~chr1~1~5~a\naddb~chr1~1~5~a\naddb~chr1~1~5~a\naddb~chr1~1~5~c\n"
+        outcome = self.run_on("apply", "chr1 1 2 x", script, "-b", second)
+        self.assertEqual((outcome.status, outcome.messages), (0, [
+            "line 1: already there: chr1 1 5 a", "line 4: already there: chr1 1 5 a"]))
+        self.assertIn("2 already there, 3 fits", self.run_on("replay", "chr1 1 2 x", script, "-b", second).out)
+
+    def test_a_group_is_done_whole_or_not_at_all(self):
+        script = "# together: one gene\nreplace~chr1~100~200~A~chr1~100~400~A\nremove~chr1~300~400~B\n\nadd~chr1~1~2~x\n"
+        bed = "chr1 100 210 A\nchr1 300 400 B"
+        outcome = self.run_on("apply", bed, script)
+        self.assertEqual((outcome.status, outcome.messages, outcome.rows), (1, [
+            "line 2: no such record: chr1 100 200 A", "line 3: not done, since line 2 is refused"], ["chr1 1 2 x", *bed.split("\n")]))
+        outcome = self.run_on("apply", "chr1 100 200 A\nchr1 300 400 B", script)
+        self.assertEqual((outcome.status, outcome.rows), (0, ["chr1 1 2 x", "chr1 100 400 A"]))
+        lines, status, rows, again = self.mended("chr1 100 410 A\nchr1 300 400 B", script)
+        self.assertEqual((lines, status, rows, again), ([
+            "# together: one gene", "# conflict: base chr1 100 200 A (end 200)", "# conflict: mine chr1 100 400 A (end 400)",
+            "# conflict: theirs chr1 100 410 A (end 410)", "# replace chr1 100 200 A chr1 100 400 A",
+            "# conflict: not done, since line 2 isn't", "# remove chr1 300 400 B", "", "add chr1 1 2 x"], 1,
+            ["chr1 1 2 x", "chr1 100 410 A", "chr1 300 400 B"], 0))
+        lines, status, rows, again = self.mended("chr1 90 200 A\nchr1 300 400 B", script)
+        self.assertEqual((lines[:4], rows, again), ([
+            "# together: one gene", "# was: replace chr1 100 200 A chr1 100 400 A", "replace chr1 90 200 A chr1 90 400 A",
+            "remove chr1 300 400 B"], ["chr1 1 2 x", "chr1 90 400 A"], 0))
+
+    def test_an_add_of_a_group_that_differs(self):
+        script = "# together: split\nremove~chr1~300~400~B\nadd~chr1~101~200~A\nremove~chr1~3O~400~C\n"
+        outcome = self.run_on("apply", "chr1 100 200 A\nchr1 300 400 B", script)
+        self.assertEqual((outcome.status, outcome.rows, outcome.messages), (1, ["chr1 100 200 A", "chr1 300 400 B"], [
+            "line 2: not done, since line 3 is refused", "line 3: there with another start: chr1 100 200 A",
+            "  this would fit: replace chr1 100 200 A chr1 101 200 A", "line 4: not done, since line 3 is refused"]))
+
+    def test_reasons_stay_with_their_lines(self):
+        lines, *_ = self.mended("chr1 100 200 A\nchr1 390 500 geneC", "# lacks geneC\nadd~chr1~390~500~geneC\n# A was cut\n"
+                                "replace~chr1~100~200~A~chr1~100~210~A\n")
+        self.assertEqual(lines, ["# lacks geneC", "# dropped: add chr1 390 500 geneC", "", "# A was cut",
+                                 "replace chr1 100 200 A chr1 100 210 A"])
+        reasons = [(line.text, line.comments) for line in read_text("\n".join(lines)) if line.is_run]
+        self.assertEqual(reasons, [("replace chr1 100 200 A chr1 100 210 A", ("A was cut",))])
+
+    def test_reasons_of_several_files(self):
+        first, second = self.file("first", "# one\nremove\tchr1\t1\t9\tx\n"), self.file("second", "add\tchr1\t5\t6\ty\n")
+        mend = self.folder / "mend"
+        Outcome("replay", self.sizes, self.bed_of("chr1 20 30 z"), first, second, "--mend", mend)
+        self.assertEqual(mend.read_text(), "# one\n# dropped: remove\tchr1\t1\t9\tx\n\nadd\tchr1\t5\t6\ty\n")
+
+
+class Exchanges(Case):
+    """Many lines cost few exchanges with the program."""
+
+    def asked(self, bed, script, **options):
+        """How many exchanges a script of edits costs, and how many of its lines were done."""
+        lines = read_text(script)
+        with bedkeep.Session(self.sizes, self.file("bed", bed), wide=True) as session:
+            with mock.patch.object(session._talk, "ask", wraps=session._talk.ask) as ask:
+                Carrier(session, **options).carry(lines)
+                return ask.call_count, sum(line.is_done for line in lines)
+
+    def test_batches(self):
+        bed = "".join(f"chr1\t{n}\t{n + 3}\tg{n}\n" for n in range(400))
+        edits = "".join(f"replace\tchr1\t{n}\t{n + 3}\tg{n}\tchr1\t{n}\t{n + 4}\tg{n}\n" for n in range(300))
+        adds = "".join(f"add\tchr1\t{n + 100}\t{n + 110}\tg{n}\n" for n in range(200))
+        exchanges, done = self.asked(bed, edits + adds)
+        self.assertLessEqual(exchanges, 4)
+        self.assertEqual(done, 500)
+        exchanges, done = self.asked(bed, "add\tchr2\t1\t5\tx\nremove\tchr2\t1\t5\tx\n" * 3)
+        self.assertEqual(done, 6)
+
+    def test_reasons_become_those_of_the_session(self):
+        """Without those of lines that aren't done; two paragraphs stay apart."""
+        script = "# a\nadd\tchr1\t1\t2\tx\nadd\tchr1\t2\t3\tx\n\nadd\tchr1\t3\t4\tx\n# b\n# was: y\nremove\tchr1\t9\t99\tq\n# c\nadd\tchr1\t1\t2\tx\n"
+        with bedkeep.Session(self.sizes, self.genes, wide=True) as session:
+            Carrier(session).carry(read_text(script))
+            self.assertEqual([(line.text, line.comments) for line in read_text(session.script()) if line.is_run], [
+                ("add\tchr1\t1\t2\tx", ("a",)), ("add\tchr1\t2\t3\tx", ("a",)), ("add\tchr1\t3\t4\tx", ())])

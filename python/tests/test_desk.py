@@ -27,16 +27,17 @@ class CommandLine(Case):
             self.assertEqual((outcome.status, outcome.err), (0, ""))
             for command in desk.COMMANDS:
                 self.assertIn(f"\n    {command} ", outcome.out)
-        for words, message in ([], "no command\n"), (["aply"], "no such command: aply\n"):
+        for words, message in ([], "no command\n"), (["aply"], "no such command: aply, is apply meant?\n"), (["x"], "no such command: x\n"):
             outcome = Outcome(*words)
             self.assertEqual((outcome.status, outcome.out), (2, ""))
             self.assertTrue(outcome.err.startswith(message))
+        self.assertEqual(Outcome("--version").out, f"bedkeep {bedkeep.__version__}\n")
         for command in "apply", "diff", "replay", "curate":
             self.assertEqual(Outcome(command, "--help").status, 0)
             self.assertEqual(Outcome(command, "--no-such").status, 2)
 
     def test_an_interrupt_leaves_nothing(self):
-        with mock.patch("bedkeep.inputs.Inputs.judge", side_effect=KeyboardInterrupt):
+        with mock.patch("bedkeep.inputs.Inputs.carry", side_effect=KeyboardInterrupt):
             outcome = Outcome("apply", self.sizes, self.genes, self.file("corrections", ""), "-o", self.folder / "corrected.bed")
         self.assertEqual((outcome.status, outcome.err, os.path.exists(self.folder / "corrected.bed")), (2, "interrupted\n", False))
 
@@ -44,7 +45,7 @@ class CommandLine(Case):
         run = started("--help")
         self.assertEqual((run.returncode, run.stdout.decode()), (0, Outcome("--help").out))
         run = started("diff", self.genes, "no-such-file")
-        self.assertEqual((run.returncode, run.stdout, run.stderr), (2, b"", b"no-such-file: No such file or directory\n"))
+        self.assertEqual((run.returncode, run.stdout, run.stderr), (2, b"", b"no-such-file: no such file\n"))
 
 
 class Apply(Case):
@@ -64,6 +65,9 @@ class Apply(Case):
         self.assertEqual((outcome.status, outcome.out), (1, ""))
         self.assertEqual(outcome.err, f"{script}: line 3: no such record: chr1 300 401 geneB\n"
                                       f"{more}: line 3: wrong number of columns: 3 fields; 4 are needed\n")
+        self.assertEqual(self.corrected.read_bytes().decode(), "# genes\ntrack name=x\r\n" + tabs(
+            "chr1 300 400 geneB\nchr2 1 2 x\nchr1 100 250 geneA") + "#end\n")
+        self.apply(bed, script, "--sorted")
         self.assertEqual(self.corrected.read_text(), "# genes\ntrack name=x\n#end\n" + tabs(
             "chr1 100 250 geneA\nchr1 300 400 geneB\nchr2 1 2 x"))
 
@@ -219,20 +223,21 @@ class Reports(Case):
         first, second, third, fourth = (
             tabs(line) for line in ("replace chr1 10 30 a 4 + chr1 11 30 a 4 +", "replace chr1 10 30 a 5 + chr1 11 30 a 5 +",
                                     "replace chr1 11 30 a 4 + chr1 11 31 a 4 +", "replace chr1 11 30 a 5 + chr1 11 31 a 5 +"))
-        self.assertEqual(text, f"# why\nopen\tv\tmerge\n# changed, was: {first}{second}" + tabs("remove chr1 50 60 b 1 +") * 2
-                         + f"# changed, was: {third}{fourth}add\tchr1\t5\t6\n"
-                         + "# no record like it is there: remove\tchr1\t7\t8\tc\t0\t+\n")
+        self.assertEqual(text, f"# why\nopen\tv\tmerge\n# was: {first}{second}" + tabs("remove chr1 50 60 b 1 +") * 2
+                         + f"# was: {third}{fourth}add\tchr1\t5\t6\n# dropped: remove\tchr1\t7\t8\tc\t0\t+\n")
         outcome = self.replay("--mend", mend)
         self.assertEqual((outcome.status, outcome.out, outcome.err, mend.read_text()), (2, "", f"{mend} is there already\n", text))
         self.corrections.write_text(self.corrections.read_text().split("remove")[0])
         self.assertEqual(self.replay("--ignore", "score").status, 0)
         self.assertEqual(self.replay("--ignore", "start").status, 2)
 
-    def test_no_copies(self):
+    def test_copies(self):
         self.corrections.write_text(tabs("add chr1 50 60 b 1 +"))
-        outcome = self.replay("--no-copies", "--mend", self.folder / "mend")
-        self.assertEqual((outcome.status, (self.folder / "mend").read_text()), (0, ""))
+        outcome = self.replay("--mend", self.folder / "mend")
+        self.assertEqual((outcome.status, (self.folder / "mend").read_text()), (0, tabs("add chr1 50 60 b 1 +").replace("add", "# dropped: add")))
         self.assertIn("line 1: already there\n", outcome.out)
+        outcome = self.replay("--copies", "--mend", self.folder / "more")
+        self.assertEqual((outcome.status, outcome.out, (self.folder / "more").read_text()), (0, "1 fits\n", tabs("add chr1 50 60 b 1 +")))
         self.corrections.write_text("# nothing\n")
         self.assertEqual(self.replay().out, "no corrections\n")
 
@@ -240,21 +245,6 @@ class Reports(Case):
         other = self.file("other", tabs("replace chr1 11 30 a 4 + chr1 11 30 b 4 +\nremove chr1 50 60 b 1 +"))
         self.corrections.write_text(tabs("replace chr1 10 30 a 5 + chr1 11 30 a 5 +\nremove chr1 50 60 b 1 +"))
         self.assertIn(f"{other}: line 2: taken out by line 2 of {self.corrections}\n", self.replay(other).out)
-
-    def test_a_program_that_says_otherwise(self):
-        """Verdicts or a track that don't fit the files end with status 2."""
-        self.corrections.write_text(tabs("remove chr1 50 60 b 1 +\nadd chr1 5 6 x 0 +"))
-        other = self.file("other", tabs("chr1 5 6"))
-        for pattern, words, message in (
-            ("s/nothing/else/", [], ""), ("s/x/y/", [], "the lines don't arrive at the program's last track\n"),
-            ("s/50/51/", [], "line 1 was refused against the records that were followed\n"),
-            ("s/add\tchr1\t5/add\tchr1\t-5/", ["-b", other, self.file("more", tabs("addb chr1 5 8"))],
-             "the second file's edits were refused over it alone\n"),
-        ):
-            program = self.script("program", f"sed -u '{pattern}' | {PROGRAM} \"$@\"")
-            with mock.patch.dict(os.environ, BEDKEEP=str(program)):
-                outcome = self.replay(*words)
-            self.assertEqual((outcome.status, outcome.err), (2 if message else 0, message))
 
 
 class RandomScripts(Case):
@@ -270,7 +260,8 @@ class RandomScripts(Case):
                 with bedkeep.Session(sizes, bed) as session:
                     refused = [one.number for one in session.edit(lines)]
                     rows = "".join("\t".join(map(str, row)) + "\n" for row in session.records())
-                outcome = Outcome("apply", sizes, bed, *parts)
+                outcome = Outcome("apply", sizes, bed, *parts, "--copies", "--sorted")
                 self.assertEqual((outcome.status, outcome.out), (1 if refused else 0, rows))
+                self.assertEqual(sorted(Outcome("apply", sizes, bed, *parts, "--copies").out), sorted(rows))
                 listed = [f"{parts[number > 3]}: line {number - 3 * (number > 3)}" for number in refused]
                 self.assertEqual([":".join(line.split(":")[:2]) for line in outcome.err.split("\n")[:-1]], listed)

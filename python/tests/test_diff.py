@@ -154,7 +154,7 @@ class Replayed(Diff):
                 pick.shuffle(new)
                 first, second = self.files("\n".join(old), "\n".join(new))
                 script = self.file("script", Outcome("diff", first, second).out)
-                outcome = Outcome("apply", sizes, first, script)
+                outcome = Outcome("apply", sizes, first, script, "--copies")
                 self.assertEqual((outcome.status, outcome.err), (0, ""))
                 self.assertEqual(sorted(outcome.out.split("\n")), sorted(second.read_text().split("\n")))
 

@@ -4,7 +4,7 @@ from collections import Counter
 import bedkeep
 from bedkeep.replay import replay
 from helpers import Case, tabs
-from slow_classes import Slow
+from slow_classes import DOABLE, Edit, Slow, carried, overlap
 
 LENGTHS = {"chr1": 60, "chr2": 60}
 
@@ -53,56 +53,114 @@ def some_script(pick, records):
     return lines
 
 
+def some_edits(pick, records, wide):
+    """The same as edits of the slow model, some of them in groups; of a wide track with tails of two columns, or without."""
+    edits, group = [], 0
+    for number, (command, *columns) in enumerate(some_script(pick, records), 1):
+        half = len(columns) // 2 if command == "replace" else len(columns)
+        halves = [tuple(columns[:half]), tuple(columns[half:])] if command == "replace" else [tuple(columns)]
+        tails = [some_tail(pick) if wide and pick.random() < 0.6 else None] * len(halves)
+        if tails[0] and len(tails) > 1:
+            tails = [tails[0] if pick.random() < 0.8 else None, some_tail(pick) if pick.random() < 0.4 else tails[0]]
+        old = (halves[0], tails[0]) if command != "add" else (None, None)
+        new = (halves[-1], tails[-1]) if command != "remove" else (None, None)
+        group += pick.random() < 0.5
+        edits.append(Edit(number, command, *old, *new, all(map(is_good, halves)), group if wide != (group % 3 == 0) else None))
+    return edits
+
+
+def some_tail(pick):
+    return pick.choice("xy"), pick.choice("pq")
+
+
+def is_good(record):
+    """Whether these six columns are a record."""
+    sequence, start, end, name, score, strand = record
+    numbers = start.isdigit() and end.isdigit()
+    return sequence in LENGTHS and numbers and int(start) < int(end) <= LENGTHS[sequence] and "" not in record and strand in "+-."
+
+
 class RandomScripts(Replays):
-    """Also over the second file, over releases that have some of the corrections, and with lines that end in CR."""
+    """Also over the second file, over releases that have some of the corrections, with tails, and with lines that end in CR."""
 
     def test_the_classes_are_those_of_a_slow_check(self):
-        sizes = self.file("sizes", "chr1\t60\nchr2\t60\n")
+        self.sizes = self.file("sizes", "chr1\t60\nchr2\t60\n")
         seen = Counter()
-        for seed in range(300):
+        for seed in range(int(__import__("os").environ.get("N", 300))):
             with self.subTest(seed=seed):
-                pick = random.Random(seed)
-                records = [some_record(pick) for _ in range(pick.choice([1, 3, 8, 20]))]
-                records += [pick.choice(records) for _ in range(pick.choice([0, 0, 2, 4]))]
-                release = [altered(pick, one) if pick.random() < 0.4 else one for one in records if pick.random() < 0.85]
-                script = some_script(pick, records)
-                if pick.random() < 0.3:
-                    release = self.partly_corrected(pick, sizes, release or records, script)
-                seen += self.one(pick, sizes, release or records, script)
-        self.assertEqual(len(seen), 10, seen)
+                seen += self.one(random.Random(seed))
+        self.assertEqual(len(seen), 12, seen)
 
-    def partly_corrected(self, pick, sizes, release, script):
-        with bedkeep.Session(sizes, self.bed("before", release)) as session:
-            session.edit(["\t".join(line) for line in script if pick.random() < 0.7])
-            return [tuple(map(str, row)) for row in session.records()]
-
-    def one(self, pick, sizes, release, script):
-        ignore, copies, second = pick.choice([None, None, "score", "name", "strand"]), pick.random() < 0.6, pick.random() < 0.3
-        files = [self.bed("release", release), self.bed("other", [("chr1", "1", "2")])]
-        bed, other = reversed(files) if second else files
-        lines = ["\t".join([line[0] + "b" * second, *line[1:]]) for line in script]
-        corrections = self.file("corrections", "".join(f"{line}{pick.choice(['', chr(13)])}\n" for line in lines))
-        replayed = replay(sizes, bed, [corrections], other, ignore, copies)
-        reasons = self.reasons(sizes, bed, lines, other)
-        column = None if ignore is None else bedkeep.rows.RECORD.index(ignore)
-        slow = Slow(release, script, reasons, LENGTHS, column, copies).all()
-        self.assertEqual(len(replayed.findings), len(slow))
-        for finding, (kind, found, by, mended) in zip(replayed.findings, slow):
-            self.assertEqual((finding.kind, finding.mended.split("\t")[1:], finding.by and finding.by.number),
-                             (kind, mended, by), finding.line.text)
+    def one(self, pick):
+        wide = pick.random() < 0.4
+        default = (".", ".") if wide else ()
+        records = [some_record(pick) for _ in range(pick.choice([1, 3, 8, 20]))]
+        records += [pick.choice(records) for _ in range(pick.choice([0, 0, 2, 4]))]
+        edits = some_edits(pick, records, wide)
+        release = [(altered(pick, one) if pick.random() < 0.4 else one, some_tail(pick) if wide else ())
+                   for one in records if pick.random() < 0.85] or [(records[0], ("x", "p") if wide else ())]
+        if pick.random() < 0.3:
+            release = [entry[:2] for entry in carried(release, [edit for edit in edits if pick.random() < 0.7], True, default)[1].now] or release
+        ignore, copies = pick.choice([[], [], ["score"], ["name"], ["strand", "name"]]), pick.random() < 0.3
+        second = not wide and pick.random() < 0.3
+        slow = Slow(release, edits, LENGTHS, [bedkeep.rows.RECORD.index(name) for name in ignore], copies, default, not second)
+        expected = slow.all()
+        self.bed, self.other = self.bed_of("release", release), self.bed_of("other", [(("chr1", "1", "2"), ())])
+        if second:
+            self.bed, self.other = self.other, self.bed
+        script = self.file("corrections", script_of(edits, second, pick))
+        replayed = replay(self.sizes, self.bed, [script], self.other, ignore, copies)
+        self.assertEqual([verdict(finding.line) for finding in replayed.findings], list(slow.verdicts.values()))
+        for finding, (kind, found, by, mended), edit in zip(replayed.findings, expected, edits):
+            self.assertEqual((finding.kind, of_track(finding.mended), finding.by and of_track(finding.by.text)),
+                             (kind, mended, edits[by - 1].text if by else None), finding.line.text)
             if found:
-                self.assertEqual(finding.found, found)
-        self.check_mended(sizes, bed, other, replayed, copies)
+                self.assertEqual(finding.found, found, finding.line.text)
+        self.check_mended(replayed, ignore, copies)
         return self.kinds(replayed)
 
-    def check_mended(self, sizes, bed, other, replayed, copies):
-        """Of the mended script a session refuses exactly the lines that couldn't be mended."""
-        left = [one for one in replayed.findings if one.kind != "already so" and (one.kind != "already there" or copies)]
-        lines = [finding.mended or finding.line.text for finding in left]
-        self.assertEqual([line for line in replayed.mended() if not line.startswith("#")], lines)
-        unmended = {number for number, finding in enumerate(left, 1)
-                    if not finding.mended and finding.kind not in ("fits", "follows", "already there")}
-        self.assertEqual(set(self.reasons(sizes, bed, lines, other)), unmended)
+    def bed_of(self, name, entries):
+        return self.file(name, "".join("\t".join([*record, *tail]) + "\n" for record, tail in entries))
+
+    def check_mended(self, replayed, ignore, copies):
+        """Replayed again, the mended script fits except for the lines that couldn't be mended; and what is mended is like its base."""
+        out = {finding.line.group for finding in replayed.findings if finding.line.group and finding.kind not in DOABLE}
+        live = [finding for finding in replayed.findings
+                if finding.kind not in ("conflict", "already so", "already there") and finding.line.group not in out]
+        text = "".join(f"{line}\n" for line in replayed.mended())
+        again = replay(self.sizes, self.bed, [self.file("mended", text)], self.other, (), copies)
+        self.assertEqual([finding.line.text for finding in again.findings], [finding.mended or finding.line.text for finding in live])
+        for finding, later in zip(live, again.findings):
+            old, found = finding.line.old, finding.found
+            if finding.mended or finding.kind in ("fits", "follows"):
+                self.assertEqual(later.kind, "fits", later.line.text)
+            if finding.mended and not finding.by and finding.kind != "fits but for":
+                self.assertTrue(found[:3] == old[:3] or overlap(found, old), later.line.text)
+                self.assertEqual(found[3], old[3])
+
+
+def verdict(line):
+    """What came of a line, as the slow model says it."""
+    if line.there:
+        return "differs" if line.refusal else "there"
+    return {"": "done", "no such record": "absent"}.get(line.refusal, "apart" if line.refusal.startswith("not done") else "bad")
+
+
+def of_track(text):
+    """A line of the second file as one of the track."""
+    command, _, rest = text.partition("\t")
+    return f"{command.removesuffix('b')}\t{rest}" if text else ""
+
+
+def script_of(edits, second, pick):
+    """The text of a script, with comments above groups."""
+    rows, group = [], None
+    for edit in edits:
+        if edit.group != group:
+            rows += ["", f"# together: {edit.group}"] if edit.group is not None else [""]
+        group = edit.group
+        rows.append(edit.text.replace("\t", "b\t", 1) if second else edit.text)
+    return "".join(f"{row}{pick.choice(['', chr(13)])}\n" for row in rows)
 
 
 class Releases(Replays):
@@ -158,11 +216,7 @@ class Releases(Replays):
             corrected = [tuple(map(str, row)) for row in session.records()]
         replayed = self.replay(corrected, copies=False)
         self.assertEqual(self.kinds(replayed), Counter({"already so": 45, "already there": 5}))
-        why, *comments = replayed.mended()
-        self.assertEqual([why, *(line.partition(": ")[2] for line in comments)],
-                         ["# why", *(line for line in self.lines if line.startswith("remove"))])
-        self.assertEqual({line.partition(": ")[0] for line in comments},
-                         {"# no record like it is there", "# the file has the other corrections"})
+        self.assertEqual(list(replayed.mended()), ["# why", *(f"# dropped: {line}" for line in self.lines)])
 
     def test_releases_that_move_and_drop_records(self):
         for seed in range(3):
@@ -172,9 +226,10 @@ class Releases(Replays):
                 if fate != "gone":
                     release.append((one[0], str(int(one[1]) + 3), *one[2:]) if fate == "moved" else one)
             replayed = self.replay(release)
-            for finding in replayed.findings[:45]:
-                fate = fates[finding.line.fields[3]]
-                self.assertEqual(finding.kind, "already so" if (fate, finding.line.command) == ("gone", "remove") else fate)
+            for n, finding in enumerate(replayed.findings[:45]):
+                fate, command = fates[finding.line.fields[3]], finding.line.command
+                expected = {("gone", "remove"): "already so", ("moved", "replace"): "conflict" if n % 2 else "moved"}
+                self.assertEqual(finding.kind, expected.get((fate, command), fate))
             self.assertEqual(self.refused_when_mended(replayed), self.kinds(replayed)["gone"])
 
 
@@ -190,9 +245,42 @@ class Particular(Replays):
         return [finding.kind for finding in self.of(*given, **options).findings]
 
     def test_both_changed_one_column(self):
+        """Nobody settles that but a person. If both came to the same there is nothing to settle."""
         finding = self.of("chr1 12 30 a", "replace chr1 10 30 a chr1 11 30 a").findings[0]
-        self.assertEqual((finding.kind, finding.mended, finding.note),
-                         ("moved", "replace\tchr1\t12\t30\ta\tchr1\t11\t30\ta", "the file has another start too"))
+        self.assertEqual((finding.kind, finding.mended, finding.unlike, finding.found),
+                         ("conflict", "", ("start",), ("chr1", "12", "30", "a")))
+        finding = self.of("chr1 10 35 a 7", "replace chr1 10 30 a 5 chr1 9 35 a 5").findings[0]
+        self.assertEqual((finding.kind, finding.mended.split("\t")[1:]),
+                         ("moved", "chr1 10 35 a 7 chr1 9 35 a 7".split()))
+
+    def test_both_ends_moved_by_one_distance(self):
+        """The correction moves along, unless it would leave the sequence."""
+        finding = self.of("chr1 530 630 g2", "replace chr1 500 600 g2 chr1 490 600 g2").findings[0]
+        self.assertEqual((finding.kind, finding.mended.split("\t")[1:]), ("moved", "chr1 530 630 g2 chr1 520 630 g2".split()))
+        for release, script in (("chr1 0 90 a", "replace chr1 10 100 a chr1 9 100 a"), ("chr1 950 1000 a", "replace chr1 900 950 a chr1 900 960 a")):
+            self.assertEqual(self.listed(release, script), ["conflict"])
+
+    def test_what_is_found(self):
+        """By the name and an overlap alone; without a name by the place, or by the other columns and an overlap."""
+        for release, script, kind in (
+            ("chr1 150 260", "replace chr1 100 200 chr1 100 210", "gone"),
+            ("chr1 150 260 .", "replace chr1 100 200 . chr1 100 210 .", "gone"),
+            ("chr1 90 200 . 5 +", "replace chr1 100 200 . 5 + chr1 100 210 . 5 +", "moved"),
+            ("chr1 90 200 . 6 +", "replace chr1 100 200 . 5 + chr1 100 210 . 5 +", "gone"),
+            ("chr1 100 200 . 6 +", "replace chr1 100 200 . 5 + chr1 100 210 . 5 +", "changed"),
+            ("chr1 100 200 . 6 +", "remove chr1 100 200 . 5 +", "already so"),
+            ("chr1 90 200 b", "replace chr1 100 200 a chr1 100 210 a", "gone"),
+            ("chr1 200 300 a", "replace chr1 100 200 a chr1 100 210 a", "conflict"),
+            ("chr1 200 290 a", "replace chr1 100 200 a chr1 100 210 a", "gone"),
+            ("chr1 199 290 a", "remove chr1 100 200 a", "moved"),
+        ):
+            self.assertEqual(self.listed(release, script), [kind], (release, script))
+
+    def test_a_record_that_another_line_names(self):
+        """It is left to that line."""
+        script = "replace chr1 10 30 a chr1 10 31 a\nremove chr1 12 40 a"
+        self.assertEqual(self.listed("chr1 10 31 a", script), ["already so", "already so"])
+        self.assertEqual(self.listed("chr1 12 40 a", script), ["gone", "fits"])
 
     def test_the_release_made_it_and_rescored(self):
         self.assertEqual(self.listed("chr1 11 30 a 9 +", "replace chr1 10 30 a 5 + chr1 11 30 a 5 +"), ["already so"])
@@ -202,7 +290,7 @@ class Particular(Replays):
         script = "remove chr1 10 30 a\nremove chr1 40 50 b\nreplace chr1 60 70 c chr1 60 71 c\n"
         left = "chr1 10 30 other\nchr1 80 90 b\n"
         self.assertEqual(self.listed(left + "chr1 60 71 c", script), ["already so"] * 3)
-        self.assertEqual(self.listed(left + "chr1 60 72 c", script), ["changed", "moved", "moved"])
+        self.assertEqual(self.listed(left + "chr1 60 72 c", script), ["already so", "already so", "conflict"])
         self.assertEqual(self.listed(left + "chr1 10 31 a\nchr1 60 71 c", script), ["moved", "already so", "already so"])
 
     def test_a_chain(self):
@@ -220,27 +308,37 @@ class Particular(Replays):
                   "replace chr1 11 30 a 1 chr1 13 30 a 1\nremove chr1 11 30 a 2")
         self.assertEqual(self.listed("chr1 10 30 a 2\nchr1 11 30 a 2", script), ["changed", "changed", "taken out", "fits"])
 
+    def test_a_chain_over_a_conflict(self):
+        """What would come of a line that isn't settled isn't settled either."""
+        script = "replace chr1 10 30 a chr1 10 31 a\nreplace chr1 10 31 a chr1 9 31 a\nreplace chr1 9 31 a chr1 8 31 a"
+        replayed = self.of("chr1 10 40 a", script)
+        self.assertEqual([(one.kind, one.by and one.by.number) for one in replayed.findings], [("conflict", None), ("conflict", 1), ("conflict", 2)])
+        self.assertEqual([line for line in replayed.mended() if not line.startswith("#")], [])
+
     def test_a_line_that_follows(self):
         script = "replace chr1 10 30 a 1 chr1 10 30 b 2\nreplace chr1 10 30 b 2 chr1 12 30 b 2"
-        self.assertEqual(self.listed("chr1 10 30 a 0", script), ["changed", "follows"])
+        self.assertEqual(self.listed("chr1 10 30 a 2", script), ["changed", "follows"])
 
     def test_a_mended_record_that_has_no_length(self):
         finding = self.of("chr1 25 30 a", "replace chr1 10 30 a chr1 10 20 a").findings[0]
         self.assertEqual((finding.kind, finding.mended, finding.note),
-                         ("moved", "", "start and end of the mended record don't fit"))
+                         ("conflict", "", "start and end of the mended record don't fit"))
 
     def test_ignore_takes_one_alone(self):
         script = "replace chr1 10 30 a 1 chr1 11 30 a 1\nremove chr1 11 30 a 1"
         self.assertEqual(self.listed("chr1 10 30 a 2", script, ignore="score"), ["fits but for", "fits but for"])
-        self.assertEqual(self.listed("chr1 10 30 a 2\nchr1 10 30 a 3", script, ignore="score")[0], "changed")
+        self.assertEqual(self.listed("chr1 10 30 a 2\nchr1 10 30 a 3", script, ignore="score")[0], "conflict")
+        self.assertEqual(self.listed("chr1 10 30 b 2", script, ignore=["score", "name"]), ["fits but for", "fits but for"])
+        self.assertEqual(self.listed("chr1 11 30 b 1", "remove chr1 11 30 a 1", ignore="name"), ["already so"])
+        self.assertEqual(self.listed("chr1 11 30 a 2", "remove chr1 11 30 a 1", ignore="score"), ["fits but for"])
 
     def test_copies(self):
         script = "remove chr1 10 30 a\nremove chr1 10 31 a"
-        self.assertEqual(self.listed("chr1 10 30 a\nchr1 10 30 a", script), ["fits", "moved"])
+        self.assertEqual(self.listed("chr1 10 30 a\nchr1 10 30 a", script), ["fits", "already so"])
         script = "remove chr1 10 31 a\nremove chr1 10 30 a"
         self.assertEqual(self.listed("chr1 10 30 a", script), ["already so", "fits"])
-        self.assertEqual(list(self.of("chr1 1 2", "add chr1 01 2", copies=False).mended()), [])
-        self.assertEqual(list(self.of("chr1 1 2", "add chr1 01 2").mended()), ["add\tchr1\t01\t2"])
+        self.assertEqual(list(self.of("chr1 1 2", "add chr1 01 2").mended()), ["# dropped: add\tchr1\t01\t2"])
+        self.assertEqual(list(self.of("chr1 1 2", "add chr1 01 2", copies=True).mended()), ["add\tchr1\t01\t2"])
 
     def test_a_record_that_a_line_took(self):
         taken = self.of("chr1 10 30", "remove chr1 10 30\nremove chr1 10 30").findings[1]
@@ -263,7 +361,7 @@ class Particular(Replays):
 
     def test_two_records_fit_as_well(self):
         finding = self.of("chr1 12 30 a\nchr1 8 30 a", "replace chr1 10 30 a chr1 10 31 a").findings[0]
-        self.assertEqual((finding.kind, finding.mended, finding.note), ("moved", "", "2 records fit as well"))
+        self.assertEqual((finding.kind, finding.mended, finding.note), ("conflict", "", "2 records fit equally"))
 
     def test_a_name_that_many_records_have(self):
         release = "\n".join(f"chr1 {n * 10} {n * 10 + 8} gene" for n in range(90))
@@ -272,9 +370,9 @@ class Particular(Replays):
                          [("moved", "remove\tchr1\t10\t18\tgene"), ("already so", "")])
 
     def test_the_second_file_has_its_own_width(self):
-        replayed = self.of("chr1 1 2 a", "removeb chr1 5 9\nresize chr1 2000\naddb chr1 1 1500", "chr1 5 10")
+        replayed = self.of("chr1 1 2 a", "removeb chr1 5 9 x\nresize chr1 2000\naddb chr1 1 1500 y", "chr1 5 10 x")
         self.assertEqual([(one.kind, one.mended) for one in replayed.findings],
-                         [("moved", "removeb\tchr1\t5\t10"), ("fits", ""), ("fits", "")])
+                         [("moved", "removeb\tchr1\t5\t10\tx"), ("fits", ""), ("fits", "")])
 
     def test_lines_of_views_and_comments_stay(self):
         script = self.file("corrections", "# why\nopen\tv\tmerge\n\nadd\tchr1\t1\t2\tx\nshowall\tchr1\t1\t2\nadd\tchr1\t3\t4\tx\r")

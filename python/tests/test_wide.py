@@ -37,7 +37,7 @@ class Applied(Wide):
 
     def test_headers_of_a_wide_file(self):
         outcome = self.desk("apply", f"#one\n\n{PEAKS}\ntrack", "")
-        self.assertEqual((outcome.status, outcome.rows), (0, ["#one", "track", *PEAKS.split("\n")]))
+        self.assertEqual((outcome.status, outcome.rows), (0, ["#one", "", *PEAKS.split("\n"), "track"]))
 
     def test_tails_follow_their_records(self):
         outcome = self.desk("apply", BED12, """replace chr1 300 400 geneB 7 - chr1 300 400 geneB 8 +
@@ -45,7 +45,7 @@ remove chr2 5 50 geneC 0 .
 add chr2 7 9 new 0 +
 add chr2 8 9 own 0 + 8 9 0,0,9 1 1 0
 replace chr1 100 200 geneA 0 + chr1 100 200 nameA 0 +
-replace chr1 100 200 nameA 0 + chr2 1 101 nameA 0 + 1 101 0 1 100 0""")
+replace chr1 100 200 nameA 0 + chr2 1 101 nameA 0 + 1 101 0 1 100 0""", "--sorted")
         self.assertEqual((outcome.status, outcome.messages, outcome.rows), (0, [], """\
 chr1 300 400 geneB 7 - 300 300 0 3 10,10,10 0,40,90
 chr1 300 400 geneB 8 + 300 400 0 1 100 0
@@ -80,7 +80,7 @@ class Diffs(Wide):
         new = self.file("new.bed", tabs(BED12.replace("300 300 0 3", "300 305 9 3").replace("geneC 0 . 10", "geneC 0 - 11")))
         script = self.file("script", Outcome("diff", old, new).out)
         self.assertEqual([line.split("\t")[0] for line in script.read_text().split("\n")], ["", "replace", "replace", ""])
-        outcome = Outcome("apply", self.sizes, old, script, "--strict")
+        outcome = Outcome("apply", self.sizes, old, script, "--strict", "--copies")
         self.assertEqual((outcome.status, outcome.err, outcome.out), (0, "", new.read_text()))
 
     def test_random_files_with_copies_of_several_tails(self):
@@ -91,7 +91,7 @@ class Diffs(Wide):
                 rows = ["\t".join([*pick.choice(records), pick.choice("xy")]) + "\n" for _ in range(24)]
                 old, new = (self.file(name, "".join(part)) for name, part in (("old", rows[:15]), ("new", rows[8:])))
                 script = self.file("script", Outcome("diff", old, new).out)
-                outcome = Outcome("apply", self.sizes, old, script, "--strict")
+                outcome = Outcome("apply", self.sizes, old, script, "--strict", "--copies")
                 self.assertEqual((outcome.status, outcome.err), (0, ""))
                 self.assertEqual(sorted(outcome.out.split("\n")), sorted(new.read_text().split("\n")))
 

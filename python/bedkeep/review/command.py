@@ -29,7 +29,8 @@ def main(words: Sequence[str]) -> int:
     parser.add_argument("-d", dest="distance", metavar="N", type=int, default=0, help="of the blocks, as in merge -d N")
     parser.add_argument("--igv", metavar="NAME", help="what IGV calls the genome, such as hg38")
     given = parser.parse_intermixed_args(words)
-    contents = write_page(given.genome, given.bed, given.corrections, given.page, given.second, given.distance, given.igv)
+    contents = write_page(given.genome, given.bed, given.corrections, given.page, given.second, given.distance, given.igv,
+                          given.copies, given.leave_blocks)
     counts = Counter(state_of(line) for line in contents.run)
     there = f", {counts['there']} already there" if counts["there"] else ""
     print(f"{given.page}: {counts['done']} done, {counts['refused']} refused{there}", file=sys.stderr)

@@ -52,7 +52,7 @@ class Printing(Session):
 def review(inputs: Inputs, distance: int, sums: Sequence[tuple[str, str]], copies: bool = False, leave_blocks: bool = False) -> Contents:
     """All that the page shows. Differs if its pictures don't arrive at what the program printed."""
     lengths = inputs.lengths
-    findings = replay_inputs(inputs).findings
+    findings = replay_inputs(inputs, copies=copies, leave_blocks=leave_blocks).findings
     lines = [finding.line for finding in findings]
     units = list(units_of(findings))
     pictured = {finding.line.number for unit in units for finding in unit.shown}
