@@ -1,47 +1,32 @@
 """What edits changed, counted line by line, so that a question about it costs the same after any number of them."""
 from __future__ import annotations
 
-from collections import Counter
 from collections.abc import Mapping
 from typing import Iterator, Optional, Sequence
 
 from .records import Record, name_of, record_of
 
+Step = tuple[Record, int]  # copies of a record that a line puts in: 1, or -1 if it takes one out
 
-class Changes:
-    """How many more or fewer copies of each record the track has by the edits, and the lengths that they corrected.
 
-    added:   how many records the track has more than before, or below 0 fewer
-    lengths: of each sequence now, or None if those of the genome file aren't known
+class Copies:
+    """How many more or fewer copies of each record a file has by its edits.
+
+    added: how many records it has more than before, or below 0 fewer
     """
 
-    def __init__(self, lengths: Optional[Mapping[str, int]]) -> None:
+    def __init__(self) -> None:
         self.added = 0
-        self.lengths: Optional[dict[str, int]] = None if lengths is None else dict(lengths)
-        self._given = lengths
-        self._resized: dict[str, list[int]] = {}  # the lengths that a sequence got, one after another
         self._by_name: dict[str, dict[Record, int]] = {}
-        self._second: Counter[Record] = Counter()  # by the edits of the second file
+        self._peaks: dict[Record, list[int]] = {}  # the most copies so far, after each step of the record
 
-    def do(self, command: str, fields: Sequence[str]) -> None:
-        """Counts a line that was done."""
-        if command == "resize":
-            self._resized.setdefault(fields[0], []).append(int(fields[1]))
-            self._set_length(fields[0])
-        else:
-            self._count(command, fields, 1)
+    def net(self, record: Record) -> int:
+        """The copies that were put in, less those that were taken out."""
+        return self._by_name.get(name_of(record), {}).get(record, 0)
 
-    def undo(self, command: str, fields: Sequence[str]) -> None:
-        """Takes back what was counted for the last line, or for the last line of its sequence if it is a `resize`."""
-        if command == "resize":
-            self._resized[fields[0]].pop()
-            self._set_length(fields[0])
-        else:
-            self._count(command, fields, -1)
-
-    def net(self, record: Record, second: bool = False) -> int:
-        """The copies of a record that the edits put into the track, or the second file, less those that they took out."""
-        return self._second[record] if second else self._by_name.get(name_of(record), {}).get(record, 0)
+    def taken(self, record: Record) -> int:
+        """How many copies were taken out and haven't come back."""
+        return (self._peaks[record][-1] if record in self._peaks else 0) - self.net(record)
 
     def names(self) -> Iterator[str]:
         """The names of the records whose number of copies differs."""
@@ -51,10 +36,67 @@ class Changes:
         """`net` of each record of a name for which it isn't 0."""
         return self._by_name.get(name, {})
 
+    def do(self, step: Step) -> None:
+        record, copies = step
+        net = self._add(record, copies)
+        peaks = self._peaks.setdefault(record, [])
+        peaks.append(max(net, peaks[-1] if peaks else 0))
+
+    def undo(self, step: Step) -> None:
+        """Takes the last step of a record back."""
+        record, copies = step
+        self._add(record, -copies)
+        self._peaks[record].pop()
+        if not self._peaks[record]:
+            del self._peaks[record]
+
+    def _add(self, record: Record, copies: int) -> int:
+        self.added += copies
+        name = name_of(record)
+        counted = self._by_name.setdefault(name, {})
+        count = counted.pop(record, 0) + copies
+        if count:
+            counted[record] = count
+        elif not counted:
+            del self._by_name[name]
+        return count
+
+
+class Changes:
+    """The copies that edits added to the track and to the second file, and the lengths that they corrected.
+
+    lengths: of each sequence now, or None if those of the genome file aren't known
+    """
+
+    def __init__(self, lengths: Optional[Mapping[str, int]]) -> None:
+        self.track, self.second = Copies(), Copies()
+        self.lengths: Optional[dict[str, int]] = None if lengths is None else dict(lengths)
+        self._given = lengths
+        self._resized: dict[str, list[int]] = {}  # the lengths that a sequence got, one after another
+
+    def do(self, command: str, fields: Sequence[str]) -> None:
+        """Counts a line that was done."""
+        if command == "resize":
+            self._resized.setdefault(fields[0], []).append(int(fields[1]))
+            self._set_length(fields[0])
+        for step in _steps(command, fields):
+            self._copies(command).do(step)
+
+    def undo(self, command: str, fields: Sequence[str]) -> None:
+        """Takes the last line back."""
+        if command == "resize":
+            self._resized[fields[0]].pop()
+            self._set_length(fields[0])
+        for step in reversed(_steps(command, fields)):
+            self._copies(command).undo(step)
+
     def length_before(self, sequence: str, later: int = 0) -> int:
         """The length of a sequence before its last `resize`, or before the one that so many later ones follow."""
         lengths = self._resized[sequence]
         return lengths[-2 - later] if len(lengths) > 1 + later else self._given_length(sequence)
+
+    def _copies(self, command: str) -> Copies:
+        return self.second if command.endswith("b") else self.track
 
     def _given_length(self, sequence: str) -> int:
         if self._given is None:
@@ -66,26 +108,11 @@ class Changes:
             resized = self._resized[sequence]
             self.lengths[sequence] = resized[-1] if resized else self._given_length(sequence)
 
-    def _count(self, command: str, fields: Sequence[str], copies: int) -> None:
-        second = command.endswith("b")
-        kind = command[:-1] if second else command
-        half = len(fields) // 2 if kind == "replace" else len(fields)
-        if kind != "add":
-            self._change(record_of(fields[:half]), -copies, second)
-        if kind != "remove":
-            self._change(record_of(fields[-half:]), copies, second)
 
-    def _change(self, record: Record, copies: int, second: bool) -> None:
-        if second:
-            self._second[record] += copies
-            return
-        self.added += copies
-        name = name_of(record)
-        counted = self._by_name.setdefault(name, {})
-        count = counted.get(record, 0) + copies
-        if count:
-            counted[record] = count
-            return
-        del counted[record]
-        if not counted:
-            del self._by_name[name]
+def _steps(command: str, fields: Sequence[str]) -> list[Step]:
+    """What a line does to copies of records, in this order."""
+    kind = command[:-1] if command.endswith("b") else command
+    half = len(fields) // 2 if kind == "replace" else len(fields)
+    taken = [(record_of(fields[:half]), -1)] if kind in ("remove", "replace") else []
+    put = [(record_of(fields[-half:]), 1)] if kind in ("add", "replace") else []
+    return taken + put

@@ -60,7 +60,7 @@ class Lookup:
                 self._count = 0
                 while piece := file.read(PIECE) + file.readline():
                     self._count += _count(piece)
-        return self._count + self.changes.added
+        return self._count + self.changes.track.added
 
     def named(self, names: Iterable[str]) -> dict[str, list[Record]]:
         """The records of each name as they are after the edits, in track order, each copy."""
@@ -69,14 +69,14 @@ class Lookup:
         for record in _named(self._bed, wanted):
             found[record[3]][record] += 1
         for name, counted in found.items():
-            counted.update({record: net for record, net in self.changes.named(name).items() if len(record) > 3})
+            counted.update({record: net for record, net in self.changes.track.named(name).items() if len(record) > 3})
         return {name: self._sorted(counted) for name, counted in found.items()}
 
     def search(self, part: str) -> list[Record]:
         """The records that have this in their names, in any case, in track order, each copy."""
         folded = part.casefold()
         counted = Counter(_with(self._bed, folded))
-        changes = self.changes
+        changes = self.changes.track
         for name in changes.names():
             if folded in name.casefold():
                 counted.update({record: net for record, net in changes.named(name).items() if len(record) > 3})

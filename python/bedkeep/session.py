@@ -12,6 +12,7 @@ from heapq import nsmallest
 from types import MappingProxyType
 from typing import Any, Callable, Iterable, Iterator, Optional, Sequence, TypeVar, Union, cast
 
+from .changes import Copies
 from .conversation import Answer, Conversation, Take
 from .corrections import TOGETHER
 from .errors import Ended, Refused
@@ -400,7 +401,12 @@ class Session:
 
         second: into the second file
         """
-        return self._lookup.changes.net(record_of(_columns(record)), second)
+        return self._copies(second).net(record_of(_columns(record)))
+
+    @alone
+    def taken(self, record: Columns, second: bool = False) -> int:
+        """How many copies of a record edits took out that haven't come back: if there are any, an `add` of it puts one back."""
+        return self._copies(second).taken(record_of(_columns(record)))
 
     @property
     @alone
@@ -508,6 +514,10 @@ class Session:
     def _rows_of(self, records: Iterable[Record]) -> list[Row]:
         fields = RECORD[:self.width]
         return [row_of(fields, (record[0], int(record[1]), int(record[2]), *record[3:])) for record in records]
+
+    def _copies(self, second: bool) -> Copies:
+        changes = self._lookup.changes
+        return changes.second if second else changes.track
 
     def _refuse_place(self, chromosome: str, start: int) -> None:
         """Raises a ValueError for a place that the genome lacks."""

@@ -158,6 +158,19 @@ class Looks(Case):
                                      [record for record in order if part.lower() in record[3].lower()])
                 self.assertEqual([session.net(record) for record in order], [model[record] - file[record] for record in order])
 
+    def test_copies_that_were_taken_and_came_back(self):
+        x, y = ("chr1", 100, 200, "geneA"), ("chr1", 5, 9, "y")
+        with self.session() as session:
+            for edit, taken in (
+                (lambda: session.remove(x), (1, 0)), (lambda: session.add(x), (0, 0)), (lambda: session.add(x), (0, 0)),
+                (lambda: session.replace(x, y), (1, 0)), (lambda: session.replace(y, y), (1, 0)), (lambda: session.remove(y), (1, 1)),
+                (session.undo, (1, 0)), (session.undo, (1, 0)), (lambda: session.replace(y, x), (0, 1)), (session.undo, (1, 0)),
+                (session.undo, (0, 0)), (session.undo, (0, 0)), (session.undo, (1, 0)), (session.undo, (0, 0)),
+            ):
+                edit()
+                self.assertEqual((session.taken(x), session.taken(y)), taken)
+            self.assertEqual((session.net(x), len(session.find("geneA")), session.script()), (0, 1, ""))
+
     def test_looks_cost_the_same_after_many_edits(self):
         with self.session() as session:
             session.edit(f"add\tchr1\t{number % 900}\t1000\tn{number}" for number in range(20_000))
