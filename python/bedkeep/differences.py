@@ -27,7 +27,7 @@ Lines = list[bytes]
 
 
 class Rows:
-    """The lines of a BED file that have a record, read as often as they are wanted.
+    """The lines of a BED file that have a record, which can be read several times.
 
     path: as it was given; width: of the first record, or 0
     """
