@@ -277,7 +277,7 @@ class Cards(Case):
         self.assertIn("<p class=reason>one gene</p>", self.text)
         self.assertEqual(page.articles["L2"]["data-groups"], "done|together")
         self.assertIn('The record was put in by <a href="#L2">line 2</a>', self.text)
-        self.assertIn("line 2 to 3", page.texts["L2"])
+        self.assertIn("lines 2 to 3", page.texts["L2"])
 
     def test_exons_and_coding_part(self):
         # Exons 100 to 120, 150 to 160, 180 to 200, the coding part from 110 to 190. The picture shows 18 to 292 in 830 units from 62.

@@ -1,4 +1,4 @@
-"""The cards of the page: of a line, or of several, their verdict and reason, the lines, what is to be said of them, and pictures."""
+"""The cards of the page, each of a line or of several: verdict, reason, the lines, what is to be said of them, and pictures."""
 from __future__ import annotations
 
 from itertools import groupby, zip_longest
@@ -91,7 +91,8 @@ def _places(card: Card, several: bool) -> str:
     lines = [one.line for one in card.reviewed]
     if len(lines) == 1:
         return _place(lines[0], several)
-    return f"{_place(lines[0], several)} to {number(lines[-1].place)}"
+    file = f"{lines[0].file}: " if several else ""
+    return f"{file}lines {number(lines[0].place)} to {number(lines[-1].place)}"
 
 
 def _ranges(numbers: Iterable[int]) -> str:
