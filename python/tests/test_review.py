@@ -41,8 +41,8 @@ resize chr1 450
 resize chrX 450
 print all
 """)
-STATES = {**dict.fromkeys((2, 6, 7, 8, 15, 16), "done"), **dict.fromkeys((4, 5, 9, 10, 11, 12, 13, 14, 17, 18), "refused")}
-GROUPS = {2: "done", 4: "refused|changed", 5: "refused|moved", 7: "done|copies", 9: "refused|taken out", 10: "refused|gone",
+STATES = {7: "there", **dict.fromkeys((2, 6, 8, 15, 16), "done"), **dict.fromkeys((4, 5, 9, 10, 11, 12, 13, 14, 17, 18), "refused")}
+GROUPS = {2: "done", 4: "refused|gone", 5: "refused|moved", 7: "already there", 9: "refused|taken out", 10: "refused|gone",
           11: "refused|already so", 12: "refused|bad line", 17: "refused|bad line"}
 
 
@@ -63,7 +63,7 @@ class Written(Case):
 
     def test_status_and_message(self):
         self.assertEqual(self.outcome.status, 1)
-        self.assertEqual(self.outcome.err, f"{self.path}: 6 done, 10 refused\n")
+        self.assertEqual(self.outcome.err, f"{self.path}: 5 done, 10 refused, 1 already there\n")
 
     def test_page_is_well_formed(self):
         self.assertEqual(self.page.faults, [])
@@ -83,19 +83,18 @@ class Written(Case):
 
     def test_counts_before_and_after(self):
         # Blocks by distance 10, and bases. Before: [100,200) [300,400) [550,560) [700,800) [850,900).
-        # After: [100,205) [300,400), two copies of [390,500), [550,560) [850,900).
-        self.assertTrue("records<b>5 → 6 <small>+1</small></b>" in self.text)
+        # After: [100,205) [300,400), [390,500), [550,560) [850,900).
+        self.assertTrue("records<b>5 <small>as before</small></b>" in self.text)
         self.assertTrue("blocks<b>5 → 4 <small>-1</small></b>" in self.text)
         self.assertTrue("bases covered<b>360 → 365 <small>+5</small></b>" in self.text)
         row = re.search(r'<tr data-sequence="chr1">.*?</tr>', self.text, re.DOTALL)[0]
         columns = re.sub(r"<svg.*?</svg>", "", row, flags=re.DOTALL)
-        self.assertEqual(re.findall(r">([^<>\n]*)</t[dh]>", columns), ["chr1", "", "5", "7", "6", "+1", "4", "-1", "365", "+5"])
+        self.assertEqual(re.findall(r">([^<>\n]*)</t[dh]>", columns), ["chr1", "", "4", "7", "5", "", "4", "-1", "365", "+5"])
 
     def test_what_differs_and_the_line_that_fits(self):
         self.assertIn("<mark>200</mark>", self.card(2))
         self.assertIn("End 5 bases later.", self.card(2))
         self.assertIn("Name geneX → geneB.", self.card(4))
-        self.assertIn('data-text="replace\tchr1\t300\t400\tgeneB\tchr1\t300\t410\tgeneB"', self.card(4))
         self.assertIn("Start 3 bases earlier.", self.card(5))
 
     def test_links_to_other_lines(self):
@@ -111,7 +110,7 @@ class Written(Case):
         # Line 6 shows 390 to 500 with 82 bases on either side, in 830 units from 62: 82 are 248.4, and 110 are 333.2.
         added = r'"r added"><title>390–500 geneC</title><path d="M310 \d+h333v13h-333z"'
         self.assertRegex(self.card(6), added)
-        marks_of = {2: {"removed", "added"}, 4: {"asked", "wished", "meant", "added"}, 6: {"added"}, 8: {"removed"}, 9: {"asked"},
+        marks_of = {2: {"removed", "added"}, 4: {"asked", "wished", "meant"}, 6: {"added"}, 7: {"wished", "meant"}, 8: {"removed"}, 9: {"asked"},
                     11: {"asked", "wished", "meant"}, 15: {"removed"}, 16: {"added"}, 17: {"asked", "meant"}}
         for number, marks in marks_of.items():
             found = set(re.findall('"r ([a-z]+)"', self.card(number))) - {"second"}
@@ -303,6 +302,34 @@ class Cards(Case):
         self.page("chr1\t1\t5\n", "", "--igv", "hg38")
         self.assertEqual(ElementTree.parse(self.folder / "page.session.xml").getroot().get("genome"), "hg38")
         self.assertFalse((self.folder / "page.chrom.sizes").exists())
+
+
+    def test_a_conflict_shows_all_three(self):
+        page = self.page("chr1\t100\t230\tA\n", "replace\tchr1\t100\t200\tA\tchr1\t100\t250\tA\n")
+        self.assertIn("conflict", page.articles["L1"]["data-groups"].split("|"))
+        for row in "was      chr1  100  200  A", "asked    chr1  100  250  A", "there    chr1  100  230  A":
+            self.assertIn(row, page.texts["L1"])
+
+    def test_an_addition_that_is_there_with_other_columns(self):
+        page = self.page("chr1\t100\t200\tA\n", "add\tchr1\t100\t210\tA\n")
+        self.assertEqual((page.articles["L1"]["class"], self.outcome.status), ("refused", 1))
+        self.assertIn('data-text="replace\tchr1\t100\t200\tA\tchr1\t100\t210\tA"', self.text)
+        page = self.page("chr1\t100\t200\tA\n", "add\tchr1\t100\t200\tA\n", "--copies")
+        self.assertEqual(page.articles["L1"]["data-groups"], "done|copies|without a reason")
+
+    def test_a_warning_has_a_chip(self):
+        bed = "chr1\t100\t200\tg\t0\t+\t100\t100\t0\t2\t10,20,\t0,80,\n"
+        script = "# cut\nreplace\tchr1\t100\t200\tg\t0\t+\tchr1\t100\t190\tg\t0\t+\n"
+        self.assertEqual(self.page(bed, script).articles["L2"]["data-groups"], "done")  # The last block ends there too.
+        script = script.replace("190", "150")
+        refused = self.folder / "refused"
+        page = self.page(bed, script, "--refused", refused)
+        self.assertEqual((page.articles["L2"]["class"], refused.read_text().count("\n")), ("refused", 1))
+        page = self.page(bed, script, "--leave-blocks")
+        self.assertEqual(page.articles["L2"]["data-groups"], "done|warnings")
+        self.assertIn('<span class="kind warned">warning</span>', self.text)
+        self.assertIn("<p class=warning>", self.text)
+        self.assertTrue("warnings<b>1</b>" in self.text)
 
 
 class Arrival(Case):

@@ -63,7 +63,12 @@ AFTER = """<script>
   const find = document.getElementById('find');
   choose(find, 'no line has this text');
   wants('search', visible().length, 0);
+  choose(find, 'g123 chr1');
+  const list = document.querySelector('.all');
+  wants('search in a list', visible().length, 1);
+  wants('found in a list', list.textContent.split('\\n').length, 1);
   press('Escape');
+  wants('the whole list', list.textContent.split('\\n').length, 50);
   for (const row of document.querySelectorAll('tr[data-sequence]')) { row.click(); row.click(); clicks += 2; }
   wants('rows of sequences', visible().length, all);
   for (const key of 'jjknnx/') press(key);
@@ -171,7 +176,7 @@ def check_random(program, seed, folder):
     second = script.random.random() < 0.7
     page, distance = folder / "page.html", script.random.choice([0, 0, 10])
     contents = write_page(*(str(folder / name) for name in ("sizes", "genes.bed")), [str(folder / "corrections")], str(page),
-                          str(folder / "second.bed") if second else None, distance)
+                          str(folder / "second.bed") if second else None, distance, copies=True)
     found = Page(page.read_text(encoding="utf-8"))
     mine = {int(name[1:]) for name, named in found.articles.items() if named["class"] == "refused"}
     faults = list(found.faults)
@@ -209,7 +214,12 @@ add chr1 4 5 g 0 +
 removeb\tchr1\t150\t350
 resize\tchr2\t7000
 resize\tchr1\t500
-"""}
+# together: one gene
+replace\tchr1\t700\t760\tg7\t7\t-\tchr1\t700\t860\tg7\t7\t-
+remove\tchr1\t800\t860\tg8\t8\t+
+
+""" + "".join(f"replace\tchr1\t{100 * at}\t{100 * at + 60}\tg{at}\t{at}\t{'+-'[at % 2]}\t"
+              f"chr1\t{100 * at + 7}\t{100 * at + 67}\tg{at}\t{at}\t{'+-'[at % 2]}\n" for at in range(100, 150))}
     for name, text in files.items():
         (folder / name).write_text(text)
     paths = {name: str(folder / name) for name in files}

@@ -8,7 +8,7 @@ import tempfile
 from collections import Counter
 from typing import Iterable, Iterator, Optional, Sequence
 
-from ..desk import parser_of
+from ..desk import parser_of, write_refused
 from ..files import refuse_inputs, whole
 from ..inputs import Inputs
 from ..program import encoded
@@ -30,7 +30,7 @@ def main(words: Sequence[str]) -> int:
     parser.add_argument("--igv", metavar="NAME", help="what IGV calls the genome, such as hg38")
     given = parser.parse_intermixed_args(words)
     contents = write_page(given.genome, given.bed, given.corrections, given.page, given.second, given.distance, given.igv,
-                          given.copies, given.leave_blocks)
+                          given.copies, given.leave_blocks, given.refused)
     counts = Counter(state_of(line) for line in contents.run)
     there = f", {counts['there']} already there" if counts["there"] else ""
     print(f"{given.page}: {counts['done']} done, {counts['refused']} refused{there}", file=sys.stderr)
@@ -38,11 +38,13 @@ def main(words: Sequence[str]) -> int:
 
 
 def write_page(genome: str, bed: str, corrections: Sequence[str], path: str, second: Optional[str] = None, distance: int = 0,
-               igv: Optional[str] = None, copies: bool = False, leave_blocks: bool = False) -> Contents:
+               igv: Optional[str] = None, copies: bool = False, leave_blocks: bool = False,
+               refused: Optional[str] = None) -> Contents:
     """Writes the page and what comes with it, and returns what it shows. Nothing is written if something fails before that.
 
     distance: of the blocks; igv: what IGV calls the genome; copies: whether an `add` of a record that is there puts a copy in;
-    leave_blocks: whether a line is done after which columns from the seventh on can't hold
+    leave_blocks: whether a line is done after which columns from the seventh on can't hold; refused: a file for the messages of the
+    refused lines
     """
     with tempfile.TemporaryDirectory(prefix="bedkeep-") as folder:
         files = [_kept(name, folder) for name in (genome, bed, *([second] if second else []), *corrections)]
@@ -53,6 +55,7 @@ def write_page(genome: str, bed: str, corrections: Sequence[str], path: str, sec
         sums = list(_sums(files))
         with Inputs(files[0], files[1], files[-len(corrections):], files[2] if second else None) as inputs:
             contents = review(inputs, distance, sums, copies, leave_blocks)
+            write_refused(refused, inputs)
         tracks = [*files[1:-len(corrections)], outputs[0]]
         for output, text in zip(outputs, [*_for_igv(contents, tracks, path, igv), page(contents)]):
             with whole(output) as file:

@@ -4,14 +4,13 @@ from __future__ import annotations
 from itertools import zip_longest
 from typing import Iterable, Iterator, Mapping, Optional
 
-from ..classes import BAD, CHANGED, FOLLOWS, GONE, IGNORED, MOVED, SO, TAKEN, Finding
+from ..classes import BAD, CHANGED, CONFLICT, FOLLOWS, GONE, IGNORED, MOVED, SO, TAKEN, Finding
 from ..corrections import Line
 from ..records import Record
 from ..rows import RECORD
 from .intervals import Interval, asked, of_record
 from .markup import counted, escaped, is_whole, number, with_tabs
 
-CONFLICT = "conflict"
 SENTENCES = {
     CHANGED: "<b>Changed</b>: the record at this place differs.",
     MOVED: "<b>Moved</b>: the record is at another place.",
@@ -20,7 +19,7 @@ SENTENCES = {
     TAKEN: "<b>Taken out</b> by a line above.",
     FOLLOWS: "<b>Follows</b> a line above: it fits once that is mended.",
     CONFLICT: "<b>Conflict</b>: the file and the line changed the same, and a person has to decide.",
-    GONE: "<b>Gone</b>: the track has no record like it that no other line takes.",
+    GONE: "<b>Gone</b>: the track has no record that it may have become.",
     BAD: "<b>Bad line</b>.",
 }
 WHAT_TO_DO = {
@@ -83,7 +82,7 @@ def of_refused(line: Line, finding: Finding, lengths: Mapping[str, int]) -> Iter
     if finding.kind == CONFLICT and finding.found:
         yield beside([("was", line.old), ("asked", line.new), ("there", finding.found)])
     record, found = of_record(finding.asked), of_record(finding.found)
-    if record and found and record != found and finding.kind in (CHANGED, MOVED, IGNORED):
+    if record and found and record != found and finding.kind in (CHANGED, MOVED, IGNORED, GONE):
         yield difference(record, found)
     if line.refusal in WHAT_TO_DO:
         yield WHAT_TO_DO[line.refusal]

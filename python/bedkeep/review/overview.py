@@ -40,12 +40,12 @@ def overview(lines: Sequence[Line], lengths: Mapping[str, int], before: Side, af
 
 
 def _row(name: str, lines: Sequence[Line], length: int, width: float, before: Side, after: Side) -> str:
-    refused = sum(bool(line.refusal) for line in lines)
+    done, refused = sum(line.is_done for line in lines), sum(bool(line.refusal) for line in lines)
     counts = "".join(_change(old[name], new[name]) for old, new in
                      ((before.records, after.records), (before.blocks, after.blocks), (before.covered, after.covered)))
     picture = _picture(lines, length, max(width, 3), after.density(name))
     return (f'<tr data-sequence="{escaped(name)}"><th>{escaped(name)}</th><td class=picture>{picture}</td>'
-            f"<td>{number(len(lines) - refused) if lines else ''}</td><td class=no>{number(refused) if refused else ''}</td>"
+            f"<td>{number(done) if lines else ''}</td><td class=no>{number(refused) if refused else ''}</td>"
             f"{counts}</tr>\n")
 
 
