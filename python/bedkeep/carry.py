@@ -14,7 +14,8 @@ from itertools import groupby
 from typing import Iterator, NamedTuple, Optional, Sequence
 
 from .corrections import Line
-from .formats import fields
+from .errors import Refused
+from .formats import fields, follow
 from .records import NAMELESS, Record, distance, name_of, overlap
 from .session import Session
 
@@ -58,23 +59,32 @@ class Carrier:
         """Sends a batch, and takes the verdicts."""
         lengths = dict(self._session.lengths or {})
         kept = {} if self._copies else Look(self._session, batch).kept()
-        apart = {id(line.group) for line in batch if line.group and line.number in kept and not kept[line.number].is_same}
-        sent = [line for line in batch if line.number not in kept and id(line.group) not in apart]
+        out = {id(line.group) for line in batch if line.group and line.number in kept and not kept[line.number].is_same}
         warned = len(self._session.warnings())
-        texts, places = with_reasons(sent)
-        refusals = {places[refused.number].number: refused for refused in self._session.edit(texts)}
+        refusals: dict[int, Refused] = {}
+        for group, lines in groupby(batch, key=lambda line: id(line.group) in out and line.group):
+            sent = [line for line in lines if line.number not in kept]
+            refused = self._send(sent)
+            if group and sent and not refused:
+                self._session.undo()
+            refusals.update(refused)
         warnings = deque(self._session.warnings()[warned:])
         for line in batch:
-            refused = refusals.get(line.number)
-            line.judge(refused.reason if refused else "", lengths, refused.hint if refused else ())
+            why = refusals.get(line.number)
+            line.judge(why.reason if why else "", lengths, why.hint if why else ())
             if line.number in kept:
                 kept[line.number].judge(line)
-            elif not refused and warnings and warnings[0][0] == line.text:
+            elif not why and warnings and warnings[0][0] == line.text:
                 line.warning = warnings.popleft()[1]
             if line.command == "resize" and line.is_done:
                 lengths[line.fields[0]] = int(line.fields[1])
         for line in batch:
             self._judge_by_group(line)
+
+    def _send(self, lines: Sequence[Line]) -> dict[int, Refused]:
+        """Has the session carry out lines below their reasons, and returns the refusals by the lines' numbers."""
+        texts, places = with_reasons(lines)
+        return {places[refused.number].number: refused for refused in self._session.edit(texts)}
 
     def _judge_by_group(self, line: Line) -> None:
         """Refuses a line of whose group another one is refused."""
@@ -141,12 +151,51 @@ class Kept(NamedTuple):
             line.offers = (self.offer,)
 
 
+class Above:
+    """What the lines above in a group do to copies of records, which isn't done yet."""
+
+    def __init__(self, session: Session) -> None:
+        self._session = session
+        self._moved: Counter[tuple[bool, Record]] = Counter()  # copies put in, less those taken out
+        self._highest: dict[tuple[bool, Record], int] = {}
+        self._tails: dict[tuple[bool, Record], list[str]] = {}
+
+    def follow(self, line: Line) -> None:
+        """Goes by a line."""
+        (old, new), second, tail = line.asked(), line.is_second, ""
+        if old:
+            tails = self.tails(second, old)
+            tail = tails[0] if line.old_tail is None and tails else line.old_tail or ""
+            if tail in tails:
+                tails.remove(tail)
+            self._moved[second, old] -= 1
+        if new:
+            put = follow(old, tail, new).tail if old and tail else ""
+            self.tails(second, new).append(put if line.new_tail is None else line.new_tail)
+            self._moved[second, new] += 1
+            self._highest[second, new] = max(self._moved[second, new], self._highest.get((second, new), 0))
+
+    def moved(self, second: bool, record: Record) -> int:
+        """The copies of a record that were put in, less those that were taken out."""
+        return self._moved[second, record]
+
+    def taken(self, second: bool, record: Record) -> int:
+        """The copies of a record that were taken out and haven't come back, also by lines that are done."""
+        return max(self._session.taken(record, second), self._highest.get((second, record), 0)) - self._moved[second, record]
+
+    def tails(self, second: bool, record: Record) -> list[str]:
+        """The columns after the sixth of the copies that are there then."""
+        if (second, record) not in self._tails:
+            self._tails[second, record] = list(self._session.tails(record, second))
+        return self._tails[second, record]
+
+
 class Look:
     """What a session has of the records that the lines of a batch add."""
 
     def __init__(self, session: Session, lines: Sequence[Line]) -> None:
         self._session, self._lines = session, lines
-        self._moved: Counter[Record] = Counter()  # copies that the lines above in a group put in, less those that they take out
+        self._above = Above(session)
         adds = [new for line in lines for old, new in [line.asked()] if new and not old]
         self._there = session.around((one[0], int(one[1]), int(one[2])) for one in adds) if adds else Counter()
         self._named: dict[tuple[str, str], list[Record]] = defaultdict(list)
@@ -158,52 +207,42 @@ class Look:
         """By the numbers of the lines that add what is there: what that is."""
         kept = {}
         for group, lines in groupby(self._lines, key=lambda line: line.group):
-            self._moved.clear()
+            self._above = Above(self._session)
             for line in lines:
                 old, new = line.asked()
                 there = self._find(line, new) if new and not old else None
                 if there:
                     kept[line.number] = there
-                elif group and not line.is_second:
-                    self._moved.update({new: 1} if new else {})
-                    self._moved.subtract({old: 1} if old else {})
+                elif group:
+                    self._above.follow(line)
         return kept
 
     def _find(self, line: Line, record: Record) -> Optional[Kept]:
         """What is there of the record of an `add`. One that a line above took out may come back."""
-        tails = self._tails(line, record)
-        if (tails or not line.is_second) and self._net(line, record) < 0:
+        copies = self._copies(line, record)
+        if (copies or not line.is_second) and self._above.taken(line.is_second, record) > 0:
             return None
-        if tails and (line.new_tail is None or line.new_tail in tails):
+        if copies and (line.new_tail is None or line.new_tail in self._above.tails(line.is_second, record)):
             return Kept(record, (), "")
         if line.is_second:
             return None
         beside = self._named.get((record[0], name_of(record)), ())
-        other = min((one for one in beside if overlap(one, record) and self._is_of_file(one)),
-                    key=lambda one: distance(one, record), default=None)
-        return self._unlike(line, record, other) if other else None
+        others = [(distance(one, record), one) for one in beside if overlap(one, record) and self._is_of_file(one)]
+        return self._unlike(line, record, min(others)[1]) if others else None
 
-    def _tails(self, line: Line, record: Record) -> Sequence[str]:
-        """The columns after the sixth of each copy of a record that is there."""
-        if line.is_second:
-            return self._session.tails(record, True) or [""] * self._session.has_second(record)
-        if self._there[record] + self._moved[record] < 1:
-            return ()
-        return self._session.tails(record) or ("",)
-
-    def _net(self, line: Line, record: Record) -> int:
-        """The copies of a record that lines above put in, less those that they took out."""
-        return self._session.net(record, line.is_second) + (0 if line.is_second else self._moved[record])
+    def _copies(self, line: Line, record: Record) -> int:
+        """How many copies of a record are there; of the second file whether one is."""
+        there = self._session.has_second(record) if line.is_second else self._there[record]
+        return max(there + self._above.moved(line.is_second, record), 0)
 
     def _is_of_file(self, record: Record) -> bool:
-        """Whether the track has a copy of the file of which no line above took one."""
-        net, moved = self._session.net(record), self._moved[record]
-        return net + moved >= 0 and self._there[record] > max(net, 0)
+        """Whether the track has a copy of the file, and no line above took one that hasn't come back."""
+        return self._there[record] > max(self._session.net(record), 0) and self._above.taken(False, record) <= 0
 
     def _unlike(self, line: Line, record: Record, other: Record) -> Kept:
         """A record of the file by which an `add` with other columns isn't done."""
         tail = line.new_tail or ""
-        theirs = (self._session.tails(other) or [""])[0] if tail else ""
+        theirs = (self._above.tails(False, other) or [""])[0] if tail else ""
         mine, there = fields(record, tail), fields(other, theirs)
         unlike = [name for name, text in mine.items() if there.get(name) != text]
         return Kept(other, unlike, "replace\t" + "\t".join(other) + theirs + "\t" + "\t".join(record) + tail)

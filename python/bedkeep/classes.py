@@ -172,7 +172,7 @@ class Side:
     def _find_added(self, line: Line) -> Finding:
         new = line.new
         assert new
-        if self._copies or self._known.net.get(new, 0) < 0:
+        if self._copies or self._known.taken(new):
             return Finding(line, FOLLOWS if line.refusal else FITS)
         if self._track.has(new, line.new_tail):
             return Finding(line, THERE, new)
@@ -180,7 +180,7 @@ class Side:
             if self._track.of_file(*version):
                 return Finding(line, THERE, version.record)
         beside = [one for one in self._track.around(new) if name_of(one) == name_of(new) and name_of(one) not in NAMELESS
-                  and 0 <= self._known.net.get(one, 0) < self._track.count(one)]
+                  and not self._known.taken(one) and self._track.count(one) > max(self._known.net.get(one, 0), 0)]
         if line.is_second or not beside:
             return Finding(line, FOLLOWS if line.refusal else FITS)
         nearest = min((distance(one, new), one) for one in beside)[1]
@@ -215,10 +215,10 @@ class Side:
             return self._merged(line, agreeing[0])
         best = _least(self._likely(line), lambda version: self._far(line, version))
         if len(best) > 1:
-            return Finding(line, CONFLICT, best[0].record, note=f"{len(best)} records fit equally", tail=best[0].tail or "")
+            return Finding(line, CONFLICT, min(best).record, note=f"{len(best)} records fit equally", tail=min(best).tail or "")
         if best:
             return self._merged(line, best[0])
-        here = min(self._beside(line), key=lambda version: self._far(line, version), default=None)
+        here = min(self._beside(line), key=lambda version: (self._far(line, version), version), default=None)
         if line.new:
             return Finding(line, GONE, here.record if here else None)
         note = "another record is at its place" if here else "no record like it is there"
@@ -333,7 +333,7 @@ class Memory:
     makers:  the line that put a record in
     heirs:   what a line put in instead of its new record
     pending: the new records of lines that aren't settled
-    net:     the copies of a record that lines put in, less those that they took out
+    net:     the copies of a record that lines put in, less those that they took out; highest: the most that this was
     lengths: of the sequences
     """
 
@@ -343,6 +343,7 @@ class Memory:
         self.heirs: dict[Record, Version] = {}
         self.pending: dict[Record, Line] = {}
         self.net: dict[Record, int] = {}
+        self.highest: dict[Record, int] = {}
         self.lengths = dict(lengths)
         self._before: list[tuple[dict[Any, Any], Any, Any]] = []
 
@@ -351,7 +352,13 @@ class Memory:
         where[key] = value
 
     def move(self, record: Record, copies: int) -> None:
-        self.set(self.net, record, self.net.get(record, 0) + copies)
+        net = self.net.get(record, 0) + copies
+        self.set(self.net, record, net)
+        self.set(self.highest, record, max(net, self.highest.get(record, 0)))
+
+    def taken(self, record: Record) -> int:
+        """The copies of a record that lines took and that haven't come back."""
+        return self.highest.get(record, 0) - self.net.get(record, 0)
 
     def mark(self) -> int:
         """A point to go back to."""

@@ -36,10 +36,12 @@ class Merge(NamedTuple):
 def merge(base: Version, mine: Version, theirs: Version, lengths: Mapping[str, int]) -> Merge:
     """Takes each field that only one side changed from that side.
 
-    If both ends of theirs moved by one distance, base and mine are moved along first. Blocks are one field.
+    If both ends of theirs moved by one distance, base and mine are moved along first, unless mine is at its place already. Blocks
+    are one field.
     """
     by = int(theirs.record[1]) - int(base.record[1])
-    if by and by == int(theirs.record[2]) - int(base.record[2]) and theirs.record[0] == base.record[0]:
+    moved = by == int(theirs.record[2]) - int(base.record[2]) and theirs.record[0] == base.record[0]
+    if by and moved and mine.record[:3] != theirs.record[:3]:
         try:
             base, mine = _moved(base, by), _moved(mine, by)
         except ValueError as failure:

@@ -48,7 +48,7 @@ class State:
 
     def __init__(self, records):
         self.now = [(record, tail, 0) for record, tail in records]
-        self.net = Counter()
+        self.net, self.highest = Counter(), Counter()
 
     def entry(self, record, tail):
         return next((one for one in self.now if one[0] == record and tail in (None, one[1])), None)
@@ -63,16 +63,21 @@ class State:
         if new:
             self.now.append((new, tail if new_tail is None else new_tail, number))
             self.net[new] += 1
+            self.highest[new] = max(self.highest[new], self.net[new])
+
+    def taken(self, record):
+        """The copies of a record that lines took and that haven't come back."""
+        return self.highest[record] - self.net[record]
 
     def there(self, edit, near):
         """What keeps an `add` from being done: the record, and whether it is exactly there. near: whether another may be there."""
-        if self.net[edit.new] < 0:
+        if self.taken(edit.new):
             return None
         if self.entry(edit.new, edit.new_tail):
             return edit.new, True
         beside = [one for one in dict.fromkeys(entry[0] for entry in self.now)
                   if near and one[3] == edit.new[3] and one[3] not in NAMELESS and overlap(one, edit.new)
-                  and 0 <= self.net[one] < sum(entry[0] == one for entry in self.now)]
+                  and not self.taken(one) and max(self.net[one], 0) < sum(entry[0] == one for entry in self.now)]
         return (min((distance(one, edit.new), one) for one in beside)[1], False) if beside else None
 
 
@@ -170,7 +175,7 @@ class Slow:
 
     def added(self, edit, refused, so):
         plain = ("follows" if refused else "fits", None, None, "")
-        if self.copies or self.state.net[edit.new] < 0:
+        if self.copies or self.state.taken(edit.new):
             return plain
         there = self.state.there(edit, self.near)
         if there and there[1]:
@@ -212,10 +217,10 @@ class Slow:
 
         best = [one for one in likely if far(one) == min(map(far, likely))]
         if len(best) > 1:
-            return "conflict", best[0][0], None, ""
+            return "conflict", min(best)[0], None, ""
         if best:
             return self.merged(edit, best[0])
-        here = min(beside, key=far)[0] if beside else None
+        here = min(beside, key=lambda one: (far(one), one))[0] if beside else None
         return "gone" if edit.new else "already so", here, None, ""
 
     def merged(self, edit, theirs):
@@ -227,7 +232,7 @@ class Slow:
             return kind, record, None, "\t".join([edit.command, *taken])
         base, mine, there = [*edit.old, *(edit.old_tail or ())], [*edit.new, *(edit.new_tail or ())], [*record, *tail]
         by = int(there[1]) - int(base[1])
-        if by == int(there[2]) - int(base[2]) and there[0] == base[0]:
+        if by == int(there[2]) - int(base[2]) and there[0] == base[0] and mine[:3] != there[:3]:
             for columns in base, mine:
                 columns[1:3] = [str(int(place) + by) for place in columns[1:3]]
         merged = []

@@ -109,6 +109,45 @@ class Commands(Case):
         outcome = self.run_on("apply", "chr1 100 200 A", "# together: two\nreplace~chr1~100~200~A~chr1~100~150~A\nadd~chr1~140~200~A\n")
         self.assertEqual((outcome.status, outcome.rows), (0, ["chr1 100 150 A", "chr1 140 200 A"]))
 
+    def test_what_an_edit_put_there_may_come_back(self):
+        """As the undo of another day writes it: beside a record of its name that overlaps."""
+        script = "replace~chr1~100~200~A~chr1~110~200~A\nremove~chr1~110~200~A\nadd~chr1~110~200~A\nadd~chr1~110~200~A\n"
+        outcome = self.run_on("apply", "chr1 100 200 A\nchr1 150 300 A", script)
+        self.assertEqual((outcome.status, outcome.rows, outcome.messages), (0, ["chr1 110 200 A", "chr1 150 300 A"], [
+            "line 4: already there: chr1 110 200 A"]))
+
+    def test_a_group_puts_what_it_adds_again(self):
+        """With the columns after the sixth that followed."""
+        bed = "chr1 100 200 A 0 + 100 200 0 1 100 0\nchr1 500 600 B 0 + 500 600 0 1 100 0"
+        script = "# together: x\nreplace~chr1~100~200~A~0~+~chr1~110~200~A~0~+\nadd~chr1~110~200~A~0~+~110~200~0~1~90~0\n"
+        outcome = self.run_on("apply", bed, script)
+        self.assertEqual((outcome.status, outcome.rows, outcome.messages), (0, [
+            "chr1 110 200 A 0 + 110 200 0 1 90 0", bed.split("\n")[1]], ["line 3: already there: chr1 110 200 A 0 +"]))
+
+    def test_columns_after_the_sixth_count(self):
+        """A line that gives them names a record by all of them; the next release's are merged field by field."""
+        old, mine = "chr1 100 200 g 0 + 120 180 0 2 10,20, 0,80,", "chr1 100 200 g 5 + 120 180 0 2 10,20, 0,80,"
+        release = "chr1 100 200 g 0 + 110 190 0 3 10,30,20, 0,40,80,"
+        script = f"replace {old} {mine}\n".replace(" ", "~")
+        outcome = self.run_on("apply", release, script)
+        self.assertEqual((outcome.status, outcome.rows), (1, [release]))
+        self.assertIn("line 1: no such record: chr1 100 200 g 0 +: the record is there with thickStart 110 instead of 120", outcome.messages[0])
+        lines, status, rows, again = self.mended(release, script)
+        self.assertEqual((lines, status, rows, again), ([f"# was: replace {old} {mine}", f"replace {release} {release.replace('g 0', 'g 5')}"],
+                                                        1, [release.replace("g 0", "g 5")], 0))
+        self.assertEqual(self.run_on("apply", release, f"remove {old}\n".replace(" ", "~")).status, 1)
+        both = mine.replace("120 180", "130 180")
+        lines, status, rows, again = self.mended(release, f"replace {old} {both}\n".replace(" ", "~"))
+        self.assertEqual((lines[-1], lines[1], status, rows), (f"# replace {old} {both}", f"# conflict: mine {both} (thickStart 130)", 1, [release]))
+
+    def test_a_shift_that_the_release_made_too(self):
+        """It isn't done twice, also in a chain."""
+        lines, status, rows, again = self.mended("chr1 141 161\nchr1 175 196", "replace~chr1~175~195~chr1~171~191\nreplace~chr1~171~191~chr1~141~161\n")
+        self.assertEqual((lines, rows), (["# dropped: replace chr1 175 195 chr1 171 191", "# dropped: replace chr1 171 191 chr1 141 161"],
+                                         ["chr1 141 161", "chr1 175 196"]))
+        lines, status, rows, again = self.mended("chr1 110 210 g 7", "replace~chr1~100~200~g~5~chr1~110~210~g~5\n")
+        self.assertEqual((lines, rows), (["# dropped: replace chr1 100 200 g 5 chr1 110 210 g 5"], ["chr1 110 210 g 7"]))
+
     def test_the_second_file(self):
         second = self.file("second", tabs("chr1 1 5 a\nchr1 1 5 a\nchr1 1 5 b"))
         script = "addb~chr1~1~5~a\nremoveb~chr1~1~5~a\naddb~chr1~1~5~a\naddb~chr1~1~5~a\naddb~chr1~1~5~c\n"
@@ -141,7 +180,7 @@ class Commands(Case):
         outcome = self.run_on("apply", "chr1 100 200 A\nchr1 300 400 B", script)
         self.assertEqual((outcome.status, outcome.rows, outcome.messages), (1, ["chr1 100 200 A", "chr1 300 400 B"], [
             "line 2: not done, since line 3 is refused", "line 3: there with another start: chr1 100 200 A",
-            "  this would fit: replace chr1 100 200 A chr1 101 200 A", "line 4: not done, since line 3 is refused"]))
+            "  this would fit: replace chr1 100 200 A chr1 101 200 A", "line 4: start is not a number: '3O' (start, field 3)"]))
 
     def test_reasons_stay_with_their_lines(self):
         lines, *_ = self.mended("chr1 100 200 A\nchr1 390 500 geneC", "# lacks geneC\nadd~chr1~390~500~geneC\n# A was cut\n"

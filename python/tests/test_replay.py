@@ -86,10 +86,10 @@ class RandomScripts(Replays):
     def test_the_classes_are_those_of_a_slow_check(self):
         self.sizes = self.file("sizes", "chr1\t60\nchr2\t60\n")
         seen = Counter()
-        for seed in range(int(__import__("os").environ.get("N", 300))):
+        for seed in range(300):
             with self.subTest(seed=seed):
                 seen += self.one(random.Random(seed))
-        self.assertEqual(len(seen), 12, seen)
+        self.assertEqual(len(seen), 11, seen)
 
     def one(self, pick):
         wide = pick.random() < 0.4
@@ -135,8 +135,8 @@ class RandomScripts(Replays):
             if finding.mended or finding.kind in ("fits", "follows"):
                 self.assertEqual(later.kind, "fits", later.line.text)
             if finding.mended and not finding.by and finding.kind != "fits but for":
-                self.assertTrue(found[:3] == old[:3] or overlap(found, old), later.line.text)
-                self.assertEqual(found[3], old[3])
+                same = found[3] == old[3] if old[3] != "." else found[:3] == old[:3] or found[3:] == old[3:]
+                self.assertTrue(same and overlap(found, old), later.line.text)
 
 
 def verdict(line):
