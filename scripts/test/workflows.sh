@@ -34,6 +34,7 @@ absent() {
 
 clear='chr1\t100\t250\tgeneA\nchr1\t600\t700\tgeneD\nchr2\t400\t500\tgeneF\n'
 refused='corrections: line 2: no such record: chr1 100 200 geneA'
+warning='corrections: line 4: already there: chr1 390 500 geneC'
 
 if command -v snakemake > /dev/null; then
     ran+=(Snakemake)
@@ -41,6 +42,7 @@ if command -v snakemake > /dev/null; then
     holds clear/genes.bed "$clear"
     holds logs/genes.refused ''
     holds logs/next_release.refused "../in_git/$refused\n"
+    holds logs/next_release.messages "../in_git/$refused\n../in_git/$warning\n"
     absent corrected/next_release.bed clear/next_release.bed
     for track in genes next_release; do
         [ -s "review/$track.html" ] || fails "the page of $track was not made: $(cat said)"
@@ -56,6 +58,8 @@ if command -v cwltool > /dev/null && command -v node nodejs > /dev/null; then
     holds genes/rows.bed "$clear"
     holds genes/refused.txt ''
     grep -q "/$refused\$" next_release/refused.txt || fails 'next_release/refused.txt lacks the refused line'
+    grep -q "/$warning\$" next_release/messages.txt || fails 'next_release/messages.txt lacks the warning'
+    grep -q "/$warning\$" next_release/refused.txt && fails 'next_release/refused.txt has the warning'
     absent next_release/rows.bed
 fi
 

@@ -13,7 +13,7 @@ steps:
   apply:
     run: apply.cwl
     in: { genome: genome, bed: bed, corrections: corrections }
-    out: [corrected, refused]
+    out: [corrected, refused, messages]
   clear_of_mask:
     run: intersect.cwl
     when: $(inputs.refused.size === 0)
@@ -22,4 +22,5 @@ steps:
 outputs:
   corrected: { type: File, outputSource: apply/corrected }
   refused: { type: File, outputSource: apply/refused }
+  messages: { type: File, outputSource: apply/messages }
   clear: { type: File?, outputSource: clear_of_mask/rows }
