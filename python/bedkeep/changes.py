@@ -17,49 +17,48 @@ class Copies:
 
     def __init__(self) -> None:
         self.added = 0
-        self._by_name: dict[str, dict[Record, int]] = {}
-        self._peaks: dict[Record, list[int]] = {}  # the most copies so far, after each step of the record
+        # By name and record: after each step the copies that were put in less those taken out, and the most so far.
+        self._by_name: dict[str, dict[Record, list[tuple[int, int]]]] = {}
 
     def net(self, record: Record) -> int:
         """The copies that were put in, less those that were taken out."""
-        return self._by_name.get(name_of(record), {}).get(record, 0)
+        return self._last(record)[0]
 
     def taken(self, record: Record) -> int:
         """How many copies were taken out and haven't come back."""
-        return (self._peaks[record][-1] if record in self._peaks else 0) - self.net(record)
+        net, most = self._last(record)
+        return most - net
 
     def names(self) -> Iterator[str]:
-        """The names of the records whose number of copies differs."""
+        """The names of all records that were put in or taken out."""
         return iter(self._by_name)
 
-    def named(self, name: str) -> Mapping[Record, int]:
-        """`net` of each record of a name for which it isn't 0."""
-        return self._by_name.get(name, {})
+    def named(self, name: str) -> dict[Record, int]:
+        """`net` of each of these records of a name."""
+        return {record: steps[-1][0] for record, steps in self._by_name.get(name, {}).items()}
 
     def do(self, step: Step) -> None:
         record, copies = step
-        net = self._add(record, copies)
-        peaks = self._peaks.setdefault(record, [])
-        peaks.append(max(net, peaks[-1] if peaks else 0))
+        self.added += copies
+        steps = self._by_name.setdefault(name_of(record), {}).setdefault(record, [])
+        net, most = steps[-1] if steps else (0, 0)
+        net += copies
+        steps.append((net, net if net > most else most))
 
     def undo(self, step: Step) -> None:
         """Takes the last step of a record back."""
         record, copies = step
-        self._add(record, -copies)
-        self._peaks[record].pop()
-        if not self._peaks[record]:
-            del self._peaks[record]
-
-    def _add(self, record: Record, copies: int) -> int:
-        self.added += copies
+        self.added -= copies
         name = name_of(record)
-        counted = self._by_name.setdefault(name, {})
-        count = counted.pop(record, 0) + copies
-        if count:
-            counted[record] = count
-        elif not counted:
-            del self._by_name[name]
-        return count
+        self._by_name[name][record].pop()
+        if not self._by_name[name][record]:
+            del self._by_name[name][record]
+            if not self._by_name[name]:
+                del self._by_name[name]
+
+    def _last(self, record: Record) -> tuple[int, int]:
+        steps = self._by_name.get(name_of(record), {}).get(record)
+        return steps[-1] if steps else (0, 0)
 
 
 class Changes:

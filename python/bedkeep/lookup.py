@@ -5,17 +5,19 @@ import os
 import re
 from collections import Counter
 from collections.abc import Mapping
+from itertools import product
 from typing import Callable, Iterable, Iterator, Optional
 
 from .changes import Changes
 from .program import Path, decoded, encoded
-from .records import WIDEST, Record, record_of
+from .records import NARROWEST, WIDEST, Record, record_of
 from .regions import Order
 from .script import Script
 from .sources import Genome, lengths_of
 
 PIECE = 1 << 20
 FEW = 12  # names that are looked for one after another
+ENDS = (b"\t", b"\n", b"\r\n")  # what can be after a column
 HEADER = re.compile(rb"^(?:#.*|(?:track|browser)(?: .*)?)?\r?$", re.MULTILINE)
 MAY_BE_HEADER = re.compile(rb"\n[#tb\r\n]")
 
@@ -69,18 +71,21 @@ class Lookup:
         for record in _named(self._bed, wanted):
             found[record[3]][record] += 1
         for name, counted in found.items():
-            counted.update({record: net for record, net in self.changes.track.named(name).items() if len(record) > 3})
+            counted.update(self._changed(name))
         return {name: self._sorted(counted) for name, counted in found.items()}
 
     def search(self, part: str) -> list[Record]:
         """The records that have this in their names, in any case, in track order, each copy."""
         folded = part.casefold()
         counted = Counter(_with(self._bed, folded))
-        changes = self.changes.track
-        for name in changes.names():
+        for name in self.changes.track.names():
             if folded in name.casefold():
-                counted.update({record: net for record, net in changes.named(name).items() if len(record) > 3})
+                counted.update(self._changed(name))
         return self._sorted(counted)
+
+    def _changed(self, name: str) -> dict[Record, int]:
+        """The copies of records of a name that the edits put in, less those that they took out."""
+        return {record: net for record, net in self.changes.track.named(name).items() if len(record) > NARROWEST}
 
     def _sorted(self, counted: Counter[Record]) -> list[Record]:
         return sorted(counted.elements(), key=self._order.key)
@@ -109,8 +114,9 @@ def _named(bed: str, names: set[str]) -> Iterator[Record]:
     wanted = set(map(encoded, names))
     with open(bed, "rb") as file:
         while len(wanted) <= FEW and (piece := file.read(PIECE) + file.readline()):
-            for name in wanted:
-                yield from (record for record in map(_record, _containing(piece, piece, b"\t" + name))
+            piece += b"" if piece.endswith(b"\n") else b"\n"
+            for name, end in product(wanted, ENDS):
+                yield from (record for record in map(_record, _containing(piece, piece, b"\t" + name + end))
                             if record and encoded(record[3]) == name)
         for line in file:
             columns = line.split(b"\t", 4)
@@ -143,4 +149,4 @@ def _record(line: bytes) -> Optional[Record]:
     """The record of a line of a BED file, if it has one with a name."""
     text = line[:-2] if line.endswith(b"\r\n") else line[:-1] if line.endswith(b"\n") else line
     columns = decoded(text).split("\t")
-    return None if len(columns) not in range(4, WIDEST + 1) or HEADER.fullmatch(text) else record_of(columns)
+    return None if len(columns) not in range(NARROWEST + 1, WIDEST + 1) or HEADER.fullmatch(text) else record_of(columns)

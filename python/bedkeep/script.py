@@ -155,10 +155,11 @@ class Script:
 
     def lines(self) -> list[str]:
         """The lines, without their ends."""
-        with Interrupts():
-            for text in self._added:
-                self._add(text.split("\n")[:-1])
-            self._added.clear()
+        if self._added:
+            with Interrupts():
+                for text in self._added:
+                    self._add(text.split("\n")[:-1])
+                self._added.clear()
         return self._lines
 
     def parts(self, line: str) -> list[str]:
@@ -168,12 +169,13 @@ class Script:
     def changes(self) -> Changes:
         """What the lines changed."""
         lines = self.lines()
-        with Interrupts():
-            for line in lines[self._counted:]:
-                if is_edit(line):
-                    command, *fields = self.parts(line)
-                    self._changes.do(command, fields)
-            self._counted = len(lines)
+        if self._counted < len(lines):
+            with Interrupts():
+                for line in lines[self._counted:]:
+                    if is_edit(line):
+                        command, *fields = self.parts(line)
+                        self._changes.do(command, fields)
+                self._counted = len(lines)
         return self._changes
 
     def moves(self) -> Iterator[Move]:

@@ -471,7 +471,7 @@ class Session:
             self._print_track(take)
             return
         lengths = self.lengths or dict.fromkeys((record[0] for record in self._all()), LONGEST)
-        write_placed(self._source, self._script.moves(), Looks(self.around, self.net, Order(lengths)), take)
+        write_placed(self._source, self._script.moves(), Looks(self.around, self._copies(second=False).net, Order(lengths)), take)
 
     @alone
     def stream(self, take: Callable[[bytes], object]) -> None:
