@@ -33,14 +33,14 @@ class Place(NamedTuple):
 
 
 class NoPlace(ValueError):
-    """A text hasn't the form of a place, or is one word that is no sequence. It may be a name."""
+    """A text hasn't the form of a place, or may be the name of something else than a sequence."""
 
 
 def read_place(text: str, lengths: Optional[Mapping[str, int]]) -> Place:
     """The place that a text means over a genome of these lengths, or of unknown ones (None). An end past the sequence's is cut.
 
-    ValueError, in words for who wrote the text: the genome lacks the sequence, the start isn't below the end, or it is past the
-    sequence's end. NoPlace if the text may be something else.
+    ValueError, with a sentence for who wrote the text: the genome lacks the sequence, or the start isn't below the end, or is past
+    the sequence's end. NoPlace if the text may be something else.
     """
     text = text.strip()
     if lengths is not None and text in lengths:
@@ -48,22 +48,16 @@ def read_place(text: str, lengths: Optional[Mapping[str, int]]) -> Place:
     parts = FROM_1.fullmatch(text)
     if parts and all(NUMBER.fullmatch(number) for number in parts.groups()[1:] if number):
         return _from_1(parts[1], _number(parts[2]), _number(parts[3] or parts[2]), parts[3] is None, lengths)
-    words = text.split("\t" if "\t" in text else None)
-    if len(words) == 3 and NUMBER.fullmatch(words[1]) and NUMBER.fullmatch(words[2]):
-        return _from_0(words[0], _number(words[1]), _number(words[2]), lengths)
-    if len(words) == 2 and NUMBER.fullmatch(words[1]) and lengths and words[0] in lengths:
-        raise ValueError(f"{text} has one number: {words[0]}:{words[1]} is one base, from 1")
-    if parts or len(words) != 1 or lengths and text.rpartition(":")[0] in lengths:
+    fields = text.split("\t" if "\t" in text else None)
+    if len(fields) == 3 and NUMBER.fullmatch(fields[1]) and NUMBER.fullmatch(fields[2]):
+        return _from_0(fields[0], _number(fields[1]), _number(fields[2]), lengths)
+    if len(fields) == 2 and NUMBER.fullmatch(fields[1]) and lengths and fields[0] in lengths:
+        raise ValueError(f"{text} has one number: {fields[0]}:{fields[1]} is one base, from 1")
+    if parts or len(fields) != 1 or lengths and text.rpartition(":")[0] in lengths:
         raise NoPlace(FORMS)
     if lengths is not None:
         raise NoPlace(absent(text, lengths))
     return Place(text, 0, LONGEST, f"{text}, all of it")
-
-
-def has_form(text: str) -> bool:
-    """Whether a text has numbers as a place has them, so that it is hardly a name."""
-    words = text.split()
-    return bool(FROM_1.fullmatch(text) or len(words) == 3 and all(map(NUMBER.fullmatch, words[1:])))
 
 
 def absent(sequence: str, lengths: Mapping[str, int]) -> str:

@@ -7,9 +7,10 @@ import subprocess
 import tempfile
 import unittest
 from pathlib import Path
+from unittest import mock
 
 import bedkeep
-from bedkeep import desk
+from bedkeep import curate, desk
 
 PROGRAM = os.environ["BEDKEEP"]
 EXAMPLES = Path(__file__).resolve().parent.parent.parent / "examples"
@@ -49,6 +50,21 @@ class Case(unittest.TestCase):
     def refused(self, reason, number=1):
         """A context in which a line has to be refused for this reason."""
         return self.assertRaisesRegex(bedkeep.Refused, f"^line {number}: {reason}: ")
+
+
+class Prompt(Case):
+    """A test of the prompt over the files of the folder."""
+
+    def typed(self, *lines, words=None, status=0):
+        """What the prompt prints for these lines, after what it says at its begin."""
+        said = io.StringIO()
+        words = list(map(str, words or (self.sizes, self.genes, self.mask)))
+        with mock.patch("sys.stdin", io.StringIO("".join(f"{line}\n" for line in lines))), \
+                contextlib.redirect_stdout(said), contextlib.redirect_stderr(said):
+            self.assertEqual(curate.main(words), status)
+        listed = said.getvalue().splitlines()
+        begin = next((at + 1 for at, line in enumerate(listed) if line.endswith("lists the commands")), 0)
+        return listed[begin + (not status and "--script" not in words):]
 
 
 class Outcome:

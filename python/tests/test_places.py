@@ -1,7 +1,7 @@
 """Places as people write them, and what is said of each."""
 import unittest
 
-from bedkeep.places import NoPlace, Place, absent, has_form, read_place
+from bedkeep.places import NoPlace, Place, absent, read_place
 
 LENGTHS = {"chr1": 1000, "chr2": 500, "chrM": 100, "HLA:A*01:01": 50, "chrX_random": 10}
 
@@ -63,10 +63,6 @@ class Places(unittest.TestCase):
         self.assertEqual(read_place("chr9", None), Place("chr9", 0, 1 << 32, "chr9, all of it"))
         with self.assertRaises(NoPlace):
             read_place("two words", None)
-
-    def test_the_form_alone(self):
-        self.assertEqual([has_form(text) for text in ("chr1:5-6", "chr1:5", "chr1 5 6", "chr1", "geneA", "a b c", "")],
-                         [True, True, True, False, False, False, False])
 
     def test_the_sequences_that_there_are(self):
         self.assertEqual(absent("chr7", {"chr1": 5}), "the genome has no chr7; it has chr1")

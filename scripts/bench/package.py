@@ -93,7 +93,7 @@ def time_prompt(sizes, bed, records, columns):
 
         answered("prompt begins", 1)
         other = "\t".join(["remove", "chr2", "500000", "500701", "no", "0", "+"][:1 + columns])
-        for what, line, lines in (("an edit", f"set name gene{records // 2} other", 1), ("a refusal with near records", other, 4)):
+        for what, line, lines in (("an edit", f"set name gene{records // 2} other", 2), ("a refusal with near records", other, 4)):
             begun = time.perf_counter()
             process.stdin.write(f"{line}\n".encode())
             answered(f"prompt: {what}", lines)
