@@ -14,6 +14,7 @@ import zlib
 from contextlib import contextmanager, suppress
 from typing import BinaryIO, Iterator, Optional, cast
 
+from .bgzf import ENDINGS, Blocks
 from .errors import Error
 from .program import Path, decoded, encoded
 from .records import NARROWEST, WIDEST
@@ -155,7 +156,8 @@ def lengths_of(genome: str) -> dict[str, int]:
 def whole(path: Path, new: bool = False) -> Iterator[BinaryIO]:
     """A file to write, which gets its name once all is written: it is there whole, or not at all. Failures have its name.
 
-    `-` is standard output. That and a device or a pipe are written as they are. new: raises an Error if there is a file already.
+    One whose name ends in .gz or .bgz is packed, by BGZF. `-` is standard output. That and a device or a pipe are written as they
+    are. new: raises an Error if there is a file already.
     """
     try:
         with _written(os.fspath(path), new) as file:
@@ -188,7 +190,10 @@ def _written(path: str, new: bool) -> Iterator[BinaryIO]:
     beside = os.path.join(folder, f".bedkeep-{os.getpid()}-{next(NUMBERS)}")
     try:
         with open(beside, "xb") as file:
-            yield file
+            blocks = Blocks(file)
+            yield cast(BinaryIO, blocks) if path.endswith(ENDINGS) else file
+            if path.endswith(ENDINGS):
+                blocks.finish()
             file.flush()
             os.fsync(file.fileno())
         if os.path.exists(target):

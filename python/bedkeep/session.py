@@ -449,7 +449,7 @@ class Session:
         """Writes the BED file as it is after the edits, whole or not at all; `-` is standard output.
 
         Each line that no edit is about stays where it is, byte for byte; a record that replaces another is where that one was;
-        one that is added is after the record that it follows in the track. A file packed by gzip is unpacked. sorted: the header
+        one that is added is after the record that it follows in the track. A path that ends in .gz or .bgz is packed. sorted: the header
         lines, then all records in their order; so are those of a table or of a pipe. ValueError if the session reads the path,
         or if the BED file was written again since it was read.
         """

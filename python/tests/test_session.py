@@ -766,6 +766,26 @@ class Written(Case):
             file.write(b"x")
         self.assertEqual(os.listdir(folder), ["new"])
 
+    def test_a_packed_file(self):
+        """It is in blocks: each has its size in an extra field BC, and the last one is empty."""
+        self.genes.write_text("# h\n" + "".join(f"chr1\t{number % 900}\t{number % 900 + 1}\tg{number}\n" for number in range(20_000)))
+        for name in "saved.bed.gz", "saved.bgz":
+            with self.session() as session:
+                session.save(self.folder / name)
+            packed = (self.folder / name).read_bytes()
+            self.assertEqual(gzip.decompress(packed), self.genes.read_bytes())
+            sizes = []
+            while packed:
+                self.assertEqual((packed[:4], packed[10:16]), (b"\x1f\x8b\x08\x04", b"\x06\0BC\x02\0"))
+                size = int.from_bytes(packed[16:18], "little") + 1
+                sizes.append(int.from_bytes(packed[size - 4:size], "little"))
+                packed = packed[size:]
+            self.assertEqual((sum(sizes), sizes[-1]), (self.genes.stat().st_size, 0))
+            self.assertTrue(all(0 < size < 1 << 16 for size in sizes[:-1]) and len(sizes) > 3)
+        with bedkeep.Session(self.sizes, self.folder / "saved.bgz", wide=True) as session:
+            session.save(self.folder / "saved.bed")
+        self.assertEqual((self.folder / "saved.bed").read_bytes(), self.genes.read_bytes())
+
 
 class Large(Case):
     def test_a_million_rows(self):
