@@ -43,12 +43,17 @@ class Carrier:
 
     def _batches(self, lines: Sequence[Line]) -> Iterator[list[Line]]:
         """The lines by batches, none of which ends within a group."""
-        batch = Batch()
+        width, second = self._session.columns(), self._session.columns(second=True)
         for line in lines:
-            line.cut(self._session.columns(line.is_second))
-        for _, unit in groupby(lines, key=lambda line: id(line.group) if line.group else line.number):
+            line.cut(second if line.is_second else width)
+        if self._copies or not any(line.command.startswith("add") for line in lines):
+            if lines:
+                yield list(lines)
+            return
+        batch = Batch()
+        for _, unit in groupby(lines, key=lambda line: line.group or line):
             together = list(unit)
-            if not self._copies and any(batch.touches(line) for line in together):
+            if any(batch.touches(line) for line in together):
                 yield batch.lines
                 batch = Batch()
             batch.add(together)
@@ -58,7 +63,7 @@ class Carrier:
     def _carry(self, batch: Sequence[Line]) -> None:
         """Sends a batch, and takes the verdicts."""
         lengths = dict(self._session.lengths or {})
-        kept = {} if self._copies else Look(self._session, batch).kept()
+        kept = {} if self._copies else kept_of(self._session, batch)
         out = {id(line.group) for line in batch if line.group and line.number in kept and not kept[line.number].is_same}
         warned = len(self._session.warnings())
         refusals: dict[int, Refused] = {}
@@ -188,6 +193,11 @@ class Above:
         if (second, record) not in self._tails:
             self._tails[second, record] = list(self._session.tails(record, second))
         return self._tails[second, record]
+
+
+def kept_of(session: Session, lines: Sequence[Line]) -> dict[int, Kept]:
+    """By the numbers of the lines that add what is there: what that is."""
+    return Look(session, lines).kept() if any(line.command.startswith("add") for line in lines) else {}
 
 
 class Look:

@@ -277,6 +277,7 @@ class Side:
         if not merged.version:
             return Finding(line, CONFLICT, found, note=merged.note, tail=tail, unlike=merged.unlike)
         if merged.version.record == found and merged.version.tail in (None, tail):
+            self._known.set(self._known.heirs, new, Version(found, tail))
             return Finding(line, SO, found, note="it has what the correction changes", tail=tail)
         fault = self._fault(theirs, merged.version)
         if fault:
@@ -297,8 +298,6 @@ class Side:
         line, known = finding.line, self._known
         if finding.kind == CONFLICT and line.new:
             known.set(known.pending, line.new, line)
-        if finding.kind == SO and line.new and finding.found:
-            known.set(known.heirs, line.new, Version(finding.found, finding.tail))
         if not finding.mended and finding.kind not in (FITS, FOLLOWS):
             return
         done = line.again(finding.mended) if finding.mended else line
@@ -331,7 +330,7 @@ class Memory:
 
     takers:  the line that took a record, by the record as the line has it
     makers:  the line that put a record in
-    heirs:   what a line put in instead of its new record
+    heirs:   what a line put in instead of its new record, or what is there instead of it
     pending: the new records of lines that aren't settled
     net:     the copies of a record that lines put in, less those that they took out; highest: the most that this was
     lengths: of the sequences

@@ -69,6 +69,7 @@ class Line:
         self.new_tail: Optional[str] = None
         self.width = 0
         self._narrow = self.fields
+        self._asked: Optional[tuple[Optional[Record], Optional[Record]]] = None
         if group and self.is_run:
             group.lines.append(self)
 
@@ -114,7 +115,9 @@ class Line:
 
     def cut(self, width: int) -> None:
         """Takes the columns from the seventh on apart, if the file has so many. width: of the file, or 0 if it isn't known."""
-        self.width = width
+        if width == self.width:
+            return
+        self.width, self._asked = width, None
         if self.command in EDITS:
             self._narrow, self.old_tail, self.new_tail = cut(self.command, self.fields, width)
 
@@ -139,13 +142,13 @@ class Line:
 
     def asked(self) -> tuple[Optional[Record], Optional[Record]]:
         """The record that it takes out and the one that it puts in, whatever becomes of it; none if they can't be records."""
-        if self.command not in EDITS:
-            return None, None
-        halves = self._halves()
-        if not all(map(_is_record, halves)):
-            return None, None
-        return (None if self.command.startswith("add") else record_of(halves[0]),
-                None if self.command.startswith("remove") else record_of(halves[-1]))
+        if self._asked is None:
+            halves = self._halves() if self.command in EDITS else []
+            sound = bool(halves) and all(map(_is_record, halves))
+            old = record_of(halves[0]) if sound and not self.command.startswith("add") else None
+            new = record_of(halves[-1]) if sound and not self.command.startswith("remove") else None
+            self._asked = old, new
+        return self._asked
 
     def records(self) -> list[Record]:
         """Those of `asked` that there are."""
@@ -192,8 +195,14 @@ def is_marker(text: str) -> bool:
 
 
 def _is_record(columns: Sequence[str]) -> bool:
-    numbers = columns[1:NARROWEST]
-    return len(numbers) == 2 and all(re.fullmatch("[0-9]{1,10}", text) for text in numbers) and int(numbers[0]) < int(numbers[1])
+    if len(columns) < NARROWEST:
+        return False
+    start, end = columns[1:NARROWEST]
+    return _is_number(start) and _is_number(end) and int(start) < int(end)
+
+
+def _is_number(text: str) -> bool:
+    return 0 < len(text) <= 10 and text.isascii() and text.isdigit()
 
 
 def _is_offer(hint: str) -> bool:

@@ -323,7 +323,8 @@ class Session:
         A region is chromosome, start, end; what of it isn't in the genome is left out. Records are tuples of text, of at most
         six columns.
         """
-        asked = Regions(regions, self.lengths)
+        lengths = self.lengths
+        asked = Regions(regions, lengths)
         rows: Counter[bytes] = Counter()
         lines = Lines()
 
@@ -331,17 +332,17 @@ class Session:
             rows.update(lines.whole(piece).split(b"\n")[:-1])
 
         name = self._view("records")
-        if self.lengths is None:
+        if lengths is None:
             self._send_one(line_of("print", name), take)
         else:
-            for refused in self._send("".join(line_of("show", name, *region) for region in asked), take):
+            for refused in self._send("".join(f"show\t{name}\t{where}\t{start}\t{end}\n" for where, start, end in asked), take):
                 raise refused
         counted: Counter[Record] = Counter()
         for row, copies in rows.items():
             record = tuple(decoded(row).split("\t"))
             times = asked.overlapping(record)
             if times:
-                counted[record] = copies if self.lengths is None else copies // times
+                counted[record] = copies if lengths is None else copies // times
         return counted
 
     @alone

@@ -112,7 +112,7 @@ class Slow:
         self.script, self.lengths, self.ignore, self.copies, self.default, self.near = script, lengths, set(ignore), copies, default, near
         self.verdicts, self.after = carried(records, script, copies, default, near)
         self.state = State(records)
-        self.so = None  # the record, with its tail, by which the last line was already so
+        self.so = None  # the record, with its tail, that has what the last line changes
         self.events = []  # (line, "took" or "put" or "heir" or "pending", the record as the line has it, what it is about)
 
     def all(self):
@@ -169,7 +169,7 @@ class Slow:
         if taken and not beside:
             return "taken out", None, taken[0], ""
         if so:
-            self.so = so
+            self.so = None
             return "already so", so[0], None, ""
         return self.candidate(edit, beside)
 
@@ -221,6 +221,7 @@ class Slow:
         if best:
             return self.merged(edit, best[0])
         here = min(beside, key=lambda one: (far(one), one))[0] if beside else None
+        self.so = None
         return "gone" if edit.new else "already so", here, None, ""
 
     def merged(self, edit, theirs):
@@ -252,7 +253,7 @@ class Slow:
         kind, found, _, mended = finding
         if kind == "conflict" and edit.new:
             self.events.append((edit.number, "pending", edit.new, None))
-        if kind == "already so" and edit.new and found:
+        if kind == "already so" and edit.new and self.so:
             self.events.append((edit.number, "heir", edit.new, self.so))
         if not mended and kind not in ("fits", "follows"):
             return

@@ -145,6 +145,10 @@ class Commands(Case):
         lines, status, rows, again = self.mended("chr1 141 161\nchr1 175 196", "replace~chr1~175~195~chr1~171~191\nreplace~chr1~171~191~chr1~141~161\n")
         self.assertEqual((lines, rows), (["# dropped: replace chr1 175 195 chr1 171 191", "# dropped: replace chr1 171 191 chr1 141 161"],
                                          ["chr1 141 161", "chr1 175 196"]))
+        script = ("replace~chr1~37~87~e~chr1~28~78~e\nreplace~chr1~28~78~e~chr1~37~87~e\nreplace~chr1~37~87~e~chr1~37~87~b\n"
+                  "replace~chr1~37~87~b~chr1~40~90~b\n")
+        lines, status, rows, again = self.mended("chr1 40 90 b", script)
+        self.assertEqual((lines, rows), ([f"# dropped: {line}".replace("~", " ") for line in script.split("\n")[:-1]], ["chr1 40 90 b"]))
         lines, status, rows, again = self.mended("chr1 110 210 g 7", "replace~chr1~100~200~g~5~chr1~110~210~g~5\n")
         self.assertEqual((lines, rows), (["# dropped: replace chr1 100 200 g 5 chr1 110 210 g 5"], ["chr1 110 210 g 7"]))
 
