@@ -40,12 +40,12 @@ class Plan:
     """What becomes of lines of the file, and what is added.
 
     lines: of records whose first lines don't stay: what is put where each of these was, None for nothing
-    added: records that have no line in the file, in the order in which they were put
+    added: records that have no line in the file
     """
 
     def __init__(self, moves: Iterable[Move]) -> None:
         self._taken: dict[str, list[Copy]] = defaultdict(list)  # of lines of the file, in the order in which they were taken
-        self._put: dict[str, list[Copy]] = defaultdict(list)  # copies that are this record now, in the order in which they were put
+        self._put: dict[str, list[Copy]] = defaultdict(list)  # what is a record now, in the order in which it was put
         copies = self._follow(moves)
         counts = {record: self._count_as_lines(record) for record in self._taken}
         self.lines: dict[str, list[Optional[str]]] = {}
@@ -59,17 +59,23 @@ class Plan:
         self.added = [copy.record for copy in copies if copy.record is not None and (copy.origin is None or copy in adrift)]
 
     def _follow(self, moves: Iterable[Move]) -> Iterable[Copy]:
-        """Follows the script, and returns its copies in the order in which they were put last. Of equal ones that one is taken."""
+        """Follows the script, and returns its copies.
+
+        Of equal ones the one that was put last is taken, and an `add` gives back the one that was removed last.
+        """
         copies: dict[Copy, None] = {}
+        removed: dict[Optional[str], list[Copy]] = defaultdict(list)
         for old, new in moves:
-            copy = Copy(old) if old is None or not self._put[old] else self._put[old].pop()
+            there = removed[new] if old is None else self._put[old]
+            copy = there.pop() if there else Copy(old)
             if old is not None and copy not in copies:
                 self._taken[old].append(copy)
-            copies.pop(copy, None)
             copies[copy] = None
             copy.record = new
             if new is not None:
                 self._put[new].append(copy)
+            elif old is not None:
+                removed[old].append(copy)
         return copies
 
     def _count_as_lines(self, record: str) -> int:
@@ -162,7 +168,7 @@ class Placement:
     def _additions(self, before: Mapping[Record, Optional[Record]], last: Mapping[Record, Found]) -> Iterator[Change]:
         """The added records, those of a place in track order."""
         texts: dict[Optional[Record], list[bytes]] = defaultdict(list)
-        for record, row in sorted(self._added, key=lambda one: self._looks.order.key(one[0])):
+        for record, row in sorted(self._added, key=lambda one: (self._looks.order.key(one[0]), one[1])):
             texts[before[record]].append(encoded(row) + self._line_end)
         for record_before, added in texts.items():
             if record_before is None:
@@ -219,7 +225,8 @@ class Placement:
 
     def _find(self, wanted: set[Record]) -> dict[Record, list[Found]]:
         """The lines of each record, by its first six columns."""
-        if os.path.getsize(self._path) > SMALL and not any(row.count("\t") >= WIDEST for row in (*self._plan.lines, *self._plan.added)):
+        is_narrow = not any(row.count("\t") >= WIDEST for row in (*self._plan.lines, *self._plan.added))
+        if is_narrow and os.path.getsize(self._path) > SMALL:
             found = self._search(wanted)
             there = self._looks.around((record[0], int(record[1]), int(record[2])) for record in wanted)
             if all(len(found[record]) == there[record] - self._looks.net(record) for record in wanted):

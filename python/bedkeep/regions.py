@@ -15,7 +15,7 @@ PLACE = re.compile(r"(.+):([\d,]+)-([\d,]+)")
 
 
 class Regions:
-    """Regions, those that touch joined, as far as they are on their sequences. lengths: of these, or None if they aren't known."""
+    """Regions, those that touch joined, as far as they are on their sequences. lengths: of these, or None if not known."""
 
     def __init__(self, regions: Iterable[Region], lengths: Optional[Mapping[str, int]]) -> None:
         intervals: dict[str, list[tuple[int, int]]] = defaultdict(list)
@@ -39,7 +39,7 @@ class Regions:
 
 
 class Order:
-    """The order of a track: by sequence, in the order of their lengths, by start and end, then by the bytes of the other columns."""
+    """The order of a track: by sequence, in the order of the lengths, by start and end, then by the bytes of other columns."""
 
     def __init__(self, lengths: Mapping[str, int]) -> None:
         self.lengths = lengths

@@ -101,7 +101,7 @@ def paragraphs(lines: Sequence[str]) -> Iterator[range]:
 
 
 def accepted(lines: Sequence[str], refused: Collection[int]) -> str:
-    """The text of lines without those that were refused, by their numbers from 1. A reason for refused lines alone goes with them."""
+    """The text of lines without those that were refused, by their numbers from 1. A reason for these alone goes with them."""
     kept: list[str] = []
     for places in paragraphs(lines):
         listed = [lines[place] for place in places if place + 1 not in refused]
@@ -127,7 +127,7 @@ def pieces_of(text: str) -> Iterator[tuple[str, bool]]:
 
 
 class Kind(enum.Enum):
-    """What holds for a line and those directly below it: no reason, one, or that they are done together. Or it keeps two apart."""
+    """What holds for a line and those directly below it: no reason, one, or that they are done together. Or it separates two."""
 
     PLAIN = 0
     EXPLAINED = 1

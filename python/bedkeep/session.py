@@ -215,7 +215,7 @@ class Session:
 
     @alone
     def edit_together(self, lines: Union[str, Iterable[str]], reason: str = "") -> None:
-        """Carries out edits whole, with their reason, or raises the first Refused and does none. `undo` takes all of them back."""
+        """Carries out edits whole, with their reason, or raises the first Refused and does none. `undo` takes all back."""
         text = edits_of(lines)
         if not all(map(is_edit, text.split("\n")[:-1])):
             raise ValueError("an empty line or a comment among lines that are done together")
@@ -245,7 +245,7 @@ class Session:
 
     @alone
     def explain(self, reason: str) -> None:
-        """Puts the reason for the last accepted edit, or its group, above it, as a comment of the script. IndexError if there is none."""
+        """Puts the reason for the last accepted edit, or its group, above it, as a comment. IndexError if there is no edit."""
         self._script.explain(reason)
 
     @alone
@@ -450,8 +450,8 @@ class Session:
         """Writes the BED file as it is after the edits, whole or not at all; `-` is standard output.
 
         Each line that no edit is about stays where it is, byte for byte; a record that replaces another is where that one was;
-        one that is added is after the record that it follows in the track. A path that ends in .gz or .bgz is packed. sorted: the header
-        lines, then all records in their order; so are those of a table or of a pipe. ValueError if the session reads the path,
+        one that is added is after the record that it follows in the track. A path that ends in .gz or .bgz is packed. sorted: the
+        headers, then all records in their order; so are those of a table or of a pipe. ValueError if the session reads the path,
         or if the BED file was written again since it was read.
         """
         if self.reads(path):

@@ -34,10 +34,11 @@ def order_of(row):
 
 
 class Copied:
-    """A copy in the model. line: the place of its line in the file, or None; put: when it became what it is."""
+    """A copy in the model. line: the place of its line in the file, or None; put: when it became what it is; was: what it was before."""
 
     def __init__(self, record, line=None, put=-1):
         self.record, self.first, self.line, self.put, self.taken = record, record if line is not None else None, line, put, None
+        self.was = None
 
 
 class Model:
@@ -57,15 +58,16 @@ class Model:
     def move(self, old, new):
         self.time += 1
         if old is None:
-            copy = Copied(None)
-            self.copies.append(copy)
+            removed = [copy for copy in self.copies if copy.record is None and copy.was == new]
+            copy = max(removed, key=lambda copy: copy.put) if removed else Copied(None)
+            self.copies += [] if removed else [copy]
         else:
             same = [copy for copy in self.copies if copy.record == old]
             latest = max(copy.put for copy in same)
             copy = next(copy for copy in same if copy.put == latest)
             if copy.taken is None:
                 copy.taken = self.time
-        copy.record, copy.put = new, self.time
+        copy.record, copy.was, copy.put = new, old, self.time
 
     def settle(self):
         """For each line of the file what is there in the end (a record, None, or True for the line), and what else is added."""
@@ -89,7 +91,7 @@ class Model:
                 placed.append(copy)
         added = [copy for copy in self.copies
                  if copy.record and copy.record != copy.first and copy not in placed and copy not in without]
-        return there, sorted(added, key=lambda copy: (order_of(copy.record), copy.put))
+        return there, sorted(added, key=lambda copy: (order_of(copy.record), copy.record))
 
     def result(self):
         there, added = self.settle()
@@ -195,6 +197,13 @@ class Random(Case):
             with self.subTest(number, text=text, moves=moves), mock.patch.multiple(placement, **sizes):
                 self.assertEqual(rows_in(model.result()), model.track())
                 self.assertEqual(self.placed(path, model, moves), model.result())
+                cut = chance.randrange(len(moves) + 1)  # some of them taken back, and then more
+                back = [(new, old) for old, new in reversed(moves[cut:])]
+                for move in back:
+                    model.move(*move)
+                again = list(some_moves(chance, model, width, 4, few))
+                self.assertEqual(self.placed(path, model, moves + back + again), self.placed(path, model, moves[:cut] + again))
+                moves += back + again
                 back = [(new, old) for old, new in reversed(moves)]
                 for move in back:
                     model.move(*move)
