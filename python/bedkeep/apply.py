@@ -4,7 +4,7 @@ from __future__ import annotations
 import sys
 from typing import Sequence
 
-from .desk import inputs_of, messages, naming, parser_of, write_refused
+from .desk import inputs_of, messages, parser_of, write_refused
 
 DESCRIPTION = """Writes the corrected track. Each line of BED that no correction is about stays where it is, byte for byte; a
 replacement comes where the old record was, and an addition after the record that it follows in the order of GENOME."""
@@ -23,8 +23,7 @@ def main(words: Sequence[str]) -> int:
         said = list(messages(inputs.lines))
         is_written = not (given.strict and said)
         if is_written:
-            with naming(given.output):
-                inputs.save(session, given.output, given.sorted)
+            inputs.save(session, given.output, given.sorted)
         write_refused(given.refused, inputs)
     for message in said:
         print(message, file=sys.stderr)

@@ -102,21 +102,8 @@ def write_refused(path: Optional[str], inputs: Inputs) -> None:
     if path is None:
         return
     refuse_inputs(path, inputs.given)
-    with naming(path), whole(path) as file:
+    with whole(path) as file:
         file.writelines(encoded(f"{line.file}: line {line.place}: {line.message}\n") for line in inputs.lines if line.refusal)
-
-
-@contextmanager
-def naming(path: str) -> Iterator[None]:
-    """Has a failure to write a file name it as it was given."""
-    try:
-        yield
-    except BrokenPipeError:
-        raise
-    except OSError as failure:
-        if failure.filename and not os.path.basename(failure.filename).startswith(".bedkeep-"):
-            raise
-        raise OSError(failure.errno, failure.strerror, "standard output" if path == "-" else path) from None
 
 
 def said(failure: OSError) -> str:

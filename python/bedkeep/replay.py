@@ -15,7 +15,7 @@ from typing import Iterator, Optional, Sequence, Union
 
 from .classes import CONFLICT, GONE, SO, Classifier, Finding, Side
 from .corrections import Line
-from .desk import inputs_of, naming, parser_of, write_refused
+from .desk import inputs_of, parser_of, write_refused
 from .errors import Error
 from .files import whole
 from .inputs import Inputs
@@ -122,7 +122,7 @@ def main(words: Sequence[str]) -> int:
         replayed = replay_inputs(inputs, given.ignore, given.copies, given.leave_blocks)
         write_refused(given.refused, inputs)
     if given.mend:
-        with naming(given.mend), whole(given.mend) as file:
+        with whole(given.mend, new=True) as file:
             file.writelines(encoded(f"{line}\n") for line in replayed.mended())
     rows = table(replayed.findings) if given.tsv else report(replayed.findings)
     sys.stdout.buffer.writelines(encoded(f"{row}\n") for row in rows)

@@ -1,10 +1,16 @@
 """Scripts of corrections: reasons, groups and markers; and what comes of their lines."""
+import os
+import subprocess
+import sys
+from pathlib import Path
 from unittest import mock
 
 import bedkeep
 from bedkeep.carry import Carrier
 from bedkeep.corrections import is_marker, read_text
 from helpers import Case, Outcome, tabs
+
+PACKAGE = Path(bedkeep.__file__).parent.parent
 
 
 class Paragraphs(Case):
@@ -229,3 +235,81 @@ class Exchanges(Case):
             Carrier(session).carry(read_text(script))
             self.assertEqual([(line.text, line.comments) for line in read_text(session.script()) if line.is_run], [
                 ("add\tchr1\t1\t2\tx", ("a",)), ("add\tchr1\t2\t3\tx", ("a",)), ("add\tchr1\t3\t4\tx", ())])
+
+
+class Options(Case):
+    """What `apply` writes, and where it says what."""
+
+    def setUp(self):
+        super().setUp()
+        self.out = self.folder / "out.bed"
+        self.script = self.file("script", tabs("add chr1 100 200 geneA\nremove chr1 1 2 x\nreplace chr1 300 400 geneB chr1 300 410 geneB"))
+
+    def apply(self, *words):
+        return Outcome("apply", self.sizes, self.genes, self.script, "-o", self.out, *words)
+
+    def test_strict_writes_nothing(self):
+        """If a line is refused, or there already, or done with a warning."""
+        self.assertEqual((self.apply("--strict").status, self.out.exists()), (1, False))
+        self.script.write_text(tabs("add chr1 100 200 geneA"))
+        outcome = self.apply("--strict")
+        self.assertEqual((outcome.status, self.out.exists(), outcome.err),
+                         (1, False, f"{self.script}: line 1: already there: chr1 100 200 geneA\nnothing is written\n"))
+        self.assertEqual((self.apply().status, self.out.read_text()), (0, self.genes.read_text()))
+        self.genes.write_text(tabs("chr1 100 200 a 0 + 100 200 0 2 10,10 0,90"))
+        self.script.write_text(tabs("replace chr1 100 200 a 0 + chr1 100 195 a 0 +"))
+        self.assertEqual(self.apply().status, 0)
+        self.script.write_text(tabs("replace chr1 100 200 a 0 + chr1 100 150 a 0 +"))
+        outcome = self.apply()
+        self.assertEqual(outcome.status, 1)
+        self.assertIn("  this would fit: replace chr1 100 200 a 0 + 100 200 0 2 10,10 0,90 chr1 100 110 a 0 + 100 110 0 1 10 0\n", outcome.err)
+        outcome = self.apply("--leave-blocks")
+        self.assertEqual((outcome.status, outcome.err.count("done, but"), self.out.read_text().count("150")), (0, 1, 1))
+        self.out.unlink()
+        self.assertEqual((self.apply("--leave-blocks", "--strict").status, self.out.exists()), (1, False))
+
+    def test_refused_lines_alone_in_a_file(self):
+        listed = self.folder / "listed"
+        outcome = self.apply("--refused", listed)
+        self.assertEqual((outcome.status, listed.read_text()), (1, f"{self.script}: line 2: no such record: chr1 1 2 x\n"))
+        self.assertEqual(outcome.err.count("\n"), 2)
+        self.assertEqual(Outcome("replay", self.sizes, self.genes, self.script, "--refused", listed).status, 1)
+        self.script.write_text("")
+        self.assertEqual((self.apply("--refused", listed).status, listed.read_text()), (0, ""))
+        outcome = self.apply("--refused", self.genes)
+        self.assertEqual((outcome.status, outcome.err), (2, f"{self.genes}: an input is never written over\n"))
+
+    def test_what_cannot_be_written_is_named(self):
+        self.assertEqual(Outcome("apply", self.sizes, self.genes, self.script, "-o", "/dev/full").err, "/dev/full: no space left on device\n")
+        with mock.patch("os.fsync", side_effect=OSError(5, "Input/output error")):
+            outcome = self.apply()
+            self.assertEqual((outcome.status, outcome.err, self.out.exists()), (2, f"{self.out}: input/output error\n", False))
+        outcome = Outcome("apply", self.sizes, self.folder / "none.bed", self.script)
+        self.assertEqual((outcome.status, outcome.err), (2, f"{self.folder}/none.bed: no such file\n"))
+
+    def test_a_mended_script_is_whole_or_not_there(self):
+        mend = self.folder / "mend"
+        with mock.patch("os.fsync", side_effect=OSError(28, "No space left on device")):
+            outcome = Outcome("replay", self.sizes, self.genes, self.script, "--mend", mend)
+        self.assertEqual((outcome.status, outcome.err, mend.exists()), (2, f"{mend}: no space left on device\n", False))
+        outcome = Outcome("replay", self.sizes, self.genes, self.script, "--mend", "-")
+        self.assertEqual((outcome.status, outcome.err), (2, "--mend needs a file, since the report is on standard output\n"))
+        self.assertEqual(Outcome("replay", self.sizes, self.genes, self.script, "--mend", "/dev/full").err, "/dev/full is there already\n")
+
+    def test_nobody_reads_the_output(self):
+        many = self.file("many.bed", "".join(f"chr1\t{n}\t{n + 1}\tname\n" for n in range(900)) * 100)
+        for words in ["apply", self.sizes, many, self.script], ["replay", self.sizes, self.genes, self.script, "--tsv"]:
+            process = subprocess.Popen([sys.executable, "-m", "bedkeep", *map(str, words)], stdout=subprocess.PIPE, stderr=subprocess.PIPE,
+                                       env={**os.environ, "PYTHONPATH": str(PACKAGE)})
+            process.stdout.close()
+            self.assertNotIn(b"pipe", process.stderr.read())
+            process.stderr.close()
+            process.wait()
+
+    def test_a_file_of_another_format(self):
+        """The program knows it by its columns, of which it is given six otherwise."""
+        for text, name in (("chr1\tx\tgene\t100\t200\t.\t+\t.\tID=a\n", "GFF"),
+                           ("##fileformat=VCFv4.2\n#CHROM\tPOS\tID\tREF\tALT\tQUAL\tFILTER\tINFO\nchr1\t100\trs1\tA\tG\t.\tPASS\t.\n", "VCF")):
+            outcome = Outcome("apply", self.sizes, self.file("other.bed", text), self.script)
+            self.assertEqual(outcome.status, 2)
+            self.assertRegex(outcome.err, f"(?s)^{self.folder}/other.bed: line .*looks like {name}.*awk")
