@@ -20,9 +20,6 @@ class Blocks(io.RawIOBase):
         self._file = file
         self._rest = bytearray()
 
-    def writable(self) -> bool:
-        return True
-
     def write(self, data: Any) -> int:
         self._rest += data
         while len(self._rest) >= SIZE:

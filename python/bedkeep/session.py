@@ -474,11 +474,6 @@ class Session:
         lengths = self.lengths or dict.fromkeys((record[0] for record in self._all()), LONGEST)
         write_placed(self._source, self._script.moves(), Looks(self.around, self._copies(second=False).net, Order(lengths)), take)
 
-    @alone
-    def stream(self, take: Callable[[bytes], object]) -> None:
-        """Hands on all records as lines of a BED file, some at a time."""
-        self._print_track(take)
-
     def reads(self, path: Path) -> bool:
         """Whether the session reads this file, under any of its names."""
         return any(same_file(file, path) for file in self._files.values())

@@ -151,8 +151,9 @@ class Looks(Case):
                     record[0] == region[0] and int(record[1]) < region[2] and region[1] < int(record[2]) for region in regions)}))
                 order = sorted(model.elements(), key=lambda record: (record[0], int(record[1]), int(record[2]), record[3].encode()))
                 for names in ["Ab", "x"], ["a", "Ab", "é", "É", "b.c", "new"]:
-                    self.assertEqual(session.named(iter(names)),
-                                     {name: [record for record in order if record[3] == name] for name in names})
+                    with mock.patch("bedkeep.lookup.FEW", chance.choice([2, 12])):
+                        self.assertEqual(session.named(iter(names)),
+                                         {name: [record for record in order if record[3] == name] for name in names})
                 for part in "a", "AB", "é", ".", "", "chr":
                     self.assertEqual([(row[0], str(row[1]), str(row[2]), row[3]) for row in session.search(part)],
                                      [record for record in order if part.lower() in record[3].lower()])

@@ -235,6 +235,17 @@ class Together(Case):
                 with self.assertRaises(ValueError):
                     session.edit_together(lines)
 
+    def test_a_group_that_cannot_be_taken_back(self):
+        """If memory runs out in the middle of it nobody knows what is there, so the session is cut off."""
+        with self.session() as session:
+            session.edit_together(self.join)
+            refused = bedkeep.Refused("no memory", 1, "add\tchr1\t300\t400\tgeneB")
+            with mock.patch.object(session, "_send", return_value=[refused]), self.refused("no memory"):
+                session.undo()
+            with self.assertRaises(bedkeep.Ended):
+                session.records()
+            self.assertEqual(session.script(), "\n".join(["# together:", *self.join, ""]))
+
     def test_groups_of_a_script(self):
         text = ["# why", "remove\tchr1\t1\t2\tx", "# together: one", "add\tchr2\t1\t2\ta", "remove\tchr1\t1\t2\tx", "add\tchr2\t1\t2\tb",
                 "", "add\tchr2\t1\t2\tc", "# a reason", "# together: two", *self.join, "# again", "remove\tchr1\t1\t2\tx"]
