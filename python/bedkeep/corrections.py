@@ -22,11 +22,13 @@ from .wide import cut
 EDITS = {"add", "remove", "replace", "addb", "removeb", "replaceb"}
 VIEWS = {"open", "close", "print", "printall", "show", "showall"}
 ABSENT = "no such record"
+UNLIKE = "the record is there with"  # how a session says that the columns after the sixth differ
 TOGETHER = "together:"
 MARKER = re.compile(r"#\s*(?:(?:was|conflict|dropped):|[a-z ]+, was:|(?:[^\t]*: )?(?:(?:add|remove|replace)b?|resize)\t)")
 COLUMN_OF = {"unknown sequence": 0, "start is not a number": 1, "end is not a number": 2, "start not below end": 1,
              "end past the sequence's end": 2, "bad name": 3, "bad score": 4, "bad strand": 5}
-MALFORMED = {*COLUMN_OF, "no such command or wrong fields", "wrong number of columns", "no second file"}
+ABOUT_COMMANDS = {"no such command or wrong fields", "no second file"}
+MALFORMED = {*COLUMN_OF, *ABOUT_COMMANDS, "wrong number of columns"}
 
 
 class Group:
@@ -178,9 +180,12 @@ class Line:
         if self.refusal.startswith("wrong number"):
             return f"{self.refusal}: {len(self.fields)} fields{self._needed()}"
         if self.refusal == ABSENT:
-            return ": ".join([ABSENT, " ".join(self._halves()[0]), *self.hints[:self.old_tail is not None]])
-        if self.refusal not in COLUMN_OF:
+            unlike = [hint for hint in self.hints if hint.startswith(UNLIKE)]
+            return ": ".join([ABSENT, " ".join(self._halves()[0]), *unlike])
+        if self.refusal in ABOUT_COMMANDS:
             return f"{self.refusal}: {self.command}"
+        if self.refusal not in COLUMN_OF:
+            return self.refusal
         halves, column = self._halves(), COLUMN_OF[self.refusal]
         second = len(halves) > 1 and not _has_fault(halves[0], self.refusal, lengths)
         which = ("new " if second else "old ") if len(halves) > 1 else ""

@@ -121,6 +121,8 @@ def follow(old: Record, tail: str, new: Record, allowed: Collection[str] = ()) -
     at its bases, the summit too. If both ends move by one distance, all moves along. What can't hold in the new record, and could
     in the old one, is a fault; but none of an allowed kind.
     """
+    if not tail:
+        return Followed("")
     kind, columns = format_of(old, tail), _columns(tail)
     blocks, spoiled = None, ""
     if kind in (BED8, BED9, BED12):

@@ -5,6 +5,7 @@ from typing import Mapping, NamedTuple, Optional
 
 from .formats import fields, follow, record_of_fields, shifted, tail_of
 from .records import Record
+from .rows import RECORD
 
 UNKNOWN = "\0"  # a field of a base whose columns after the sixth the line doesn't have
 
@@ -17,7 +18,7 @@ class Version(NamedTuple):
 
     @property
     def fields(self) -> dict[str, str]:
-        return fields(self.record, self.tail or "")
+        return fields(self.record, self.tail) if self.tail else dict(zip(RECORD, self.record))
 
     @property
     def columns(self) -> str:
@@ -56,7 +57,7 @@ def merge(base: Version, mine: Version, theirs: Version, lengths: Mapping[str, i
         return Merge(None, unlike)
     merged = {name: there[name] if text == old.get(name, UNKNOWN) else text for name, text in new.items()}
     try:
-        version = Version(record_of_fields(merged), None if mine.tail is None else tail_of(merged))
+        version = Version(record_of_fields(merged), tail_of(merged) if mine.tail else mine.tail)
     except ValueError as failure:
         return Merge(None, note=str(failure))
     return _checked(version, lengths)

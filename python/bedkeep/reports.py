@@ -29,6 +29,8 @@ def report(findings: Iterable[Finding]) -> Iterator[str]:
             yield f"    {line.text}"
         if finding.mended:
             yield f"    mended  {finding.mended}"
+        for offer in line.offers:
+            yield f"    fits    {offer}"
     yield ", ".join(f"{count} {kind}" for kind, count in counts.items()) or "no corrections"
 
 

@@ -40,7 +40,7 @@ class Track:
     def hold(self, record: Record, tail: str) -> None:
         """Takes a copy of the file in."""
         self._file[record].append(tail)
-        self._put(record, len(self._copies[record]), Held(tail, 0))
+        self._put(record, self.count(record), Held(tail, 0))
 
     def has(self, record: Record, tail: Optional[str] = None) -> bool:
         """Whether a copy is there, with these columns after the sixth if they are given."""
@@ -71,7 +71,7 @@ class Track:
 
     def put(self, record: Record, tail: str, line: Line) -> None:
         """Puts in a copy for a line."""
-        place = len(self._copies[record])
+        place = self.count(record)
         self._done.append((True, record, place, Held(tail, line.number)))
         self._put(record, place, Held(tail, line.number))
 
@@ -122,9 +122,11 @@ class Track:
         return ordered + left
 
     def _put(self, record: Record, place: int, held: Held) -> None:
+        is_new = record not in self._copies
         self._copies[record].insert(place, held)
-        for stretch in _stretches(record):
-            self._stretches[stretch][record] = None
+        if is_new:
+            for stretch in _stretches(record):
+                self._stretches[stretch][record] = None
 
 
 def _stretches(record: Record) -> Iterator[tuple[str, int]]:
