@@ -61,6 +61,7 @@ class Slow:
         self.copies = [Copy(row, row, place) for place, row in enumerate(self.rows) if row]
         self.width = next((len(row) for row in self.rows if row), 0)
         self.clock = 0
+        self.out = {}  # by the first six columns: copies that lines took and that haven't come back
 
     def row_of(self, line):
         text = line.rstrip("\r\n")
@@ -82,11 +83,12 @@ class Slow:
         return verdicts
 
     def state(self):
-        return [(copy, copy.row, copy.put, copy.taken, copy.last) for copy in self.copies]
+        return dict(self.out), [(copy, copy.row, copy.put, copy.taken, copy.last) for copy in self.copies]
 
     def restore(self, state):
-        self.copies = [copy for copy, *_ in state]
-        for copy, copy.row, copy.put, copy.taken, copy.last in state:
+        self.out, copies = state
+        self.copies = [copy for copy, *_ in copies]
+        for copy, copy.row, copy.put, copy.taken, copy.last in copies:
             pass
 
     def do(self, line):
@@ -163,6 +165,9 @@ class Slow:
             copy = max(removed, key=lambda one: one.put, default=None) or Copy(None)
             self.copies += [] if removed else [copy]
         copy.row, copy.last, copy.put = new, new or old, self.clock
+        for row, by in (old, 1), (new, -1):
+            if row:
+                self.out[row[:6]] = max(self.out.get(row[:6], 0) + by, 0)
 
     def net(self, six):
         """The copies of a record that the lines put, less those that they took."""
@@ -171,7 +176,7 @@ class Slow:
     def is_there(self, new):
         """Whether a record that is added is there, or another one of the file that it may be."""
         six = new[:6]
-        if self.net(six) < 0:
+        if self.out.get(six):
             return None
         if any(copy.row[:len(new)] == new for copy in self.now()):
             return THERE
