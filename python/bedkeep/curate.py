@@ -124,7 +124,7 @@ def run(session: Session, files: Given, script: Optional[str]) -> None:
         curator = Curator(session, files, journal, typed.ask)
         if journal:
             curator.replay()
-        print(f"{len(session)} records of {session.width} columns; `help` lists the commands")
+        print(f"{len(session)} records of {session.columns() or session.width} columns; `help` lists the commands")
         if not journal:
             print(IN_MEMORY)
         for line in typed.lines():
