@@ -1,7 +1,8 @@
 """The script that makes one BED file of another: python3 -m bedkeep diff OLD NEW
 
 A record that moved or changed is a `replace`: both files have its name, its place, or one end of it if it has no name. One that was
-split, or others that were joined, are a paragraph of lines that are done together. Others are `remove` and `add`.
+split, or others that were joined, are a paragraph of lines that are done together. Others are `remove` and `add`. Additions come last,
+so that none overlaps what is about to go.
 """
 from __future__ import annotations
 
@@ -29,9 +30,10 @@ class Difference:
                 wide, narrow = (before, after) if before.width > after.width else (after, before)
                 raise Error(f"{old} has {before.width} columns, and {new} {after.width}: "
                             f"compare {narrow.path} with what `cut -f1-{narrow.width} {wide.path}` prints")
-            self.changes: list[Change] = list(changes(*differences(before, after)))
+            gone, come = differences(before, after)
+            self.changes: list[Change] = list(changes(gone, come))
             added = [row for change in self.changes for row in change.added()]
-            self.copies = _copies(added, after) if added else 0
+            self.copies = _copies(added, come, after) if added else 0
 
     def script(self) -> Iterator[str]:
         """The lines in paragraphs, an empty line before each: one for each split and join, with its reason, and others in between.
@@ -53,48 +55,47 @@ def script_between(old: str, new: str) -> list[str]:
     return list(Difference(old, new).script())
 
 
-def _copies(added: Sequence[str], after: Rows) -> int:
-    """How many additions are of a record that is there, or overlap one of their name: `apply` leaves these out."""
-    counts, found = Counter(added), Counter[str]()
-    spans: dict[tuple[str, str], Spans] = defaultdict(Spans)  # of the additions, by name and sequence
-    crowded = 0
-    for record in (split_row(row)[0] for row in counts):
-        if name_of(record) not in NAMELESS:
-            crowded += 0 if spans[name_of(record), record[0]].add(int(record[1]), int(record[2])) else 1
-    for row in after.named({name_of(split_row(row)[0]) for row in counts}):
-        if row in counts:
-            found[row] += 1
-            continue
+def _copies(added: Sequence[str], come: Sequence[str], after: Rows) -> int:
+    """How many additions `apply` leaves out: those of a record that is there, or that overlap one of their name in both files.
+
+    come: the rows that only the new file has
+    """
+    counts, left, found = Counter(added), Counter(come), Counter[str]()
+    named: dict[tuple[str, str], list[str]] = defaultdict(list)  # the additions by name and sequence
+    for row in counts:
         record = split_row(row)[0]
-        if (name_of(record), record[0]) in spans:
-            crowded += spans[name_of(record), record[0]].take(int(record[1]), int(record[2]))
-    return crowded + sum(min(count, found[row] - 1) for row, count in counts.items())
+        if name_of(record) not in NAMELESS:
+            named[name_of(record), record[0]].append(row)
+    spans = {key: Spans(rows) for key, rows in named.items()}
+    crowded: set[str] = set()
+    for row in after.named({name_of(split_row(row)[0]) for row in counts}):
+        record = split_row(row)[0]
+        found[row] += row in counts
+        left[row] -= 1
+        if left[row] < 0 and (name_of(record), record[0]) in spans:
+            crowded.update(spans[name_of(record), record[0]].take(int(record[1]), int(record[2])))
+    return sum(count if row in crowded else min(count, found[row] - 1) for row, count in counts.items())
 
 
 class Spans:
-    """Starts and ends, of intervals that don't overlap each other."""
+    """Rows by where they begin and end."""
 
-    def __init__(self) -> None:
-        self._starts: list[int] = []
-        self._ends: list[int] = []
+    def __init__(self, rows: Sequence[str]) -> None:
+        bounds = [(int(record[1]), int(record[2]), row) for row in rows for record in [split_row(row)[0]]]
+        self._rows = sorted(bounds)
+        self._ends = sorted(end for _, end, _ in bounds)
 
-    def _overlapping(self, start: int, end: int) -> tuple[int, int]:
-        """From which place to which are those that overlap an interval."""
-        return bisect_right(self._ends, start), bisect_left(self._starts, end)
-
-    def add(self, start: int, end: int) -> bool:
-        """Adds one, or says that it overlaps another."""
-        first, last = self._overlapping(start, end)
-        if first == last:
-            self._starts.insert(first, start)
-            self._ends.insert(first, end)
-        return first == last
-
-    def take(self, start: int, end: int) -> int:
-        """Takes those out that overlap an interval, and says how many these are."""
-        first, last = self._overlapping(start, end)
-        del self._starts[first:last], self._ends[first:last]
-        return last - first
+    def take(self, start: int, end: int) -> Iterator[str]:
+        """Takes those out that overlap an interval."""
+        at = bisect_left(self._rows, (end,))
+        left = at - bisect_right(self._ends, start)
+        while left:
+            at -= 1
+            if self._rows[at][1] > start:
+                _, last, row = self._rows.pop(at)
+                del self._ends[bisect_left(self._ends, last)]
+                left -= 1
+                yield row
 
 
 def main(words: Sequence[str]) -> int:

@@ -30,7 +30,7 @@ class Change(NamedTuple):
 
 
 def changes(gone: Sequence[str], come: Sequence[str]) -> Iterator[Change]:
-    """What became of rows that only the old file has, in their order; then the additions, in the order of the new file."""
+    """What became of rows that only the old file has, in their order; then splits and joins, then the additions in their order."""
     old, new = ([split_row(row)[0] for row in rows] for rows in (gone, come))
     heirs = _heirs(old, new)
     makers = {heir: at for at, heir in heirs.items()}
@@ -41,14 +41,15 @@ def changes(gone: Sequence[str], come: Sequence[str]) -> Iterator[Change]:
     joined = {parts[0]: (whole, parts) for whole, parts in joins.items()}
     others = {part for _, parts in joined.values() for part in parts[1:]}
     for at, row in enumerate(gone):
+        if at not in splits and at not in joined and at not in others:
+            yield Change([row], [come[heirs[at]]] if at in heirs else [])
+    for at in sorted([*splits, *joined]):
         if at in splits:
-            yield Change([row], [come[part] for part in splits[at]], f"split of {_label(old[at])}")
-        elif at in joined:
+            yield Change([gone[at]], [come[part] for part in splits[at]], f"split of {_label(old[at])}")
+        else:
             whole, parts = joined[at]
             labels = dict.fromkeys(_label(old[part]) for part in sorted(parts))
             yield Change([gone[part] for part in parts], [come[whole]], f"join of {' and '.join(labels)}")
-        elif at not in others:
-            yield Change([row], [come[heirs[at]]] if at in heirs else [])
     yield from (Change([], [row]) for at, row in enumerate(come) if at not in makers and at not in split)
 
 

@@ -2,6 +2,7 @@
 import gzip
 import os
 import random
+import re
 import subprocess
 import sys
 from collections import Counter
@@ -90,21 +91,20 @@ class Together(Diff):
             script = self.script(f"chr1 5 9 x 0 +\nchr1 100 400 {name} 0 +\nchr1 500 600 y 0 +",
                                  f"chr1 100 200 {first} 0 +\nchr1 250 400 {second} 0 +\nchr1 500 600 z 0 +")
             pieces = {f"chr1 100 200 {first} 0 +", f"chr1 250 400 {second} 0 +"}
-            self.assertEqual(script[:4], ["", "remove chr1 5 9 x 0 +", "", "# together: split of A"])
-            replaced, added = script[4].partition(" 0 + ")[2], script[5].partition(" ")[2]
-            self.assertTrue(script[4].startswith("replace chr1 100 400 A 0 + ") and script[5].startswith("add "))
+            self.assertEqual(script[:5], ["", "remove chr1 5 9 x 0 +", "replace chr1 500 600 y 0 + chr1 500 600 z 0 +",
+                                          "", "# together: split of A"])
+            replaced, added = script[5].partition(" 0 + ")[2], script[6].partition(" ")[2]
+            self.assertTrue(script[5].startswith("replace chr1 100 400 A 0 + ") and script[6].startswith("add "))
             self.assertEqual({replaced, added}, pieces)
-            self.assertEqual(script[6:], ["", "replace chr1 500 600 y 0 + chr1 500 600 z 0 +"])
 
     def test_a_join(self):
         for names in "A A", "A B", "B C":
             first, second = names.split()
             script = self.script(f"chr1 100 200 {first} 0 +\nchr1 5 9 x 0 +\nchr1 250 400 {second} 0 +", "chr1 100 400 A 0 +")
             title = "A" if first == second else f"{first} and {second}"
-            self.assertEqual(script[:2], ["", f"# together: join of {title}"])
-            taken = {script[2].removeprefix("replace ").removesuffix(" chr1 100 400 A 0 +"), script[3].removeprefix("remove ")}
+            self.assertEqual(script[:4], ["", "remove chr1 5 9 x 0 +", "", f"# together: join of {title}"])
+            taken = {script[4][8:-len(" chr1 100 400 A 0 +")], script[5][7:]}
             self.assertEqual(taken, {f"chr1 100 200 {first} 0 +", f"chr1 250 400 {second} 0 +"})
-            self.assertEqual(script[4:], ["", "remove chr1 5 9 x 0 +"])
 
     def test_records_without_a_name(self):
         self.assertEqual(self.script("chr1 100 400", "chr1 100 200\nchr1 250 400"), [
@@ -138,6 +138,29 @@ class Copies(Diff):
         for new in "chr1 1 9 a\nchr1 9 12 a", "chr1 1 9 a\nchr1 5 12 b", "chr1 1 9 a\nchr2 1 9 a":
             self.assertEqual(self.copies("chr1 1 9 a", new), "")
         self.assertEqual(self.copies("chr1 1 9 .", "chr1 1 9 .\nchr1 5 12 ."), "")
+
+
+    def test_it_is_what_apply_leaves_out(self):
+        sizes = self.file("sizes", "chr1\t1000\n")
+        for seed in range(60):
+            pick = random.Random(seed)
+            width = pick.choice([3, 4, 6])
+
+            def some():
+                start = pick.randrange(300)
+                return ["chr1", str(start), str(start + pick.choice([20, 50, 90])), pick.choice("abcd."), "0", pick.choice("+-")][:width]
+
+            old = [some() for _ in range(pick.randint(1, 12))]
+            new = [some() for _ in range(pick.randint(0, 4))] + [pick.choice(old) for _ in range(pick.randint(0, 2))]
+            for one in old:
+                middle = str(int(one[1]) + 8)
+                chance = pick.random()
+                new += [[*one[:2], middle, *one[3:]], [one[0], middle, *one[2:]]] if chance < 0.15 else [one] if chance < 0.85 else []
+            files = ["\n".join(map(" ".join, records)) for records in (old, new)]
+            script = self.file("script", Outcome("diff", *self.files(*files)).out)
+            counted = re.match("([0-9]*)", self.copies(*files))[0] or 0
+            left = re.findall("already there:|there with another", Outcome("apply", sizes, self.folder / "old.bed", script).err)
+            self.assertEqual(len(left), int(counted), seed)
 
 
 class Replayed(Diff):
