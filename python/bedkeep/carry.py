@@ -36,7 +36,7 @@ class Carrier:
     def carry(self, lines: Sequence[Line]) -> None:
         """Carries out lines, those of a group whole or not at all. Their reasons become comments of the session's script.
 
-        Afterwards each has `refusal`, `message`, `hints` and `offers`, or `warning`, or `there`, or was done without a word.
+        Afterwards each has `refusal`, `message`, `hints` and `offers`, or `warning`, or `there`, or was simply done.
         """
         for batch in self._batches([line for line in lines if line.is_run]):
             self._carry(batch)

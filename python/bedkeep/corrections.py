@@ -47,7 +47,7 @@ class Line:
     group:    the lines that are done with it or not at all, itself among them; or None
     refusal:  why the program, or the package, refused it; empty if it was done or isn't run
     message:  the same with the field that it is about, and its value
-    hints:    what else is to be said of the refusal, in plain words
+    hints:    what else is to be said of the refusal
     offers:   lines that would fit instead
     warning:  what no longer holds of the columns after the sixth, though it was done
     there:    the record that an `add` isn't done for, since it is there already; it differs if the line is refused
@@ -105,7 +105,8 @@ class Line:
         """What a session is given: an empty line for what isn't run."""
         if not self.is_run:
             return ""
-        return f"{self.text}\r\r" if self.text.endswith("\r") else self.text  # One is dropped by `Session.edit`, one by the program.
+        # Of two more one is dropped by `Session.edit`, and one by the program.
+        return f"{self.text}\r\r" if self.text.endswith("\r") else self.text
 
     @property
     def narrow(self) -> str:

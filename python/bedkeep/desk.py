@@ -47,8 +47,8 @@ def main(words: Optional[Sequence[str]] = None) -> int:
         return 0
     if not given or given[0] not in COMMANDS:
         meant = difflib.get_close_matches(given[0], COMMANDS, 1) if given else []
-        what = "".join([f"no such command: {given[0]}", *(f", is {command} meant?" for command in meant)]) if given else "no command"
-        print(what, __doc__, sep="\n\n", end="", file=sys.stderr)
+        what = f"no such command: {given[0]}" if given else "no command"
+        print(what + "".join(f", is {command} meant?" for command in meant), __doc__, sep="\n\n", end="", file=sys.stderr)
         return 2
     command = importlib.import_module(f".{given[0]}", __package__)
     with ending_in_order(), failures():
@@ -66,10 +66,10 @@ def parser_of(command: str, description: str) -> argparse.ArgumentParser:
     """A parser of the options that apply, replay and review share."""
     parser = argparse.ArgumentParser(
         prog=called(command), description=description,
-        epilog="""A file may be packed by gzip; - is standard input. A line of six columns over a BED file of more leaves the others,
-        and has those follow that begin or end where the record does. On standard error a message is FILE: line N: and why the line
-        was refused, or `done, but` and what doesn't hold, or `already there:`. The last two are warnings, and the status is 1 only
-        for the first.""")
+        epilog="""A file may be packed by gzip; - is standard input. A line of six columns over a BED file of more leaves the
+        others, and has those follow that begin or end where the record does. On standard error a message is FILE: line N: and why
+        the line was refused, or `done, but` and what doesn't hold, or `already there:`. The last two are warnings, and the status
+        is 1 only for the first.""")
     parser.add_argument("genome", metavar="GENOME", help="the genome file")
     parser.add_argument("bed", metavar="BED", help="the BED file that is corrected, and not changed")
     parser.add_argument("corrections", metavar="CORRECTIONS", nargs="+", help="scripts, read as one")
@@ -90,7 +90,8 @@ def messages(lines: Sequence[Line]) -> Iterator[str]:
     for line in lines:
         before = f"{line.file}: line {line.place}: "
         if line.refusal:
-            yield "\n".join([before + line.message, *(f"  this would fit: {offer.replace(chr(9), ' ')}" for offer in line.offers)])
+            offers = (offer.replace("\t", " ") for offer in line.offers)
+            yield "\n".join([before + line.message, *(f"  this would fit: {offer}" for offer in offers)])
         elif line.there:
             yield f"{before}already there: {' '.join(line.there)}"
         elif line.warning:
@@ -107,7 +108,7 @@ def write_refused(path: Optional[str], inputs: Inputs) -> None:
 
 
 def said(failure: OSError) -> str:
-    """What went wrong with a file, in plain words."""
+    """What went wrong with a file, as a person would say it."""
     why = failure.strerror or str(failure)
     why = PLAIN.get(why, why[:1].lower() + why[1:])
     return f"{failure.filename}: {why}" if failure.filename else why

@@ -85,7 +85,7 @@ class Inputs:
         return message
 
     def session(self, leave_blocks: bool = False) -> Session:
-        """A session over the files, with all their columns. leave_blocks: whether a line is done that leaves blocks which can't hold."""
+        """A session over the files, with all their columns. leave_blocks: as for a Session."""
         empty = next((file.width for file in (self.bed, self.second) if file and file.option), None)
         return Session(self.genome, self._bed, self._second, width=empty, wide=True, leave_blocks=leave_blocks)
 

@@ -1,7 +1,7 @@
 """The script again, with lines that fit: what `replay --mend` writes.
 
-A line that is mended comes below `# was: LINE`. One that is already so, or there, is left as `# dropped: LINE`. One in conflict is
-commented out below `# conflict: ..`, and so are all lines of its group. Reasons stay where they are, and none becomes that of
+A line that is mended comes below `# was: LINE`. One that is already so, or there, is left as `# dropped: LINE`. One in conflict
+is commented out below `# conflict: ..`, and so are all lines of its group. Reasons stay where they are, and none becomes that of
 another line.
 """
 from __future__ import annotations

@@ -4,7 +4,7 @@
     for finding in replayed.findings: ...   # one for each line that is no comment, no empty line and no line of a view
     for line in replayed.mended(): ...      # the script again
 
-The program judges all lines. Those whose record isn't there are merged with what the release made of it, as `classes` says.
+The program judges all lines. Those whose record isn't there are merged with what the release made of it, as `classifier` says.
 """
 from __future__ import annotations
 
@@ -13,7 +13,8 @@ import sys
 from contextlib import ExitStack
 from typing import Iterator, Optional, Sequence, Union
 
-from .classes import CONFLICT, GONE, SO, Classifier, Finding, Side
+from .classes import CONFLICT, GONE, SO, Finding
+from .classifier import Classifier, Side
 from .corrections import Line
 from .desk import inputs_of, parser_of, write_refused
 from .errors import Error
@@ -99,7 +100,8 @@ def _with_other(finding: Finding, records: Sequence[Record]) -> Finding:
     other = min(others, key=lambda record: (record[0] != old[0], distance(record, old), record))
     by = int(other[1]) - int(old[1])
     if finding.kind == GONE and other[0] == old[0] and by == int(other[2]) - int(old[2]):
-        return finding._replace(kind=CONFLICT, found=other, note=f"one of its name is {abs(by)} bases away, and doesn't overlap it")
+        note = f"one of its name is {abs(by)} bases away, and doesn't overlap it"
+        return finding._replace(kind=CONFLICT, found=other, note=note)
     note = f"one of its name is at {' '.join(other[:3])}"
     return finding._replace(note=f"{finding.note}; {note}" if finding.note else note)
 
@@ -109,9 +111,9 @@ def main(words: Sequence[str]) -> int:
     parser = parser_of("replay", "Says of each line that no longer fits why, with the record that it is about.")
     parser.add_argument("--ignore", choices=RECORD[3:], metavar="COLUMN", action="append", default=[],
                         help="name, score or strand: it may differ; for several columns give it several times")
-    parser.add_argument("--mend", metavar="FILE", help="""writes the script again with lines that fit, and never over a file. What only
-        the release or only the correction changed is taken from it; what both changed is left as a conflict, commented out.
-        Nothing is mended to a record that has another name, or that doesn't overlap""")
+    parser.add_argument("--mend", metavar="FILE", help="""writes the script again with lines that fit, and never over a
+        file. What only the release or only the correction changed is taken from it; what both changed is left as a conflict,
+        commented out. Nothing is mended to a record that has another name, or that doesn't overlap""")
     parser.add_argument("--tsv", action="store_true", help="prints a table")
     given = parser.parse_intermixed_args(words)
     if given.mend == "-":

@@ -101,7 +101,8 @@ class Track:
     @cached_property
     def faults(self) -> frozenset[str]:
         """The kinds of what can't hold in the file already."""
-        return frozenset(fault.kind for record, tails in self._file.items() for tail in tails for fault in faults_of(record, tail))
+        rows = ((record, tail) for record, tails in self._file.items() for tail in tails)
+        return frozenset(fault.kind for row in rows for fault in faults_of(*row))
 
     def _of(self, record: Record, tail: Optional[str]) -> Iterator[Held]:
         return (held for held in self._ordered(record) if tail is None or held.tail == tail)
