@@ -76,9 +76,9 @@ def main(words: Optional[Sequence[str]] = None) -> int:
     parser.add_argument("second", metavar="SECOND", nargs="?", help="the second file, for intersect and subtract")
     parser.add_argument("--fasta", metavar="FASTA", help="for getfasta")
     parser.add_argument("--script", metavar="FILE", help="is carried out if it is there; each accepted line is appended at once")
-    parser.add_argument("--copies", action="store_true", help="adds a copy of a record that is there already")
+    parser.add_argument("--copies", action="store_true", help="has `add` put in a copy of a record that is there already")
     parser.add_argument("--leave-blocks", action="store_true",
-                        help="does an edit also if a column from the seventh on, such as blocks, can't hold then")
+                        help="does a line after which columns from the seventh on can't hold, such as blocks, with a warning")
     given = parser.parse_args(words)
     _take_any_bytes()
     try:

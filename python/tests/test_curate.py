@@ -471,6 +471,22 @@ class Kept(Case):
             self.assertEqual((self.path.read_text(), says.session.records()), (before, records))
             self.assertEqual(says("add chr1 3 4 x"), ["done"])
 
+    def test_a_full_disk_at_an_undo_of_another_day(self):
+        """The inverse can't be written, so the edit is done again."""
+        with self.prompt() as says:
+            says("# why", "add chr1 1 2 x")
+        text = self.path.read_text()
+        with self.prompt() as says:
+            records = says.session.records()
+            with mock.patch("os.pwrite", side_effect=OSError(28, "No space left on device")):
+                self.assertEqual(says("undo"), ["[Errno 28] No space left on device"])
+            self.assertEqual((self.path.read_text(), says.session.records()), (text, records))
+            self.assertEqual(says("undo"), ["undone: add chr1 1 2 x"])
+
+    def test_an_interrupt_of_an_edit(self):
+        with self.prompt() as says, mock.patch.object(says.session, "edit", side_effect=KeyboardInterrupt):
+            self.assertEqual(says("# why", "add chr1 1 2 x"), ["interrupted", "   its reason isn't kept for the next line"])
+
     def test_review(self):
         pages = []
         module = types.ModuleType("bedkeep.review")

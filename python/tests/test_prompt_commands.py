@@ -1,4 +1,9 @@
 """The commands of the prompt that make lines of a script: merge, split, shift, rename, and set over columns after the sixth."""
+import contextlib
+import io
+from unittest import mock
+
+from bedkeep import curate
 from helpers import Outcome, Prompt
 
 
@@ -121,6 +126,11 @@ class Together(Kept):
             with self.subTest(end):
                 self.assertEqual(self.script("# together: one gene", "# of two", *lines, end).partition("# another")[0], text)
                 self.assertEqual(self.said[0], "done: 2 lines together")
+        with mock.patch("sys.stdin", io.StringIO("\n".join(["# together: one gene", "# of two", *lines]))):
+            self.corrections.unlink()
+            with contextlib.redirect_stdout(io.StringIO()):
+                self.assertEqual(curate.main(list(map(str, self.words))), 0)
+            self.assertEqual(self.corrections.read_text(), text)
         self.assertEqual(self.script("# together: one gene", lines[0], "remove chr1 150 261 geneB 7 .", "", "undo"), "")
         self.assertEqual(self.said[:2], ["refused: no such record in remove chr1 150 261 geneB 7 .", "   near: chr1 150 260 geneB 7 ."])
         self.assertEqual(self.said[-3:-1], ["   its reason isn't kept for the next line", "nothing to undo"])
@@ -169,6 +179,14 @@ class Blocks(Kept):
         self.assertEqual(self.script("merge g h"),
                          f"# together: merge g h\nreplace\t{self.g}\tchr1\t100\t300\tg\t0\t+\t120\t180\t0\t3\t10,30,20,\t0,80,180,\n"
                          f"remove\t{self.h}\n")
+
+    def test_merge_of_records_without_a_coding_part(self):
+        """It begins and ends at the new start."""
+        self.genes.write_text("chr1\t300\t400\ti\t0\t+\t300\t300\t0\t1\t100\t0\n"
+                              "chr1\t200\t320\tj\t0\t+\t200\t200\t0\t1\t120\t0\nchr1\t10\t30\tk\t0\t+\t10\t10\t0\t2\t5,5\t0,9\n")
+        self.assertIn("\tchr1\t200\t400\ti\t0\t+\t200\t200\t0\t1\t200\t0\n", self.script("merge i j"))
+        self.assertEqual(self.script("merge i k"), "")
+        self.assertEqual(self.said[0], "the blocks of chr1 10 30 k 0 + 10 10 0 2 5,5 0,9 can't hold")
 
     def test_split(self):
         """Between two exons, and within one."""
