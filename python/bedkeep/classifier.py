@@ -2,7 +2,7 @@
 
 `Classifier` goes through the lines a second time, after the program's verdicts, over the track as it is once the lines above are
 mended; so a chain of corrections (X to Y, then Y to Z) can be mended whole. A line whose record isn't there is merged with the
-record that another release made of it (see `merge`): the one of the same name that overlaps it, of several the nearest. A record
+record that another release made of it (see `three_way`): the one of the same name that overlaps it, of several the nearest. A record
 without a name has to be at the same place, or to have the other columns.
 """
 from __future__ import annotations
@@ -16,9 +16,9 @@ from .classes import BAD, CHANGED, CONFLICT, DOABLE, FITS, FOLLOWS, GONE, IGNORE
 from .corrections import ABSENT, Line
 from .formats import default_tail, follow, worse
 from .memory import Memory
-from .merge import Version, merge
 from .records import NAMELESS, WIDEST, Record, differing, distance, name_of, strand_of
 from .rows import RECORD
+from .three_way import Version, merge
 from .tracks import Track
 
 NAME = RECORD.index("name")

@@ -4,7 +4,7 @@ from __future__ import annotations
 from typing import Any, Mapping
 
 from .corrections import Line
-from .merge import Version
+from .three_way import Version
 from .records import Record
 
 

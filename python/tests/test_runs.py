@@ -1,5 +1,6 @@
 import os
 import pathlib
+import pkgutil
 import subprocess
 import sys
 import time
@@ -12,6 +13,11 @@ CONTIGS, CODING, BASES = EXAMPLES / "contigs.genome", EXAMPLES / "coding.bed", E
 
 
 class Runs(Case):
+    def test_no_module_has_the_name_of_a_function(self):
+        """The import of a module would hide the function."""
+        modules = {module.name for module in pkgutil.iter_modules(bedkeep.__path__)}
+        self.assertEqual(modules.intersection(bedkeep.__all__), set())
+
     def test_each_run_gives_the_rows_of_the_program(self):
         one, coding = ("-g", GENOME, "-i", GENES), ("-g", CONTIGS, "-i", CODING)
         two = ("-g", GENOME, "-a", GENES, "-b", MASK)
