@@ -309,13 +309,23 @@ class Cards(Case):
         self.assertIn("conflict", page.articles["L1"]["data-groups"].split("|"))
         for row in "was      chr1  100  200  A", "asked    chr1  100  250  A", "there    chr1  100  230  A":
             self.assertIn(row, page.texts["L1"])
+        self.assertIn("<mark>230</mark>", self.text)
 
     def test_an_addition_that_is_there_with_other_columns(self):
         page = self.page("chr1\t100\t200\tA\n", "add\tchr1\t100\t210\tA\n")
         self.assertEqual((page.articles["L1"]["class"], self.outcome.status), ("refused", 1))
         self.assertIn('data-text="replace\tchr1\t100\t200\tA\tchr1\t100\t210\tA"', self.text)
+        self.assertEqual(page.texts["L1"].count("there    chr1  100  200  A"), 1)
         page = self.page("chr1\t100\t200\tA\n", "add\tchr1\t100\t200\tA\n", "--copies")
         self.assertEqual(page.articles["L1"]["data-groups"], "done|copies|without a reason")
+
+    def test_a_bad_line_with_all_columns_of_the_new_record(self):
+        bed = "chr1\t100\t200\tg\t0\t+\t100\t200\t0\t1\t100,\t0,\n"
+        script = "replace\tchr1\t100\t200\tg\t0\t+\tchr1\t210\t190\tg\t0\t+\t190\t210\t0\t1\t20,\t0,\n"
+        self.page(bed, script)
+        self.assertIn('data-text="replace\tchr1\t100\t200\tg\t0\t+\tchr1\t190\t210\tg\t0\t+\t190', self.text)
+        self.page(bed, script.replace("chr1\t210\t190", "1\t190\t210"))
+        self.assertIn('data-text="replace\tchr1\t100\t200\tg\t0\t+\tchr1\t190\t210\tg\t0\t+\t190', self.text)
 
     def test_a_warning_has_a_chip(self):
         bed = "chr1\t100\t200\tg\t0\t+\t100\t100\t0\t2\t10,20,\t0,80,\n"

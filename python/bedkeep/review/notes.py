@@ -6,7 +6,7 @@ from typing import Iterable, Iterator, Mapping, Optional
 
 from ..classes import BAD, CHANGED, CONFLICT, FOLLOWS, GONE, IGNORED, MOVED, SO, TAKEN, Finding
 from ..corrections import Line
-from ..records import Record
+from ..records import WIDEST, Record
 from ..rows import RECORD
 from .intervals import Interval, asked, of_record
 from .markup import counted, escaped, is_whole, number, with_tabs
@@ -49,11 +49,15 @@ def difference(old: Interval, new: Interval) -> str:
 
 
 def beside(rows: Iterable[tuple[str, Optional[Record]]]) -> str:
-    """Records below each other, each after its title."""
+    """Records below each other, each after its title, columns marked that differ."""
     listed = [(title, record) for title, record in rows if record]
-    widths = [max(map(len, column)) for column in zip_longest(*(record for _, record in listed), fillvalue="")]
-    texts = ("  ".join([title.ljust(7), *(text.ljust(width) for text, width in zip(record, widths))]).rstrip() for title, record in listed)
-    return f"<pre>{chr(10).join(map(escaped, texts))}</pre>"
+    columns = [(max(map(len, column)), len(set(column)) > 1) for column in zip_longest(*(record for _, record in listed), fillvalue="")]
+    lines = []
+    for title, record in listed:
+        cells = [(f"<mark>{escaped(text)}</mark>" if differs else escaped(text)) + " " * (width - len(text))
+                 for text, (width, differs) in zip(record, columns)]
+        lines.append("  ".join([title.ljust(7), *cells]).rstrip())
+    return f"<pre>{chr(10).join(lines)}</pre>"
 
 
 def link(line: Line) -> str:
@@ -77,9 +81,11 @@ def of_refused(line: Line, finding: Finding, lengths: Mapping[str, int]) -> Iter
     note = f" {escaped(finding.note[0].upper() + finding.note[1:])}." if finding.note else ""
     if finding.kind == SO and not finding.found:
         yield "<b>Already so</b>, or mistyped: the track has no record like it."
+    elif line.there:
+        yield f"<b>There with other columns</b>: the file has a record of its name.{beside([('asked', line.new), ('there', line.there)])}"
     else:
         yield f"{SENTENCES.get(finding.kind, escaped(finding.kind))}{by}{note}"
-    if finding.kind == CONFLICT and finding.found:
+    if finding.kind == CONFLICT and finding.found and not line.there:
         yield beside([("was", line.old), ("asked", line.new), ("there", finding.found)])
     record, found = of_record(finding.asked), of_record(finding.found)
     if record and found and record != found and finding.kind in (CHANGED, MOVED, IGNORED, GONE):
@@ -88,8 +94,6 @@ def of_refused(line: Line, finding: Finding, lengths: Mapping[str, int]) -> Iter
         yield WHAT_TO_DO[line.refusal]
     if line.refusal == "end past the sequence's end":
         yield from _past(line, lengths)
-    if line.there:
-        yield beside([("asked", line.new), ("there", line.there)])
     if finding.mended:
         yield f"Mended: {to_copy(finding.mended)}"
     for offer in dict.fromkeys(offer for offer in (*line.offers, _mended(line, lengths)) if offer and not finding.mended):
@@ -106,7 +110,7 @@ def _past(line: Line, lengths: Mapping[str, int]) -> Iterator[str]:
 def _mended(line: Line, lengths: Mapping[str, int]) -> str:
     """What a bad line may have meant."""
     if line.refusal == "unknown sequence":
-        wrong = next((field for field in (line.fields[0], line.fields[len(line.fields) // 2]) if field not in lengths), "")
+        wrong = next((line.fields[at] for at in _begins(line) if line.fields[at] not in lengths), "")
         name = _like(wrong, lengths)
         return "\t".join([line.command, *(name if field == wrong else field for field in line.fields)]) if name else ""
     if line.refusal == "start not below end":
@@ -126,8 +130,13 @@ def _like(name: str, lengths: Mapping[str, int]) -> str:
 def _exchanged(line: Line) -> str:
     """The line with start and end exchanged if they are the wrong way round."""
     fields = [*line.fields]
-    half = len(fields) // 2 if line.command.startswith("replace") else len(fields)
-    for at in range(0, len(fields), half):
+    for at in _begins(line):
         if int(fields[at + 1]) > int(fields[at + 2]):
             fields[at + 1], fields[at + 2] = fields[at + 2], fields[at + 1]
     return "\t".join([line.command, *fields]) if fields != line.fields else ""
+
+
+def _begins(line: Line) -> list[int]:
+    """At which of its fields the record of a line begins, or its two."""
+    second = WIDEST if line.new_tail and not line.old_tail else len(line.fields) // 2
+    return [0, second] if line.command.startswith("replace") else [0]
