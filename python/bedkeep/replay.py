@@ -62,7 +62,7 @@ def replay(genome: Path, bed: Path, corrections: Sequence[Path], second: Optiona
 def replay_inputs(inputs: Inputs, ignore: Sequence[str] = (), copies: bool = False, leave_blocks: bool = False) -> Replayed:
     """The same for inputs that are open. Their lines have their verdicts afterwards."""
     runs = [line for line in inputs.lines if line.is_run]
-    columns = [RECORD.index(name) for name in ignore]
+    columns = [_column(name) for name in ignore]
     with ExitStack() as stack:
         sessions = {False: stack.enter_context(inputs.session(leave_blocks))}
         if inputs.second and any(line.is_second for line in runs):
@@ -76,6 +76,13 @@ def replay_inputs(inputs: Inputs, ignore: Sequence[str] = (), copies: bool = Fal
         for second, session in sessions.items():
             findings = _with_others(findings, session, second)
     return Replayed(inputs.lines, findings)
+
+
+def _column(name: str) -> int:
+    """The place of a column that may differ."""
+    if name not in RECORD[3:]:
+        raise ValueError(f"name, score or strand may differ, and not {name}")
+    return RECORD.index(name)
 
 
 def _with_others(findings: Sequence[Finding], session: Session, second: bool) -> list[Finding]:

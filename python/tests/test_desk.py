@@ -8,7 +8,7 @@ from unittest import mock
 
 import bedkeep
 from bedkeep import desk, files
-from helpers import EXAMPLES, PROGRAM, Case, Outcome, tabs
+from helpers import EXAMPLES, Case, Outcome, tabs
 from test_replay import LENGTHS, some_record, some_script
 
 PACKAGE = Path(bedkeep.__file__).parent.parent
