@@ -128,8 +128,7 @@ class Conversation:
         raised once the answer is complete.
         """
         self.refuse_forked()
-        if self._over:
-            raise self._over
+        self.refuse_ended()
         exchange = Exchange(text, take, self._count)
         try:
             self._selector.register(self._in, selectors.EVENT_WRITE)
@@ -157,6 +156,11 @@ class Conversation:
         """Raises an Error in a process that was forked: two can't share the pipes to a program."""
         if self.is_forked:
             raise Error(f"this session belongs to process {self._owner}, and this is process {os.getpid()}: begin a session here")
+
+    def refuse_ended(self) -> None:
+        """Raises what ended the program, if it has ended."""
+        if self._over:
+            raise self._over
 
     @property
     def is_over(self) -> bool:

@@ -462,6 +462,7 @@ class Session:
     @alone
     def stream_file(self, take: Callable[[bytes], object], sorted: bool = False) -> None:
         """Hands on what `save` writes, some bytes at a time."""
+        self._talk.refuse_ended()
         if self._source is None:
             self._print_track(take)
             return

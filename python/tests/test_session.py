@@ -561,8 +561,10 @@ class Ends(Case):
         session.add("chr1", 1, 2, "x")
         session.end()
         session.end()
-        with self.assertRaisesRegex(bedkeep.Ended, "the session is closed"):
-            session.records()
+        for call in session.records, lambda: session.save(self.folder / "saved.bed"):
+            with self.assertRaisesRegex(bedkeep.Ended, "the session is closed"):
+                call()
+        self.assertFalse((self.folder / "saved.bed").exists())
         self.assertEqual(session.script(), "add\tchr1\t1\t2\tx\n")
 
     def test_a_fork_does_not_hold_up_the_end(self):
