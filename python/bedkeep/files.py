@@ -12,6 +12,7 @@ import shutil
 import sys
 import zlib
 from contextlib import contextmanager, suppress
+from functools import cached_property
 from typing import BinaryIO, Iterator, Optional, cast
 
 from .bgzf import ENDINGS, Blocks
@@ -95,8 +96,6 @@ class Bed:
     path:    as it was given
     source:  the path of the same file, unpacked
     width:   of its first record, or of the first one that is added to a file without a record; 0 if there is neither
-    narrow:  the path of a file with its first six columns, which the program can read; of the same file if it is no BED file, so
-             that the program says what it is
     option:  what `-width` has to be for it, if it has no record
     """
 
@@ -106,8 +105,16 @@ class Bed:
         first = next(self.rows(), "").split("\t")
         self.width = len(first) if first != [""] else 0
         self.option: Optional[int] = None
-        is_bed = all(text.isascii() and text.isdigit() for text in first[1:NARROWEST])
-        self.narrow = self._cut(folder) if self.width > WIDEST and is_bed else self.source
+        self._is_bed = all(text.isascii() and text.isdigit() for text in first[1:NARROWEST])
+        self._folder = folder
+
+    @cached_property
+    def narrow(self) -> str:
+        """The path of a file with its first six columns, which the program can read, written when it is asked for.
+
+        It is the same file if that is no BED file, so that the program says what it is.
+        """
+        return self._cut(self._folder) if self.width > WIDEST and self._is_bed else self.source
 
     @property
     def headers(self) -> list[str]:
@@ -130,7 +137,7 @@ class Bed:
 
     def named(self, message: str) -> str:
         """A message of the program with the name of this file."""
-        return message.replace(f"{self.narrow}: ", f"{self.path}: ")
+        return message.replace(f"{self.__dict__.get('narrow', self.source)}: ", f"{self.path}: ")
 
     def _cut(self, folder: str) -> str:
         target = os.path.join(folder, f"narrow-{len(os.listdir(folder))}")

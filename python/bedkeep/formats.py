@@ -95,10 +95,12 @@ def faults_of(record: Record, tail: str) -> list[Fault]:
 def worse(old: Record, old_tail: str, new: Record, new_tail: str, allowed: Collection[str] = ()) -> list[str]:
     """The faults of a new record of which the old one had none of their kind, in words, but for those of an allowed kind."""
     kind, columns = format_of(old, old_tail), _columns(new_tail)
+    is_same = kind != TEXT and _has_form(kind, columns)
+    found = _faults_of(kind if is_same else format_of(new, new_tail), new, columns)
+    if not found:
+        return []
     before = {fault.kind for fault in _faults_of(kind, old, _columns(old_tail))}.union(allowed)
-    if kind == TEXT or not _has_form(kind, columns):
-        kind = format_of(new, new_tail)
-    return [fault.text for fault in _faults_of(kind, new, columns) if fault.kind not in before]
+    return [fault.text for fault in found if fault.kind not in before]
 
 
 def _faults_of(kind: str, record: Record, columns: Sequence[str], of_tail: bool = False) -> list[Fault]:
