@@ -25,6 +25,7 @@ ABSENT = "no such record"
 UNLIKE = "the record is there with"  # how a session says that the columns after the sixth differ
 TOGETHER = "together:"
 MARKER = re.compile(r"#\s*(?:(?:was|conflict|dropped):|[a-z ]+, was:|(?:[^\t]*: )?(?:(?:add|remove|replace)b?|resize)\t)")
+PLACE = re.compile(r"[^:]+:[0-9,]+-[0-9,]+")
 COLUMN_OF = {"unknown sequence": 0, "start is not a number": 1, "end is not a number": 2, "start not below end": 1,
              "end past the sequence's end": 2, "bad name": 3, "bad score": 4, "bad strand": 5}
 ABOUT_COMMANDS = {"no such command or wrong fields", "no second file"}
@@ -179,7 +180,8 @@ class Line:
             column = 0 if self.refusal == "unknown sequence" else 1
             return f"{self.refusal}: {self.fields[column]!r} ({('sequence', 'length')[column]})"
         if self.refusal.startswith("wrong number"):
-            return f"{self.refusal}: {len(self.fields)} fields{self._needed()}"
+            places = "".join(f"; {field} is three fields" for field in self.fields if PLACE.fullmatch(field))
+            return f"{self.refusal}: {len(self.fields)} fields{self._needed()}{places}"
         if self.refusal == ABSENT:
             unlike = [hint for hint in self.hints if hint.startswith(UNLIKE)]
             return ": ".join([ABSENT, " ".join(self._halves()[0]), *unlike])

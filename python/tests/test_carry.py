@@ -106,6 +106,10 @@ class Commands(Case):
         for bed, script in ("chr1 390 500", "add~chr1~391~500\n"), ("chr1 390 500 .", "add~chr1~391~500~.\n"):
             self.assertEqual(self.run_on("apply", bed, script).status, 0)
 
+    def test_a_place_in_one_field(self):
+        self.assertEqual(self.run_on("apply", "chr1 1 2 x", "add~chr1:10-20~x\n").messages,
+                         ["line 1: wrong number of columns: 2 fields; 4 are needed; chr1:10-20 is three fields"])
+
     def test_what_was_taken_out_may_come_back(self):
         """Also among copies, and beside a record of its name."""
         bed = "chr1 390 500 geneC\nchr1 390 500 geneC\nchr1 400 500 geneC"
