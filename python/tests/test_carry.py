@@ -8,6 +8,7 @@ from unittest import mock
 import bedkeep
 from bedkeep.carry import Carrier
 from bedkeep.corrections import is_marker, read_text
+from bedkeep.three_way import Version, merge
 from helpers import Case, Outcome, tabs
 
 PACKAGE = Path(bedkeep.__file__).parent.parent
@@ -317,3 +318,36 @@ class Options(Case):
             outcome = Outcome("apply", self.sizes, self.file("other.bed", text), self.script)
             self.assertEqual(outcome.status, 2)
             self.assertRegex(outcome.err, f"(?s)^{self.folder}/other.bed: line .*looks like {name}.*awk")
+
+
+class Merges(Case):
+    """A three-way merge of one record."""
+
+    BASE = ("chr1", "100", "200", "g", "0", "+")
+    TAIL = "\t100\t200\t0\t1\t100\t0"
+    TEXT = "\tx\ty\tz\t1\t2\t3"  # no BED12
+
+    def merged(self, mine, theirs, base=TAIL):
+        """The version that comes of it, or the fields of the conflict, or why else it is one."""
+        merged = merge(Version(self.BASE, base), Version(*mine), Version(*theirs), {"chr1": 1000})
+        return merged.version or merged.unlike or merged.note
+
+    def test_columns_of_another_format_are_one_field(self):
+        renamed = (*self.BASE[:3], "h", *self.BASE[4:])
+        self.assertEqual(self.merged((renamed, self.TAIL), (self.BASE, self.TEXT)), (renamed, self.TEXT))
+        self.assertEqual(self.merged((renamed, self.TEXT), (self.BASE, self.TAIL)), (renamed, self.TEXT))
+        self.assertEqual(self.merged((renamed, self.TAIL.replace("\t0\t1", "\t9\t1")), (self.BASE, self.TEXT)),
+                         ("columns from the seventh on",))
+        self.assertEqual(self.merged((renamed, self.TAIL), ((*self.BASE[:3], "i", *self.BASE[4:]), self.TEXT)), ("name",))
+
+    def test_a_base_without_the_columns_after_the_sixth(self):
+        """What both have is so; else nobody knows who changed it."""
+        longer = ("chr1", "100", "210", "g", "0", "+")
+        self.assertEqual(self.merged((longer, "\t7\ta"), (self.BASE, "\t7\ta"), None), (longer, "\t7\ta"))
+        self.assertEqual(self.merged((longer, "\t7\ta"), (self.BASE, "\t7\tb"), None), ("column_8",))
+
+    def test_what_cannot_be_merged(self):
+        self.assertEqual(self.merged((("chr1", "5", "200", *self.BASE[3:]), self.TAIL), (("chr1", "0", "100", *self.BASE[3:]), self.TAIL)),
+                         "the start would be -95")
+        later = ("chr1", "125", "200", *self.BASE[3:]), "\t125\t200\t0\t1\t75\t0"
+        self.assertEqual(self.merged((self.BASE, "\t100\t200\t0\t2\t20,70\t0,30"), later), "the blocks are not within the record")
