@@ -114,6 +114,12 @@ class Histories(Case):
             return ["undo"] * pick.choice([1, 1, 2]) + ["redo"] * pick.choice([0, 0, 1])
         if chance < 0.2:
             return ["# together: both", " ".join(maker.line(rows)), " ".join(maker.line(rows)), ""]
+        if chance < 0.25 and maker.width > SHORT:
+            row = pick.choice(rows or [maker.record()])
+            base, last = (pick.randrange(int(row[1]) - 3, int(row[2]) + 3) for _ in range(2))
+            column = pick.choice(["summit", "qValue"] if maker.width == 10 else ["thickStart", "thickEnd", "itemRgb", "blocks"])
+            value = {"itemRgb": "9,9,9", "blocks": f"{row[1]}-{base},{last}-{row[2]}"}.get(column, str(base))
+            return [f"set {column} {row[3]} {value}"]
         if chance < 0.3:
             return [pick.choice([f"set end {pick.choice(names)} {pick.randrange(1, 300)}", f"set name {pick.choice(names)} {pick.choice(names)}",
                                  f"rename {pick.choice(names)} {pick.choice(names)}", f"merge {pick.choice(names)} {pick.choice(names)}",
