@@ -19,7 +19,8 @@ class Shape(NamedTuple):
         """The parts of the blocks: start, end, and whether it is thick."""
         low, high = self.thick
         for start, end in self.blocks:
-            for begin, stop, is_thick in (start, min(end, low), False), (max(start, low), min(end, high), True), (max(start, high), end, False):
+            parts = (start, min(end, low), False), (max(start, low), min(end, high), True), (max(start, high), end, False)
+            for begin, stop, is_thick in parts:
                 if begin < stop:
                     yield begin, stop, is_thick
 
