@@ -3,7 +3,8 @@ from __future__ import annotations
 
 import os
 import webbrowser
-from typing import Callable, Iterable, Optional, Sequence
+from contextlib import suppress
+from typing import Callable, Iterable, Iterator, Optional, Sequence
 
 from .carry import Carrier
 from .corrections import ABSENT, EDITS, TOGETHER, Line
@@ -173,9 +174,16 @@ class Curator:
             self._propose(self._makers.remove(references(columns)[0]))
         elif needed:
             print("refused: wrong number of columns")
-            _print_indented([needed])
+            _print_indented([needed, *self._places_in(columns)])
         else:
             self._carry(["\t".join(fields)])
+
+    def _places_in(self, columns: Sequence[str]) -> Iterator[str]:
+        """What is to be said of columns that are a place each."""
+        for column in columns:
+            with suppress(ValueError):
+                place = self._references.place(column if ":" in column else "")
+                yield f"{column} is three columns: {place.sequence} {place.start} {place.end}"
 
     def _propose(self, proposal: Proposal, line: str = "") -> None:
         """Says which records were taken, and carries out the lines."""

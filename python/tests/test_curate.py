@@ -64,6 +64,8 @@ class Curate(Prompt):
                 ("add chr1 10 20", "refused: wrong number of columns", "   4 columns are needed: chromosome, start, end, name"),
                 ("replace chr1 100 200 geneA chr1 100 250", "refused: wrong number of columns",
                  "   replace has 4 columns of the old record, and then 4 of the new one: chromosome, start, end, name"),
+                ("add chr1:11-20 x", "refused: wrong number of columns", "   4 columns are needed: chromosome, start, end, name",
+                 "   chr1:11-20 is three columns: chr1 10 20"),
                 ("closest", "refused: closest is no command: is near meant?", "   `help` lists the commands"),
                 ("quux", "refused: quux is no command", "   `help` lists the commands"),
                 ("undo 2", "undo takes one edit back: write it again for the one before"),
