@@ -100,8 +100,8 @@ class Frames(Case):
     def test_tables_that_are_no_track(self):
         whole = pandas.DataFrame({"chrom": ["chr1"], "start": [1], "end": [3], "name": ["a"]})
         for change, error, message in (
-            ({"Chrom": "x"}, ValueError, "both 'chrom' and 'Chrom'"), ({"start": 1.5}, ValueError, "start of the table is no whole"),
-            ({"end": float("nan")}, ValueError, "end of the table is no whole"), ({"name": "a\tb"}, ValueError, "a TAB"),
+            ({"Chrom": "x"}, ValueError, "both 'chrom' and 'Chrom'"), ({"start": 1.5}, ValueError, "column start has numbers that aren't whole"),
+            ({"end": float("nan")}, ValueError, "column end has numbers that aren't whole"), ({"name": "a\tb"}, ValueError, "a TAB"),
             ({"name": "a\nb"}, ValueError, "a TAB or the end of a line"), ({"start": 3}, bedkeep.Damaged, "^table: line 1: start not"),
         ):
             with self.subTest(message), self.assertRaisesRegex(error, message):
