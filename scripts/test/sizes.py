@@ -104,6 +104,13 @@ def long_lines():
         ), f"chr1\t10\t20\t{name}x\t1\n"
 
 
+def long_file_lines():
+    """A heading of more than half a megabyte, and a record whose name has half of that."""
+    yield "long lines of a file", "merge -g g -i a", {
+        "g": "s\t1000000\n", "a": f"#{'c' * (600_000 // LESS)}\r\ns\t1\t2\t{'n' * (300_000 // LESS)}\ns\t5\t9\tm",
+    }, None, "s\t1\t2\ns\t5\t9\n"
+
+
 def long_names():
     """A sequence, records and scores with long names, in files and in lines."""
     name, cell = "s" * 300, "n" * 100
@@ -270,8 +277,8 @@ def main():
     LESS = 1 if is_proved(program) else 10
     if run_in_parts([sys.executable, "-c", IS_SHORT], "/", None)[0] != 1:
         sys.exit("no write is cut short here")
-    whole = [records_at_one_place, many_sequences, reversed_records, regions, long_lines, long_names, long_bases, many_short_bases, long_headers,
-             long_rows, pairs]
+    whole = [records_at_one_place, many_sequences, reversed_records, regions, long_lines, long_file_lines, long_names, long_bases,
+             many_short_bases, long_headers, long_rows, pairs]
     results = [is_right(program, *run) for kind in whole for run in kind()]
     for kind in long_prints, long_sequences:
         results += [is_right(program, *run, rooms=[*ROOMS, len(run[-1]) - 1]) for run in kind()]
