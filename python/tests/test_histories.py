@@ -184,8 +184,9 @@ class Histories(Case):
         """A line is already so if there is what it makes, maybe some bases further on; or what a later line makes of that."""
         old, new = (self.named_rows(slow, line) * 2)[:2]
         if not line.startswith("remove") and new not in taken:
-            changed = [place for place in range(3, len(new)) if old[place] != new[place]] if line.startswith("replace") else range(3, len(new))
-            self.assertTrue(any(is_moved(new, row) and all(row[place] == new[place] for place in changed) for row in there), line)
+            changed = [place for place in range(1, len(new)) if old[place] != new[place] or not line.startswith("replace")]
+            self.assertTrue(any(overlap(new, row) and all(row[place] == new[place] or place < 3 and is_moved(new, row) for place in changed)
+                                for row in there), line)
 
     def check_line(self, slow, before, after, became):
         self.assertEqual(before[0], after[0])
@@ -214,16 +215,18 @@ def is_same_record(base, taken, became):
     if base == taken or taken in became.get(base, ()):
         return True
     name = base[3] if len(base) > 3 else "."
-    overlaps = base[0] == taken[0] and int(base[1]) < int(taken[2]) and int(taken[1]) < int(base[2])
     if name != ".":
-        return overlaps and taken[3] == name
-    return base[:3] == taken[:3] or overlaps and base[3:] == taken[3:] and len(base) > 3
+        return overlap(base, taken) and taken[3] == name
+    return base[:3] == taken[:3] or overlap(base, taken) and base[3:] == taken[3:] and len(base) > 3
+
+
+def overlap(one, other):
+    return one[0] == other[0] and int(one[1]) < int(other[2]) and int(other[1]) < int(one[2])
 
 
 def is_moved(one, other):
-    """Whether two records are of one length and overlap."""
-    by = int(other[1]) - int(one[1])
-    return one[0] == other[0] and by == int(other[2]) - int(one[2]) and abs(by) < int(one[2]) - int(one[1])
+    """Whether two records are of one length."""
+    return int(other[1]) - int(one[1]) == int(other[2]) - int(one[2])
 
 
 def moved(row, by, format):
