@@ -1,10 +1,11 @@
 """What the program printed of a track at one time: the records near the corrections, and what all of them come to."""
 from __future__ import annotations
 
+import hashlib
 import mmap
 from collections import Counter
 from contextlib import contextmanager
-from typing import Callable, Iterator, Union
+from typing import Any, Callable, Iterator, Optional, Union
 
 from ..program import decoded
 from .intervals import Interval, Stretch, Windows
@@ -12,6 +13,7 @@ from .intervals import Interval, Stretch, Windows
 BINS = 240  # of the overview of a sequence
 AROUND = 6  # records that are kept on either side of a window, however far they are
 PIECE = 1 << 20  # bytes that are looked at at once
+Known = dict[tuple[bytes, object], Any]  # what is known of rows, by the digest of their text
 
 
 class Side:
@@ -20,9 +22,11 @@ class Side:
     records, blocks, covered: the number of records and of blocks and the bases that these cover, of each sequence
     near:        the records in the windows, and a few around these
     near_blocks: the blocks in the windows
+    known:       what another side worked out, which isn't worked out again of the same rows
     """
 
-    def __init__(self, windows: Windows) -> None:
+    def __init__(self, windows: Windows, known: Optional[Known] = None) -> None:
+        self._known: Known = {} if known is None else known
         self.records: Counter[str] = Counter()
         self.blocks: Counter[str] = Counter()
         self.covered: Counter[str] = Counter()
@@ -39,14 +43,22 @@ class Side:
         """
         for name, rows in _sequences(blocks):
             self._read_blocks(name, rows)
-            self.covered[name] = rows.bases() if touching == blocks else 0
+            self.covered[name] = self._once(rows, "bases", rows.bases) if touching == blocks else 0
         for name, rows in _sequences(touching) if touching != blocks else ():
-            self.covered[name] = rows.bases()
+            self.covered[name] = self._once(rows, "bases", rows.bases)
         for name, rows in _sequences(track):
-            self.records[name] = len(rows)
-            if name in lengths:
-                self._bins[name] = rows.density(lengths[name])
+            length = lengths.get(name, 0)
+            self.records[name], density = self._once(rows, length, lambda: (len(rows), rows.density(length) if length else None))
+            if density:
+                self._bins[name] = density
             self._read_records(name, rows)
+
+    def _once(self, rows: Rows, what: object, work: Callable[[], Any]) -> Any:
+        """What work makes of rows, from what is known if that has the same rows: most sequences have no correction."""
+        key = rows.digest(), what
+        if key not in self._known:
+            self._known[key] = work()
+        return self._known[key]
 
     def _read_blocks(self, name: str, rows: Rows) -> None:
         """All blocks of a sequence. They don't overlap, so their ends are in order too."""
@@ -94,6 +106,13 @@ class Rows:
 
     def __len__(self) -> int:
         return sum(piece.count(b"\n") for piece in self._pieces(self.begin, self._end))
+
+    def digest(self) -> bytes:
+        """A digest of their text."""
+        digest = hashlib.blake2b(digest_size=16)
+        for piece in self._pieces(self.begin, self._end):
+            digest.update(piece)
+        return digest.digest()
 
     def first(self, holds: Callable[[Interval], bool], begin: int = -1) -> int:
         """The place of the first row from which on something holds, if it holds from some row on."""

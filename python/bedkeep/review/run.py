@@ -18,7 +18,7 @@ from .cards import Card
 from .intervals import Windows, of_record
 from .overview import shown_lengths
 from .page import Contents
-from .printed import Side
+from .printed import Known, Side
 from .reviewer import Differs, Reviewer, windows_of
 from .shapes import Tails
 
@@ -59,8 +59,9 @@ def review(inputs: Inputs, distance: int, sums: Sequence[tuple[str, str]], copie
     windows = windows_of(findings, lengths, distance, pictured)
     shown = shown_lengths(lines, lengths)
     session = Printing(inputs.genome, inputs.bed.narrow, inputs.second.narrow if inputs.second else None, width=inputs.width)
+    known: Known = {}
     with session:
-        before, after = [_side(printed, windows, shown) for printed in _prints(inputs, session, lines, distance)]
+        before, after = [_side(printed, windows, shown, known) for printed in _prints(inputs, session, lines, distance)]
     second_before, second_after = _second(inputs, lines, windows)
     tails = [_tails(bed, side) for bed, side in ((inputs.bed, before), (inputs.second, second_before))]
     reviewer = Reviewer(before, second_before, lengths, distance, pictured, tails)
@@ -87,7 +88,7 @@ def _second(inputs: Inputs, lines: Sequence[Line], windows: Windows) -> tuple[Op
     own = [_of_track(line) for line in lines if line.is_second or line.command == "resize"]
     session = Printing(inputs.genome, inputs.second.narrow, width=inputs.second.option)
     with session:
-        before, after = [_side(printed, windows, {}) for printed in _prints(inputs, session, own, 0)]
+        before, after = [_side(printed, windows, {}, {}) for printed in _prints(inputs, session, own, 0)]
     return before, after
 
 
@@ -108,8 +109,8 @@ def _of_track(line: Line) -> Line:
     return own
 
 
-def _side(printed: Printed, windows: Windows, lengths: dict[str, int]) -> Side:
-    side = Side(windows)
+def _side(printed: Printed, windows: Windows, lengths: dict[str, int], known: Known) -> Side:
+    side = Side(windows, known)
     side.read(*printed, lengths)
     return side
 
