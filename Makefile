@@ -89,6 +89,7 @@ dist: build
 test:
 	python3 scripts/test/lint.py --try
 	python3 scripts/test/lint.py
+	python3 scripts/test/refused_rows.py
 	python3 scripts/test/words.py
 	python3 scripts/release/address.py --check
 	python3 scripts/prove/reached.py --check

@@ -4,12 +4,13 @@
 ghost use Rattle.std.specs.Prelude.{IfSome, ◌≡◌, ◌<◌};
 
 mod device;
+mod harness;
 mod words;
 
 pub use device::{Bad, Device, FAILURES};
+pub use harness::{refuse_each, refused};
 use std::alloc::{AllocError, Allocator};
 use std::cell::Cell;
-use std::test::Fail;
 pub use words::words_of;
 
 /// Passes every call on to the allocator inside it, but refuses one allocation, that of the given number.
@@ -36,6 +37,11 @@ impl<B> RefusesNth<B> {
             left: Cell::new(number),
             refused: Cell::new(0),
         }
+    }
+
+    /// Refuses no further allocation.
+    pub fn grant(&self) {
+        self.left.set(0);
     }
 
     /// Refuses one more allocation, that of the given number from here on, which counts from 1.
@@ -88,32 +94,4 @@ unsafe impl<B: Allocator> Allocator for RefusesNth<B> {
     unsafe fn deallocate(&self, ptr: *mut u8, size: usize, align: usize) {
         self.inner.deallocate(ptr, size, align);
     }
-}
-
-/// Makes a run with its first allocation refused, one with its second, and so on, until one meets no refusal. It answers the sum of what
-/// the runs give: how many of their calls were answered with out of memory. That is never more than allocations were refused in
-/// the run, so it is 0 in the last one.
-///
-/// # Errors
-///
-/// That of the first run that has one; and one if a run gives more than that, or if there is no end of allocations.
-pub fn refuse_each<B, F>(inner: B, run: F) -> Result<u32, Fail>
-where
-    B: Allocator + Copy,
-    F: Fn(&RefusesNth<B>) -> Result<u32, Fail>,
-    requires { F.IsAlwaysCallable run }
-{
-    let mut sum = 0u32;
-    for number in 1..10_000u64 {
-        let alloc = RefusesNth::new(inner, number);
-        let met = run(&alloc)?;
-        if u64::from(met) > alloc.refusals() {
-            return Err(Fail::new("more calls out of memory than growths were refused"));
-        }
-        sum = sum.saturating_add(met);
-        if !alloc.has_refused() {
-            return Ok(sum);
-        }
-    }
-    Err(Fail::new("no end of growths"))
 }

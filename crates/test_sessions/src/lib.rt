@@ -1,4 +1,4 @@
-//! Tests of the calls of a session: examples whose answers were worked out by hand, and allocations that are refused.
+//! Tests of the calls of a session: examples whose answers were worked out by hand.
 #![tactic(auto)]
 
 #[cfg(test)]
@@ -12,28 +12,12 @@ mod built;
 #[cfg(test)]
 mod fixtures;
 #[cfg(test)]
-mod kept_kinds;
-#[cfg(test)]
 mod lengths;
-#[cfg(test)]
-mod refusals;
-#[cfg(test)]
-mod refused_prints;
-#[cfg(test)]
-mod regular;
 #[cfg(test)]
 mod repairs;
 #[cfg(test)]
 mod second;
 #[cfg(test)]
-mod second_edits;
-#[cfg(test)]
 mod sessions;
 #[cfg(test)]
-mod stale_views;
-#[cfg(test)]
-mod state_refusals;
-#[cfg(test)]
 mod states;
-#[cfg(test)]
-mod two_stale;

@@ -1,33 +1,18 @@
-//! What is kept for views: built, repaired and printed in direct calls, in counted steps.
-ghost use Rattle.std.specs.Prelude.{◌≡◌, true, IfOk};
+//! What is kept for views: built and printed in direct calls, in counted steps.
+ghost use Rattle.std.specs.Prelude.{◌≡◌, IfOk};
 ghost use Rattle.iv_lines.specs.Named.{names_of};
-ghost use Rattle.iv_lines.specs.Ordered.{added as with_one};
-ghost use Rattle.iv_lines.specs.Read.{Fits};
-ghost use Rattle.iv_cover.specs.Kept.{IsRightWithout};
 ghost use Rattle.iv_view.specs.KeptStates.{built_for, state_key, IsRight};
 
 use crate::apart::SIZES;
 use crate::fixtures::{Files, alone, holds, in_session};
 use iv_bytes::MemSink;
 use iv_cover::Kept;
-use iv_lines::RecordRef;
 use iv_track::Meter;
 use iv_view::{KeptState, KeptView, View};
 use iv_workspace::Session;
-use std::alloc::{AllocError, Allocator, Global};
+use std::alloc::{AllocError, Allocator};
 use std::test::Fail;
-use test_faults::{RefusesNth, words_of};
-
-/// The memory of a session and of what is kept in it: the n-th allocation may be refused.
-pub(crate) type Refusing<'a> = &'a RefusesNth<Global>;
-
-/// How many steps a repair takes at most: that of blocks with one record each around the edit.
-fn most_steps<A: Allocator + Copy>(state: &KeptState<A>) -> u64 {
-    match state {
-        KeptState::Depth(_) => 8,
-        KeptState::Blocks(_) => 24,
-    }
-}
+use test_faults::words_of;
 
 /// A kept view.
 fn kept(view: View) -> Result<KeptView, Fail> {
@@ -38,13 +23,13 @@ fn kept(view: View) -> Result<KeptView, Fail> {
 }
 
 /// The kept view of these words.
-pub(crate) fn view_of(rt: &HostRuntime, words: &[u8]) -> Result<KeptView, Fail> {
+fn view_of(rt: &HostRuntime, words: &[u8]) -> Result<KeptView, Fail> {
     let words = words_of(rt.alloc(), words)?;
     kept(View::read(rt.alloc(), 3, false, false, words.as_slice())?)
 }
 
 /// What is kept for a view of a session's track.
-pub(crate) fn built<A: Allocator + Copy>(
+fn built<A: Allocator + Copy>(
     alloc: A,
     session: &Session<A>,
     view: KeptView,
@@ -63,7 +48,7 @@ pub(crate) fn built<A: Allocator + Copy>(
 }
 
 /// Whether a view is printed from what is kept for it as this text, in so many steps at most.
-pub(crate) fn prints<A: Allocator + Copy>(
+fn prints<A: Allocator + Copy>(
     rt: &HostRuntime,
     session: &Session<A>,
     view: KeptView,
@@ -84,86 +69,6 @@ pub(crate) fn prints<A: Allocator + Copy>(
         &mut sink,
     );
     Ok(done.is_ok() && sink.bytes() == want && meter.steps() <= most)
-}
-
-/// Repairs what is kept after a record was added, which takes few steps. Whether it was done; else an allocation failed.
-fn is_added<A: Allocator + Copy>(
-    session: &Session<A>,
-    state: &mut KeptState<A>,
-    feature: &RecordRef<'_>,
-) -> Result<bool, Fail>
-    requires right { IsRightWithout (λ s rows. IsRight s (names_of session.now.genome) rows) state.old session.now.track.records feature.now }
-    requires fits { Fits session.now.genome session.now.track.width feature.now }
-    ensures built { IfOk result (λ done. done ≡ true → built_for state.new ≡ built_for state.old) }
-    ensures right { IfOk result (λ done. done ≡ true → IsRight state.new (names_of session.now.genome) session.now.track.records) }
-{
-    let most = most_steps(state);
-    let mut meter = Meter::new();
-    let done = state.added(session.track(), session.genome(), feature, &mut meter);
-    if meter.steps() > most {
-        return Err(Fail::new("too many steps"));
-    }
-    Ok(done.is_ok())
-}
-
-/// Repairs what is kept after a record was taken out, which takes few steps. Whether it was done; else an allocation failed.
-fn is_removed<A: Allocator + Copy>(
-    session: &Session<A>,
-    state: &mut KeptState<A>,
-    feature: &RecordRef<'_>,
-) -> Result<bool, Fail>
-    requires right { IsRight state.old (names_of session.now.genome) (with_one session.now.track.records feature.now) }
-    requires fits { Fits session.now.genome session.now.track.width feature.now }
-    ensures built { IfOk result (λ done. done ≡ true → built_for state.new ≡ built_for state.old) }
-    ensures right { IfOk result (λ done. done ≡ true → IsRight state.new (names_of session.now.genome) session.now.track.records) }
-{
-    let most = most_steps(state);
-    let mut meter = Meter::new();
-    let done = state.removed(session.track(), session.genome(), feature, &mut meter);
-    if meter.steps() > most {
-        return Err(Fail::new("too many steps"));
-    }
-    Ok(done.is_ok())
-}
-
-/// Adds the record of a line to a session, and then to what is kept, with the n-th allocation refused from there on. Whether
-/// that was done.
-pub(crate) fn is_added_beside<'a>(
-    alloc: Refusing<'a>,
-    session: &mut Session<Refusing<'a>>,
-    state: &mut KeptState<Refusing<'a>>,
-    line: &[u8],
-    number: u64,
-) -> Result<bool, Fail>
-    requires right { IsRight state.old (names_of session.old.genome) session.old.track.records }
-    ensures built { IfOk result (λ done. done ≡ true → built_for state.new ≡ built_for state.old) }
-    ensures right { IfOk result (λ done. done ≡ true → IsRight state.new (names_of session.new.genome) session.new.track.records) }
-{
-    let feature = session.read(line)?;
-    session.add(&feature)?;
-    alloc.again(number.max(1));
-    is_added(session, state, &feature)
-}
-
-/// Takes the record of a line out of a session, and then out of what is kept, with the n-th allocation refused from there
-/// on. Whether that was done.
-pub(crate) fn is_removed_beside<'a>(
-    alloc: Refusing<'a>,
-    session: &mut Session<Refusing<'a>>,
-    state: &mut KeptState<Refusing<'a>>,
-    line: &[u8],
-    number: u64,
-) -> Result<bool, Fail>
-    requires right { IsRight state.old (names_of session.old.genome) session.old.track.records }
-    ensures built { IfOk result (λ done. done ≡ true → built_for state.new ≡ built_for state.old) }
-    ensures right { IfOk result (λ done. done ≡ true → IsRight state.new (names_of session.new.genome) session.new.track.records) }
-{
-    let feature = session.read(line)?;
-    // The order of the records is known once they are counted.
-    let _count = session.track().len();
-    session.remove(&feature)?;
-    alloc.again(number.max(1));
-    is_removed(session, state, &feature)
 }
 
 /// Puts the line of a record of this name at the end of a text. All have one interval.
