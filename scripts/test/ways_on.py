@@ -6,7 +6,7 @@ import sys
 from pathlib import Path
 
 TOP = Path(__file__).resolve().parent.parent.parent
-FILTER = re.compile(r"(?:(?<=: )|(?<=; )|(?<=  )|(?<=over )|(?<=\())((?:awk|sed|tr|cut|zcat|iconv)\b.*? (FILE|GENOME|FASTA))\b")
+FILTER = re.compile(r"(?:(?<=: )|(?<=; )|(?<=  )|(?<=over )|(?<=\())((?:awk|sed|tr|cut|zcat|bzcat|iconv)\b.*? (FILE|GENOME|FASTA))\b")
 OVER_ROWS = re.compile(r"((?:awk|sed) .*?) over the rows")
 HELP = re.compile(r"bedkeep( [a-z]+)? --help")
 PACKAGE = re.compile(r"python3 -m (bedkeep\S*(?: [a-z]+)?)")

@@ -15,7 +15,7 @@ use crate::kept_front::{KeptFront, KeptSource};
 use crate::seen_files::SeenFiles;
 use crate::watched::{Hints, Seen, Watch, WatchedInput, WatchedMessages, show};
 use iv_bytes::{ReadFault, Source, StdSink, StdSource, put_all};
-use iv_hints::{hint_of, hint_of_no_words, hint_of_session};
+use iv_hints::{hint_of, hint_of_no_words, hint_of_session, hint_of_wish};
 use iv_program::{Ended, InputFiles, report, run_program};
 use iv_run::ExitReason;
 use std::cell::RefCell;
@@ -75,13 +75,14 @@ impl InputFiles for StdFiles<'_> {
 }
 
 /// When hints are shown: as `BEDKEEP_HINTS` says, or if standard error is a terminal. Below each message they are if a program asks for
-/// them or the script is typed.
+/// them or the script is typed. A value that means nothing has a hint itself.
 fn hints_wanted(rt: &HostRuntime) -> Hints {
     if let Ok(wish) = env::var(rt, "BEDKEEP_HINTS") {
         match wish.as_bytes() {
             b"always" => return Hints::AtOnce,
             b"never" => return Hints::Never,
-            _ => {}
+            b"" => {}
+            wish => show(rt, hint_of_wish(rt.alloc(), wish)),
         }
     }
     if !rt.stderr().is_terminal() {

@@ -80,9 +80,12 @@ impl Watch<'_> {
         }
     }
 
-    /// Shows the hint on a refused line, or keeps it.
+    /// Shows the hint on a refused line, or keeps it if it is one of the first three of its kind.
     fn hint(&self, seen: &mut Seen, refusal: Refusal, line: &[u8]) {
         let is_below = self.hints == Hints::AtOnce;
+        if !is_below && !refusal.is_few {
+            return;
+        }
         let files = &mut SeenFiles {
             rt: self.rt,
             fronts: seen.fronts.as_slice(),

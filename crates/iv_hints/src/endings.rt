@@ -1,17 +1,19 @@
 //! The hint on how a run has ended.
-use crate::damage::Damage;
-use crate::hint::{Escaped, Hint, say};
+use crate::fields::grammar_of_file;
+use crate::hint::{Escaped, Hint};
+use crate::lines::Line;
 use crate::losses::put_loss;
-use crate::options::{is_comma, value_after};
 use crate::plan_files::{FRONT_BYTES, HintFiles, NoFile, PlanFiles};
-use crate::words::put_words;
+use crate::table::{Facts, Value, flag, put_on};
+use crate::vocabulary::FAULTS;
+use crate::words::{is_comma, put_words, value_after};
 use iv_args::{Plan, Slot};
 use iv_lines::{Fault, LoadCause, LoadFault, read_number};
 use iv_run::ExitReason;
 use std::alloc::{AllocError, Global};
 
-/// Which page says how larger data is cut.
-const IN_PARTS: &str = "larger data is cut into parts: examples/at_scale/README.md";
+/// How many columns of a quoted line are shown.
+const MOST_COLUMNS: usize = 60;
 
 /// The hint below the line of an ending, given the arguments after the program's name, the line of the script at which the run ended
 /// early (0 if at none), and the files, which are read again.
@@ -26,18 +28,16 @@ pub fn hint_of<F: HintFiles>(
     line: u64,
     files: &mut F,
 ) -> Result<Hint, AllocError> {
-    let mut hint = Hint::new(alloc, 0);
+    let mut hint = Hint::new(alloc, 0, 0);
+    let on = ending_name(exit_reason);
+    if !on.is_empty() {
+        let mut facts = Facts::new(alloc, on);
+        facts.add(&[(b"number", Value::Count(line as usize))])?;
+        facts.put(&mut hint)?;
+        return Ok(hint);
+    }
     match (exit_reason, Plan::read(alloc, words)) {
-        (ExitReason::Refused, _) => {}
         (ExitReason::Words(Fault::Words), _) => put_words(words, &mut hint)?,
-        (ExitReason::InputUnreadable, _) => {
-            say!(hint; "line {line} of the script: the input failed there")?;
-        }
-        (ExitReason::InputTooLong, _) => {
-            say!(hint; "line {line} of the script: a script has at most as many lines as -limit allows, 4000000 if it isn't given, of at most 1048576 bytes")?;
-        }
-        (ExitReason::Output, _) => put_output(line, &mut hint)?,
-        (ExitReason::Memory, _) => hint.put(IN_PARTS)?,
         (_, Ok(plan)) => {
             put_of_plan(
                 exit_reason,
@@ -50,17 +50,39 @@ pub fn hint_of<F: HintFiles>(
     Ok(hint)
 }
 
+/// How the table calls an ending about which nothing is to be looked at; empty for others.
+fn ending_name(exit_reason: ExitReason) -> &'static [u8] {
+    match exit_reason {
+        ExitReason::InputUnreadable => b"input",
+        ExitReason::InputTooLong => b"long_input",
+        ExitReason::Output => b"output",
+        ExitReason::Memory => b"memory",
+        ExitReason::TooLong(_) => b"too_long",
+        ExitReason::Damaged(slot, fault) if fault.cause == LoadCause::TooMany => match slot {
+            Slot::Sizes => b"many_sequences",
+            _ => b"many_records",
+        },
+        _ => b"",
+    }
+}
+
+/// A hint that is the same for each mistake of its kind, but for a name.
+fn hint_on(alloc: Global, on: &'static [u8], name: &[u8]) -> Result<Hint, AllocError> {
+    let mut hint = Hint::new(alloc, 0, 0);
+    let mut facts = Facts::new(alloc, on);
+    facts.add(&[(b"name", Value::Text(name))])?;
+    facts.put(&mut hint)?;
+    Ok(hint)
+}
+
 /// The hint if the system doesn't give the arguments.
 ///
 /// # Errors
 ///
 /// An allocation failed.
 pub fn hint_of_no_words(alloc: Global, exit_reason: ExitReason) -> Result<Hint, AllocError> {
-    let mut hint = Hint::new(alloc, 0);
-    if matches!(exit_reason, ExitReason::Words(_)) {
-        say!(hint; "a word of the command line isn't UTF-8 text: give the file another name")?;
-    }
-    Ok(hint)
+    let is_text = !matches!(exit_reason, ExitReason::Words(_));
+    hint_on(alloc, if is_text { b"" } else { b"no_words" }, b"")
 }
 
 /// The hint at the start of a session, for a person who types its script.
@@ -69,19 +91,17 @@ pub fn hint_of_no_words(alloc: Global, exit_reason: ExitReason) -> Result<Hint, 
 ///
 /// An allocation failed.
 pub fn hint_of_session(alloc: Global, words: &[&[u8]]) -> Result<Hint, AllocError> {
-    let mut hint = Hint::new(alloc, 0);
-    if Plan::read(alloc, words).is_ok_and(|plan| plan.is_script()) {
-        say!(hint; "a session reads its script here; python3 -m bedkeep.curate is made for typing (see bedkeep session --help)")?;
-    }
-    Ok(hint)
+    let is_script = Plan::read(alloc, words).is_ok_and(|plan| plan.is_script());
+    hint_on(alloc, if is_script { b"typed" } else { b"" }, b"")
 }
 
-/// Puts how far the output came.
-fn put_output(line: u64, hint: &mut Hint) -> Result<(), AllocError> {
-    if line > 0 {
-        say!(hint; "line {line} of the script: the lines before it were carried out")?;
-    }
-    say!(hint; "if the reader of a pipe has ended, as head does, it got all rows before; otherwise the disk may be full")
+/// The hint on a value of `BEDKEEP_HINTS` that means nothing.
+///
+/// # Errors
+///
+/// An allocation failed.
+pub fn hint_of_wish(alloc: Global, wish: &[u8]) -> Result<Hint, AllocError> {
+    hint_on(alloc, b"no_wish", wish)
 }
 
 /// Puts the hint of a run whose arguments ask for a plan.
@@ -92,124 +112,143 @@ fn put_of_plan<F: HintFiles>(
 ) -> Result<(), AllocError> {
     match exit_reason {
         ExitReason::Done => put_loss(files, hint),
-        ExitReason::Damaged(slot, fault) if fault.cause == LoadCause::TooMany => {
-            hint.put(match slot {
-                Slot::Sizes => "a genome file has at most 1000000 sequences",
-                _ =>
-                    "a BED file has more records than -limit allows, which is 4000000 if it isn't given: -limit N, up to 100000000",
-            })?;
-            hint.put(IN_PARTS)
-        }
         ExitReason::Damaged(slot, fault) => put_damage(slot, fault, files, hint),
         ExitReason::Unreadable(_) => {
             let name = exit_reason.file_meant(&files.plan);
-            put_unreadable(
-                name,
-                files.files.open(name).err(),
-                files.plan.is_script(),
-                hint,
-            )
+            put_unreadable(name, files, hint)
         }
-        ExitReason::TooLong(_) => {
-            say!(hint; "a file has at most 4294967295 bytes")?;
-            hint.put(IN_PARTS)
+        ExitReason::Words(fault) => {
+            let (width, has_record) = files.width(Slot::First)?;
+            let words = files.plan.view_arguments();
+            put_missing_column(words, fault.code(), width, !has_record, hint)
         }
-        ExitReason::Words(fault) => put_columns(fault, files, hint),
         _ => Ok(()),
     }
 }
 
-/// Puts which column is missing, of how many.
-fn put_columns<F: HintFiles>(
-    fault: Fault,
-    files: &mut PlanFiles<'_, '_, F>,
-    hint: &mut Hint,
-) -> Result<(), AllocError> {
-    let (width, has_record) = files.width(Slot::First)?;
-    put_missing_column(files.plan.view_arguments(), fault, width, hint)?;
-    if has_record {
-        return Ok(());
-    }
-    say!(hint; "the file has no record: -width 6 says that records of it would have six columns")
-}
-
-/// Puts which column the words of a view ask for, of records of this width.
+/// Puts which column the words of a view ask for, of records of this width, which no record shows if it is a guess.
 pub(crate) fn put_missing_column(
     words: &[&[u8]],
-    fault: Fault,
+    code: u8,
     width: usize,
+    is_guess: bool,
     hint: &mut Hint,
 ) -> Result<(), AllocError> {
-    if fault == Fault::NoStrand {
-        return say!(hint; "-s needs six columns, and the records have {width}: leave it out, or give records with a strand");
-    }
     let list = value_after(words, b"-c").unwrap_or(b"");
-    for item in list.split(is_comma) {
-        if read_number(item).is_none_or(|number| number == 0 || number as usize > width) {
-            return say!(hint; "-c {}: the records have columns 1 to {width}", Escaped(item));
-        }
-    }
-    Ok(())
+    let is_bad = |item: &&[u8]| {
+        read_number(item).is_none_or(|number| number == 0 || number as usize > width)
+    };
+    let mut facts = Facts::new(hint.alloc, fault_name(code));
+    facts.add(&[
+        (b"width", Value::Count(width)),
+        (
+            b"item",
+            Value::Text(list.split(is_comma).find(is_bad).unwrap_or(b"")),
+        ),
+        (b"no_record_shows_it", flag(is_guess)),
+    ])?;
+    facts.put(hint)
 }
 
-/// Puts what a damaged file looks like.
+/// How a fault with this number is called in docs/FORMAT.md.
+pub(crate) fn fault_name(code: u8) -> &'static [u8] {
+    FAULTS.get(code as usize).copied().unwrap_or(b"")
+}
+
+/// How a cause is called there.
+fn cause_name(cause: LoadCause) -> &'static [u8] {
+    match cause {
+        LoadCause::Columns => b"L1",
+        LoadCause::Name => b"L2",
+        LoadCause::Length => b"L3",
+        LoadCause::Repeated => b"L4",
+        LoadCause::BasesFirst => b"L5",
+        LoadCause::Base => b"L6",
+        LoadCause::WrongLength => b"L7",
+        LoadCause::Record(fault) => fault_name(fault.code()),
+        LoadCause::TooMany => b"L9",
+        LoadCause::Memory => b"L10",
+    }
+}
+
+/// How a file is called in the table.
+fn kind_of(slot: Slot) -> &'static [u8] {
+    match slot {
+        Slot::Sizes => b"genome",
+        Slot::First | Slot::Other => b"bed",
+        Slot::Bases => b"fasta",
+    }
+}
+
+/// Puts the damaged line, what it looks like and what to do.
 fn put_damage<F: HintFiles>(
     slot: Slot,
     fault: LoadFault,
     files: &mut PlanFiles<'_, '_, F>,
     hint: &mut Hint,
 ) -> Result<(), AllocError> {
-    let line = files.line(slot, fault.line)?;
+    let bytes = files.line(slot, fault.line)?;
     let front = files.front(slot, 65_536)?;
     let genome = files.front(Slot::Sizes, FRONT_BYTES)?;
-    let damage = Damage {
-        slot,
+    let grammar = grammar_of_file(cause_name(fault.cause));
+    let text = bytes.as_slice();
+    let line = Line {
+        on: kind_of(slot),
+        fault: cause_name(fault.cause),
+        text: text.strip_suffix(b"\r").unwrap_or(text),
+        grammar,
         name: files.name(slot),
-        fault,
-        line: line
-            .as_slice()
-            .strip_suffix(b"\r")
-            .unwrap_or(line.as_slice()),
         front: front.bytes.as_slice(),
         genome: genome.bytes.as_slice(),
     };
-    damage.put(hint)
+    if !line.text.is_empty() {
+        hint.set_place(fault.line, grammar.field());
+        let quoted = quoted_front(line.text);
+        let more = if quoted.len() < line.text.len() {
+            " .."
+        } else {
+            ""
+        };
+        hint.put(format_args!("{}{more}", Escaped(quoted)))?;
+    }
+    line.facts(hint.alloc)?.put(hint)
 }
 
-/// Puts why a file of this name can't be read, given why it isn't opened now.
-fn put_unreadable(
+/// As much of a line as is quoted.
+fn quoted_front(line: &[u8]) -> &[u8] {
+    let mut columns: usize = 0;
+    for (place, byte) in line.iter().enumerate() {
+        columns = columns.saturating_add(match *byte {
+            b' '..=b'~' => 1,
+            b'\t' | b'\r' => 2,
+            _ => 4,
+        });
+        if columns > MOST_COLUMNS {
+            return line.get(..place).unwrap_or(line);
+        }
+    }
+    line
+}
+
+/// Puts why a file of this name can't be read.
+fn put_unreadable<F: HintFiles>(
     name: &[u8],
-    why: Option<NoFile>,
-    is_script: bool,
+    files: &mut PlanFiles<'_, '_, F>,
     hint: &mut Hint,
 ) -> Result<(), AllocError> {
-    match why {
-        _ if matches!(name, b"-" | b"stdin") && is_script =>
-            say!(hint; "standard input is the script: <(..) of bash is a file too"),
-        _ if matches!(name, b"-" | b"stdin") =>
-            say!(hint; "standard input as a file is /dev/stdin"),
-        Some(NoFile::Missing) => put_missing(name, hint),
-        Some(NoFile::Directory) =>
-            say!(hint; "it is a directory, and no file: ls {} shows its files", Escaped(name)),
-        Some(NoFile::Forbidden) =>
-            say!(hint; "the system doesn't allow to read it: ls -l shows whose it is"),
-        _ => say!(hint; "the system failed to read it to its end"),
+    let mut names = Vec::new(hint.alloc);
+    for byte in name {
+        names.push(if is_comma(byte) { b' ' } else { *byte })?;
     }
-}
-
-/// Puts that there is no file of a name.
-fn put_missing(name: &[u8], hint: &mut Hint) -> Result<(), AllocError> {
-    if name.starts_with(b"~") {
-        say!(hint; "there is no such file: the shell knows ~, and not in quotes: write the folder, or $HOME")
-    } else if name.contains(&b',') {
-        let mut names = Vec::new(hint.alloc);
-        for byte in name {
-            names.push(if is_comma(byte) { b' ' } else { *byte })?;
-        }
-        say!(hint; "there is no such file; one file comes after an option: of several, <(cat {})", Escaped(names.as_slice()))
-    } else if name.is_empty() {
-        say!(hint; "the name is empty: is a variable of the shell not set?")
-    } else {
-        say!(hint; "there is no such file: ls shows those that there are")
-    }
+    let why = files.files.open(name).err();
+    let mut facts = Facts::new(hint.alloc, b"unreadable");
+    facts.add(&[
+        (b"name", Value::Text(name)),
+        (b"names", Value::Text(names.as_slice())),
+        (b"of_script", flag(files.plan.is_script())),
+        (b"is_missing", flag(why == Some(NoFile::Missing))),
+        (b"is_directory", flag(why == Some(NoFile::Directory))),
+        (b"is_forbidden", flag(why == Some(NoFile::Forbidden))),
+    ])?;
+    facts.put(hint)
 }

@@ -9,14 +9,7 @@ use std::fmt;
 const MOST_LINES: usize = 3;
 
 /// How many bytes of a value are shown.
-const MOST_VALUE_BYTES: usize = 40;
-
-/// Puts a text with values into a hint, as in `say!(hint; "{option} is given twice")`.
-macro_rules! say {
-    ($hint:expr; $($text:tt)+) => { $hint.put(format_args!($($text)+)) };
-}
-
-pub(crate) use say;
+const MOST_VALUE_BYTES: usize = 160;
 
 /// Bytes as a hint shows them: those that are no character of ASCII that is shown are escaped.
 #[derive(Clone, Copy)]
@@ -41,35 +34,27 @@ pub(crate) fn shown(value: &[u8]) -> Escaped<'_> {
     Escaped(value.get(..MOST_VALUE_BYTES).unwrap_or(value))
 }
 
-/// The same, or two quotes if it is empty.
-pub(crate) fn said(value: &[u8]) -> Escaped<'_> {
-    match value {
-        [] => Escaped(b"\"\""),
-        _ => shown(value),
-    }
-}
-
 /// Lines that are indented by two spaces, of ASCII's characters that are shown.
 #[derive(Drop)]
 pub struct Hint {
     pub(crate) alloc: Global,
     text: Vec<u8>,
     lines: usize,
-    /// The number of the line of a script that the first line names; 0 if it names none.
-    number: u64,
+    /// The number of the line and that of its field that the first line names; 0 if it names none.
+    place: (u64, usize),
     ghost few: { lines ≤ 3 },
     ghost ended: { feeds text.items ≡ lines },
     ghost shown: { AreShown text.items },
 }
 
 impl Hint {
-    /// A hint that says nothing yet. Its first line will name this line of a script, unless it is 0.
-    pub(crate) fn new(alloc: Global, number: u64) -> Hint {
+    /// A hint that says nothing yet. Its first line will name this line and this field of it, unless they are 0.
+    pub(crate) fn new(alloc: Global, line: u64, field: usize) -> Hint {
         Hint {
             alloc,
             text: Vec::new(alloc),
             lines: 0,
-            number,
+            place: (line, field),
         }
     }
 
@@ -81,31 +66,45 @@ impl Hint {
         self.text.as_slice()
     }
 
+    /// Its first line will name this line and this field of it.
+    pub(crate) fn set_place(&mut self, line: u64, field: usize) {
+        self.place = (line, field);
+    }
+
     /// Whether it says nothing.
     pub(crate) fn is_empty(&self) -> bool {
         self.lines == 0
     }
 
-    /// Adds the lines of a text that aren't empty, as long as there are fewer than three. Values in it are escaped.
+    /// Adds a line, as long as there are fewer than three. Values in it are escaped.
     pub(crate) fn put<D: fmt::Display + Drop>(&mut self, text: D) -> Result<(), AllocError> {
         let text = String::format(self.alloc, text)?;
-        for line in text.as_bytes().split(|byte| *byte == b'\n') {
-            if self.lines < MOST_LINES && !line.is_empty() {
-                self.put_line(line)?;
+        self.put_line(text.as_bytes())
+    }
+
+    /// Adds a line, as long as there are fewer than three.
+    pub(crate) fn put_line(&mut self, line: &[u8]) -> Result<(), AllocError> {
+        if self.lines < MOST_LINES {
+            self.put_shown(b"  ")?;
+            if self.lines == 0 {
+                self.put_place()?;
             }
+            self.put_shown(line)?;
+            self.end_line()?;
         }
         Ok(())
     }
 
-    /// Adds a line.
-    fn put_line(&mut self, line: &[u8]) -> Result<(), AllocError> {
-        self.put_shown(b"  ")?;
-        if self.lines == 0 && self.number > 0 {
-            let place = format!(in self.alloc; "line {}: ", self.number)?;
-            self.put_shown(place.as_bytes())?;
-        }
-        self.put_shown(line)?;
-        self.end_line()
+    /// Adds the front of the first line: its place.
+    fn put_place(&mut self) -> Result<(), AllocError> {
+        let (line, field) = self.place;
+        let text = match self.place {
+            (0, 0) => String::new(self.alloc),
+            (0, _) => format!(in self.alloc; "field {field}: ")?,
+            (_, 0) => format!(in self.alloc; "line {line}: ")?,
+            _ => format!(in self.alloc; "line {line}, field {field}: ")?,
+        };
+        self.put_shown(text.as_bytes())
     }
 
     /// Adds the bytes of a text that are shown.

@@ -1,10 +1,11 @@
 //! What a run that ended well has lost in silence.
-use crate::hint::{Escaped, Hint, say, shown};
-use crate::options::{is_comma, value_after};
-use crate::plan_files::{FRONT_BYTES, Front, HintFiles, PlanFiles};
+use crate::hint::Hint;
+use crate::plan_files::{FRONT_BYTES, Front, HintFiles, NoFile, PlanFiles};
 use crate::records::{alike_in, column, is_digits, is_record, length_in};
+use crate::table::{Facts, Value, flag, put_on};
+use crate::words::{is_comma, value_after};
 use iv_args::{Slot, Subcommand};
-use iv_lines::{lines_of, split_first_column};
+use iv_lines::{lines_of, read_number, split_first_column};
 use std::alloc::AllocError;
 
 /// How many lines of a file are looked at, and how many bytes at most.
@@ -15,14 +16,25 @@ const BYTES: u64 = 65_536;
 /// How many names are looked for in a FASTA file.
 const NAMES: usize = 20;
 
+/// The files of a run.
+const SLOTS: &[Slot] = &[Slot::Sizes, Slot::First, Slot::Other, Slot::Bases];
+
 /// Puts a loss of a run that ended well, if its files show one.
 pub(crate) fn put_loss<F: HintFiles>(
     files: &mut PlanFiles<'_, '_, F>,
     hint: &mut Hint,
 ) -> Result<(), AllocError> {
+    for slot in SLOTS {
+        if hint.is_empty() {
+            put_pipe(*slot, files, hint)?;
+        }
+    }
+    if !hint.is_empty() {
+        return Ok(());
+    }
     let genome = files.front(Slot::Sizes, BYTES)?;
     if is_bed(genome.bytes.as_slice()) {
-        return say!(hint; "all lengths of the genome file are 0; it looks like a BED file: cut -f1,3 GENOME makes a genome file of it");
+        return put_on(b"zero", hint);
     }
     let front = files.front(Slot::First, BYTES)?;
     let records = front.bytes.as_slice();
@@ -31,24 +43,52 @@ pub(crate) fn put_loss<F: HintFiles>(
         Subcommand::Getfasta => put_no_bases(records, files, hint)?,
         _ => {}
     }
-    put_headers(files.name(Slot::First), records, hint)
+    let is_header = |line: &&[u8]| {
+        matches!(*line, b"track" | b"browser")
+            || line.starts_with(b"track ")
+            || line.starts_with(b"browser ")
+    };
+    let mut facts = Facts::new(hint.alloc, b"headers");
+    facts.add(&[
+        (b"name", Value::Text(files.name(Slot::First))),
+        (
+            b"count",
+            Value::Count(lines_of(records).take(LINES).filter(is_header).count()),
+        ),
+    ])?;
+    facts.put(hint)
 }
 
-/// Whether a line of a BED file is for a browser.
-fn is_header(line: &[u8]) -> bool {
-    matches!(line, b"track" | b"browser")
-        || line.starts_with(b"track ")
-        || line.starts_with(b"browser ")
+/// Whether a name is that of standard input.
+fn is_input(name: &[u8]) -> bool {
+    matches!(name, b"/dev/stdin" | b"/dev/fd/0" | b"/proc/self/fd/0")
 }
 
-/// Puts how many lines for a browser no row has.
-fn put_headers(file: &[u8], records: &[u8], hint: &mut Hint) -> Result<(), AllocError> {
-    let lines = lines_of(records).take(LINES);
-    let count = lines.filter(|line| is_header(line)).count();
-    if count == 0 {
+/// Puts that a file is a pipe that was read before, or that had no byte.
+fn put_pipe<F: HintFiles>(
+    slot: Slot,
+    files: &mut PlanFiles<'_, '_, F>,
+    hint: &mut Hint,
+) -> Result<(), AllocError> {
+    let name = files.name(slot);
+    if name == b"/dev/null".as_slice() || files.files.open(name).err() != Some(NoFile::Other) {
         return Ok(());
     }
-    say!(hint; "track and browser lines are no records, and no row has them; lines of {} that are such: {count}", Escaped(file))
+    let mut count: usize = 0;
+    for other in SLOTS {
+        let second = files.name(*other);
+        if second == name || is_input(second) && is_input(name) {
+            count = count.saturating_add(1);
+        }
+    }
+    let mut facts = Facts::new(hint.alloc, b"pipe");
+    facts.add(&[
+        (b"name", Value::Text(name)),
+        (b"is_script", flag(files.plan.is_script() && is_input(name))),
+        (b"is_given_twice", flag(count > 1)),
+        (b"is_empty", flag(files.files.kept(name).is_empty())),
+    ])?;
+    facts.put(hint)
 }
 
 /// Whether the lines of a genome file have the length 0 and a number after it.
@@ -56,7 +96,7 @@ fn is_bed(genome: &[u8]) -> bool {
     let mut has_line = false;
     for line in lines_of(genome).take(LINES) {
         if is_record(line) {
-            let is_zero = column(line, 1).is_some_and(|length| length == b"0".as_slice());
+            let is_zero = column(line, 1).is_some_and(|length| read_number(length) == Some(0));
             if !is_zero || !column(line, 2).is_some_and(is_digits) {
                 return false;
             }
@@ -101,14 +141,6 @@ fn item(list: &[u8], place: usize) -> Option<&[u8]> {
     }
 }
 
-/// The place of a column that a word says.
-fn place_of(word: &[u8]) -> Option<usize> {
-    match word {
-        [digit @ b'1'..=b'6'] => Some((*digit - b'1') as usize),
-        _ => None,
-    }
-}
-
 /// Puts a value that a summary doesn't read, if most values are such.
 fn put_fraction(words: &[&[u8]], records: &[u8], hint: &mut Hint) -> Result<(), AllocError> {
     let columns = value_after(words, b"-c").unwrap_or(b"");
@@ -118,10 +150,17 @@ fn put_fraction(words: &[&[u8]], records: &[u8], hint: &mut Hint) -> Result<(), 
         else {
             return Ok(());
         };
-        let fraction = place_of(column).and_then(|place| fraction_in(records, place));
+        let place = read_number(column).and_then(|number| number.checked_sub(1));
+        let fraction = place.and_then(|place| fraction_in(records, place as usize));
         if let (Some((value, count)), b"sum" | b"min" | b"max") = (fraction, operation) {
-            say!(hint; "column {} has {}, which is no whole number", Escaped(column), shown(value))?;
-            return say!(hint; "{} reads whole numbers alone, and prints . for a block with another value; such values in the first 1000 lines: {count}", Escaped(operation));
+            let mut facts = Facts::new(hint.alloc, b"fraction");
+            facts.add(&[
+                (b"item", Value::Text(column)),
+                (b"value", Value::Text(value)),
+                (b"operation", Value::Text(operation)),
+                (b"count", Value::Count(count)),
+            ])?;
+            return facts.put(hint);
         }
     }
     Ok(())
@@ -166,17 +205,6 @@ fn missing_in<'a>(records: &'a [u8], fasta: &Front) -> Option<(&'a [u8], usize, 
     first.map(|name| (name, missing, all))
 }
 
-/// What makes the names of a FASTA file those of the records, given one of each.
-fn renaming_text(name: &[u8], header: &[u8]) -> &'static str {
-    if name.strip_prefix(b"chr") == Some(header) {
-        "sed 's/^>/>chr/' FASTA"
-    } else if header.strip_prefix(b"chr") == Some(name) {
-        "sed 's/^>chr/>/' FASTA"
-    } else {
-        "grep '^>' FASTA prints those of the FASTA file"
-    }
-}
-
 /// Puts that the FASTA file has no sequence of the records. Of a long file only the front is known: then its first name decides.
 fn put_no_bases<F: HintFiles>(
     records: &[u8],
@@ -191,11 +219,20 @@ fn put_no_bases<F: HintFiles>(
     let headers = lines_of(fasta.bytes.as_slice()).find_map(header_name);
     let header = headers.unwrap_or(b"none");
     let genome = genome.bytes.as_slice();
-    let is_other = length_in(genome, header).is_none() && alike_in(genome, header).is_some();
+    let is_other = length_in(genome, header).is_none() && !alike_in(genome, header).is_empty();
     if !fasta.is_whole && !is_other {
         return Ok(());
     }
-    say!(hint; "the FASTA file has no {} (its first sequence is {}), and getfasta prints nothing for it", Escaped(name), Escaped(header))?;
-    say!(hint; "names have to be the same: {}", renaming_text(name, header))?;
-    say!(hint; "records without a row: {missing} of the first {all}")
+    let lacks_it = name.strip_prefix(b"chr") == Some(header);
+    let has_it = header.strip_prefix(b"chr") == Some(name);
+    let mut facts = Facts::new(hint.alloc, b"no_bases");
+    facts.add(&[(b"name", Value::Text(name))])?;
+    facts.add(&[(b"header", Value::Text(header))])?;
+    facts.add(&[
+        (b"lacks_it", flag(lacks_it)),
+        (b"has_it", flag(has_it)),
+        (b"missing", Value::Count(missing)),
+        (b"count", Value::Count(all)),
+    ])?;
+    facts.put(hint)
 }

@@ -5,12 +5,12 @@ use strsim::generic_levenshtein;
 /// How many bytes a word has at most for which a near one is looked for.
 const MOST_BYTES: usize = 40;
 
-/// The nearest word so far to one that is not known, if it is at most two letters away.
-#[derive(Drop)]
+/// The nearest word so far to one that is not known, if it is at most two letters away; empty if there is none.
+#[derive(Clone, Copy)]
 pub(crate) struct Nearest<'a> {
     word: &'a [u8],
     distance: usize,
-    found: Option<&'static [u8]>,
+    pub(crate) found: &'static [u8],
 }
 
 /// A word without the dashes that it begins with.
@@ -27,7 +27,7 @@ impl<'a> Nearest<'a> {
         Nearest {
             word,
             distance: 3,
-            found: None,
+            found: b"",
         }
     }
 
@@ -49,13 +49,8 @@ impl<'a> Nearest<'a> {
         // Of a short word at most half of the letters may be others.
         if distance < self.distance && distance <= letters.len() / 2 {
             self.distance = distance;
-            self.found = Some(known);
+            self.found = known;
         }
         Ok(())
-    }
-
-    /// The nearest of the words that were looked at.
-    pub(crate) fn found(&self) -> Option<&'static [u8]> {
-        self.found
     }
 }

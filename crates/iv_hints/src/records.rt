@@ -1,5 +1,8 @@
 //! Columns of lines, and what a genome file says of a name.
-use iv_lines::{lines_of, split_first_column};
+use iv_lines::{lines_of, read_number, split_first_column};
+
+/// What some editors put at the front of a file.
+pub(crate) const BYTE_ORDER_MARK: &[u8] = b"\xef\xbb\xbf";
 
 /// The column of a line with this number, counted from 0.
 pub(crate) fn column(line: &[u8], number: usize) -> Option<&[u8]> {
@@ -19,11 +22,6 @@ pub(crate) fn count_columns(line: &[u8]) -> usize {
 /// How often a text has a byte.
 pub(crate) fn count_of(text: &[u8], byte: u8) -> usize {
     text.iter().filter(|other| **other == byte).count()
-}
-
-/// Whether a column of a line is a number.
-pub(crate) fn is_number(line: &[u8], number: usize) -> bool {
-    column(line, number).is_some_and(is_digits)
 }
 
 /// Whether a text is digits.
@@ -55,15 +53,41 @@ pub(crate) fn has_name(genome: &[u8], name: &[u8]) -> bool {
     !name.is_empty() && length_in(genome, name).is_some()
 }
 
-/// A name of a genome file that differs from this one by `chr` at the front alone, or by capitals.
-pub(crate) fn alike_in<'a>(genome: &'a [u8], name: &[u8]) -> Option<&'a [u8]> {
-    let line = lines_of(genome).find(|line| are_alike(split_first_column(line).0, name))?;
-    Some(field(line, 0))
+/// Whether a genome file has a sequence of this name that is so long.
+pub(crate) fn reaches(genome: &[u8], name: &[u8], end: &[u8]) -> bool {
+    match length_in(genome, name) {
+        Some(length) => read_number(length) >= read_number(end),
+        None => false,
+    }
 }
 
-/// Whether two names differ by `chr` at the front alone, or by capitals.
+/// A name of a genome file that is probably meant by this one; nothing if there is none.
+pub(crate) fn alike_in<'a>(genome: &'a [u8], name: &[u8]) -> &'a [u8] {
+    match lines_of(genome).find(|line| are_alike(split_first_column(line).0, name)) {
+        Some(line) => field(line, 0),
+        None => b"",
+    }
+}
+
+/// Whether two names differ by `chr` at the front alone or by capitals, or both are of the mitochondrion.
 fn are_alike(one: &[u8], other: &[u8]) -> bool {
-    one.strip_prefix(b"chr").is_some_and(|rest| rest == other)
-        || other.strip_prefix(b"chr").is_some_and(|rest| rest == one)
-        || one.eq_ignore_ascii_case(other)
+    !one.is_empty() && bare(one).eq_ignore_ascii_case(bare(other))
+}
+
+/// What follows `chr` in a name; `M` for `MT`.
+fn bare(name: &[u8]) -> &[u8] {
+    let rest = after_chr(name).1;
+    if rest.eq_ignore_ascii_case(b"MT") {
+        b"M"
+    } else {
+        rest
+    }
+}
+
+/// The `chr` in front of a name, in whichever letters, and what follows it.
+pub(crate) fn after_chr(name: &[u8]) -> (&[u8], &[u8]) {
+    match name {
+        [b'c' | b'C', b'h' | b'H', b'r' | b'R', rest @ ..] => (name.get(..3).unwrap_or(b""), rest),
+        _ => (b"", name),
+    }
 }
