@@ -119,7 +119,7 @@ class Apply(Case):
         damaged = self.file("damaged.bed", "chr1\t1\t2\nchr1\t2\t1\n")
         outcome = self.apply(damaged, self.file("corrections", ""))
         self.assertEqual(outcome.status, 2)
-        self.assertRegex(outcome.err, f"^{damaged}: line 2: start not below end \\(status 3\\)\n  line 2: .*\n  the start has to be below the end")
+        self.assertRegex(outcome.err, f"^{damaged}: line 2: start not below end \\(status 3\\)\n  line 2, field 2: .*\n  the start has to be below the end")
         self.assertEqual(self.apply(self.folder / "missing", self.file("corrections", "")).status, 2)
         self.assertEqual(self.apply(self.genes, self.folder / "missing").status, 2)
         self.assertEqual(self.corrected.read_text(), "as before\n")
