@@ -244,7 +244,7 @@ def shortened(kind, name, text):
     text = re.sub(r" ?#\[[^]]*\]|\bpub(?:\([^)]*\))? |<'\w+>", "", text)
     if kind == "trait":
         return re.sub(r"\n\n+", "\n", text)
-    inside = " ".join(text[text.index("{") + 1:text.rindex("}")].split()).rstrip(",") if "{" in text else ""
+    inside = " ".join(text[text.index("{") + 1:text.rindex("}")].split()).rstrip(",") if "{" in text and "}" in text else ""
     line = f"{kind} {name} {{ {inside} }}" if inside else f"{kind} {name}"
     if len(line) <= WIDTH:
         return line
