@@ -1,5 +1,5 @@
 //! Blocks and depth, each built of the records of a session by one call.
-use crate::fixtures::{alone, holds, in_session};
+use crate::fixtures::{alone, holds_of, session_of};
 use iv_blocks::{BlockOptions, Blocks};
 use iv_bytes::MemSink;
 use iv_cover::Kept;
@@ -27,17 +27,6 @@ fn are_blocks(
     Ok(sink.bytes() == want)
 }
 
-/// Builds the blocks of two distances.
-fn check_blocks(rt: &HostRuntime, session: &Session) -> Result<(), Fail> {
-    holds(are_blocks(rt, session, 9, b"chr1\t10\t30\nchr1\t40\t50\n")?)?;
-    holds(are_blocks(rt, session, 10, b"chr1\t10\t50\n")?)
-}
-
-#[test]
-fn blocks_of_records(rt: HostRuntime) -> Result<(), Fail> {
-    in_session(&rt, alone(RECORDS, 9), |session| check_blocks(&rt, session))
-}
-
 /// Whether the depth has these rows.
 fn is_depth(rt: &HostRuntime, session: &Session, want: &[u8]) -> Result<bool, Fail> {
     let (track, genome) = (session.track(), session.genome());
@@ -48,10 +37,18 @@ fn is_depth(rt: &HostRuntime, session: &Session, want: &[u8]) -> Result<bool, Fa
     Ok(sink.bytes() == want)
 }
 
+/// Whether blocks and depth of those records are so.
+fn are_built(rt: &HostRuntime, session: &Session) -> Result<bool, Fail> {
+    let depth = b"chr1\t10\t15\t1\nchr1\t15\t20\t2\nchr1\t20\t30\t1\nchr1\t40\t50\t1\n";
+    Ok(
+        are_blocks(rt, session, 9, b"chr1\t10\t30\nchr1\t40\t50\n")?
+            && are_blocks(rt, session, 10, b"chr1\t10\t50\n")?
+            && is_depth(rt, session, depth)?,
+    )
+}
+
 #[test]
-fn depth_of_records(rt: HostRuntime) -> Result<(), Fail> {
-    let want = b"chr1\t10\t15\t1\nchr1\t15\t20\t2\nchr1\t20\t30\t1\nchr1\t40\t50\t1\n";
-    in_session(&rt, alone(RECORDS, 9), |session| {
-        holds(is_depth(&rt, session, want)?)
-    })
+fn blocks_and_depth(rt: HostRuntime) -> Result<(), Fail> {
+    let session = session_of(&rt, &alone(RECORDS, 9))?;
+    holds_of(are_built(&rt, &session))
 }
