@@ -72,7 +72,7 @@ chr2 8 9 own 0 + 8 9 0,0,9 1 1 0""".split("\n")))
         self.assertEqual((outcome.status, outcome.err), (2, f"{self.bed}: line 5: wrong number of columns\n"))
         outcome = self.desk("apply", f"{BED12}\nchr1 9 2 x 0 + 1 2 0 1 1 0", "")
         self.assertEqual(outcome.status, 2)
-        self.assertRegex(outcome.err, f"^{self.bed}: line 5: start not below end \\(status 3\\)\n  line 5: ")
+        self.assertRegex(outcome.err, f"^{self.bed}: line 5: start not below end \\(status 3\\)\n  line 5, field 2: ")
 
 class Diffs(Wide):
     def test_tails_are_compared_too(self):
