@@ -1,12 +1,6 @@
-//! Tests of runs: their arguments, their files, and what each subcommand prints.
+//! Tests of runs: files that come in pieces, memory that runs out and outputs that fail. Answers of calls are in `test_calls`.
 #![tactic(auto)]
 
-#[cfg(test)]
-mod endings;
-#[cfg(test)]
-mod limits;
-#[cfg(test)]
-mod pairs;
 #[cfg(test)]
 mod patterns;
 #[cfg(test)]
@@ -14,19 +8,13 @@ mod piece_faults;
 #[cfg(test)]
 mod piece_fixtures;
 #[cfg(test)]
-mod piece_lengths;
-#[cfg(test)]
 mod piece_refusals;
-#[cfg(test)]
-mod piece_runs;
 #[cfg(test)]
 mod read_refusals;
 #[cfg(test)]
 mod run_reading;
 #[cfg(test)]
 mod run_refusals;
-#[cfg(test)]
-mod runs;
 #[cfg(test)]
 mod session_pieces;
 #[cfg(test)]
@@ -35,9 +23,3 @@ mod shot_fixtures;
 mod shot_outputs;
 #[cfg(test)]
 mod shot_refusals;
-#[cfg(test)]
-mod shots;
-#[cfg(test)]
-mod words_sessions;
-#[cfg(test)]
-mod words_subcommands;

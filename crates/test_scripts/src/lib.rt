@@ -1,10 +1,8 @@
-//! Tests of scripts: in pieces, at their limits, and with memory and devices that fail. Examples of what scripts print are in `tests/`.
+//! Tests of scripts: in pieces, at their limits, and with memory and devices that fail. Examples are in `tests/`, refused lines in `test_calls`.
 #![tactic(auto)]
 
 #[cfg(test)]
 mod bases;
-#[cfg(test)]
-mod damaged;
 #[cfg(test)]
 mod devices;
 #[cfg(test)]
@@ -14,11 +12,7 @@ mod failing;
 #[cfg(test)]
 mod fixtures;
 #[cfg(test)]
-mod many_views;
-#[cfg(test)]
 mod refusals;
-#[cfg(test)]
-mod refused_lines;
 #[cfg(test)]
 mod rooms;
 #[cfg(test)]
@@ -27,5 +21,3 @@ mod scripts;
 mod second;
 #[cfg(test)]
 mod stops;
-#[cfg(test)]
-mod views;
