@@ -17,10 +17,9 @@ from .corrections import Line
 from .errors import Refused
 from .formats import fields, follow
 from .records import NAMELESS, Record, distance, name_of, overlap
-from .session import Session
+from .session import UNDONE, Session
 
 DIFFERS = "there with other columns"
-APART = "not done, since"  # how the refusal of a line begins of whose group another one is refused
 MOST = 64  # records of one name that a batch touches
 
 
@@ -93,10 +92,10 @@ class Carrier:
 
     def _judge_by_group(self, line: Line) -> None:
         """Refuses a line of whose group another one is refused."""
-        refused = [one for one in (line.group.lines if line.group else ()) if one.refusal and not one.refusal.startswith(APART)]
+        refused = [one for one in (line.group.lines if line.group else ()) if one.refusal and not one.refusal.startswith(UNDONE)]
         if refused and line not in refused and not line.there:
             file = "" if refused[0].file == line.file else f" of {refused[0].file}"
-            line.refuse(f"{APART} line {refused[0].place}{file} is refused")
+            line.refuse(f"{UNDONE} {refused[0].place}{file} is refused")
 
 
 def with_reasons(lines: Sequence[Line]) -> tuple[list[str], dict[int, Line]]:

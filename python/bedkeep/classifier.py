@@ -11,13 +11,14 @@ from collections import defaultdict, deque
 from itertools import groupby
 from typing import Any, Callable, Collection, Iterator, Mapping, Optional, Sequence
 
-from .carry import APART, DIFFERS
+from .carry import DIFFERS
 from .classes import BAD, CHANGED, CONFLICT, DOABLE, FITS, FOLLOWS, GONE, IGNORED, MOVED, SO, TAKEN, THERE, Finding
 from .corrections import ABSENT, Line
 from .formats import default_tail, follow, worse
 from .memory import Memory
 from .records import NAMELESS, WIDEST, Record, differing, distance, name_of, strand_of
 from .rows import RECORD
+from .session import UNDONE
 from .three_way import Version, merge
 from .tracks import Track
 
@@ -53,7 +54,7 @@ class Classifier:
             return findings
         for side, mark in zip(self._sides, marks):
             side.back_to(mark, [line for line in lines if line.is_second == (side is self._second)])
-        note = f"not done, since line {wrong.line.place} isn't"
+        note = f"{UNDONE} {wrong.line.place} isn't"
         return [Finding(finding.line, CONFLICT, finding.found, by=wrong.line, note=note)
                 if finding.kind in (FITS, IGNORED, CHANGED, MOVED, FOLLOWS) else finding for finding in findings]
 
@@ -98,7 +99,7 @@ class Side:
             return Finding(line, FITS)
         if line.old:
             self._next[line.old].popleft()
-        if not line.is_edit or line.refusal and line.refusal not in (ABSENT, DIFFERS) and not line.refusal.startswith(APART):
+        if not line.is_edit or line.refusal and line.refusal not in (ABSENT, DIFFERS) and not line.refusal.startswith(UNDONE):
             return Finding(line, BAD, note=line.message)
         finding = self._find(line)
         self._carry_out(finding)

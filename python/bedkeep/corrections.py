@@ -202,6 +202,16 @@ def is_marker(text: str) -> bool:
     return bool(MARKER.match(text))
 
 
+def is_reason(text: str) -> bool:
+    """Whether a line of a script is a comment on those below it."""
+    return text.startswith("#") and not is_marker(text)
+
+
+def is_together(text: str) -> bool:
+    """Whether it is the comment below which the lines of a paragraph are done whole or not at all."""
+    return text.startswith("#") and text[1:].strip().startswith(TOGETHER)
+
+
 def _is_record(columns: Sequence[str]) -> bool:
     if len(columns) < NARROWEST:
         return False
@@ -250,13 +260,12 @@ def read_text(text: str, file: str = "-", before: int = 0) -> list[Line]:
     texts = text.split("\n")
     for place, row in enumerate(texts if texts[-1] else texts[:-1], 1):
         row = row[:-1] if row.endswith("\r") else row
-        is_reason = row.startswith("#") and not is_marker(row)
-        if is_reason:
+        if is_reason(row):
             heading = [*heading, row] if begun else [row]
-            group = Group() if row[1:].strip().startswith(TOGETHER) else group if begun else None
+            group = Group() if is_together(row) else group if begun else None
         elif not row:
             heading, group = [], None
-        begun = is_reason
+        begun = is_reason(row)
         is_line = not row.startswith("#")
         lines.append(Line(before + place, file, place, row, heading if is_line else (), group if is_line else None))
     return lines

@@ -7,7 +7,7 @@ from contextlib import suppress
 from typing import Callable, Iterable, Iterator, Optional, Sequence
 
 from .carry import Carrier
-from .corrections import ABSENT, EDITS, TOGETHER, Line
+from .corrections import ABSENT, EDITS, Line, is_together
 from .errors import Error, Refused
 from .journal import Journal
 from .looks import VIEWS, Looks, options_and_rest
@@ -134,7 +134,7 @@ class Curator:
         rest = line[len(command):].strip()
         if line.startswith("#"):
             self._comments = [*self._comments, line]
-            if line[1:].strip().startswith(TOGETHER):
+            if is_together(line):
                 self._together = []
                 if self._ask:
                     print("the lines down to an empty one are done together")

@@ -11,7 +11,7 @@ from itertools import islice
 from typing import Collection, Iterable, Iterator, Optional, Sequence, SupportsIndex, Union
 
 from .changes import Changes
-from .corrections import TOGETHER, is_marker
+from .corrections import is_marker, is_reason, is_together
 from .interrupts import Interrupts
 from .records import record_of
 
@@ -74,16 +74,6 @@ def _refuse_other_types(lines: object) -> None:
 def is_edit(line: str) -> bool:
     """Whether a line of a script is no comment and not empty."""
     return bool(line) and not line.startswith("#")
-
-
-def is_reason(line: str) -> bool:
-    """Whether a line of a script is a comment on those below it."""
-    return line.startswith("#") and not is_marker(line)
-
-
-def is_together(line: str) -> bool:
-    """Whether it is the comment below which the lines of a paragraph are done whole or not at all."""
-    return line.startswith("#") and line[1:].strip().startswith(TOGETHER)
 
 
 def paragraphs(lines: Sequence[str]) -> Iterator[range]:

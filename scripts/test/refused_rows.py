@@ -141,7 +141,10 @@ def main():
     useless = [name for name in [*WITHOUT, *ELSEWHERE] if name not in names or name in found]
     for name in useless:
         print(f"{Path(__file__).name}: {name} has a row, or is no call that allocates: take it out of the lists")
-    return 1 if missing or useless or not calls else 0
+    if missing or useless or not calls:
+        return 1
+    print(f"refused rows: each of {len(calls)} public calls that allocate has a row, or a reason for none")
+    return 0
 
 
 if __name__ == "__main__":
