@@ -174,7 +174,7 @@ The words of Rattle's standard library that definitions use, where each has a de
 
 {contract}
 
-This is about any files, input, output and messages; `F.state`, `R.state`, `W.state` and `E.state` are what is known of them ([The devices](#the-devices)). `arguments` are those after the program's name, and `result` is how the run ended: its `exit_reason` decides the exit status, which is that of its `report_of` ([`iv_run/specs/ExitReasons.antt`](../crates/iv_run/specs/ExitReasons.antt)).
+This is about any files, input, output and messages; `F.state`, `R.state`, `W.state` and `E.state` are what is known of them ([The devices](#the-devices)). The `observer` sees each refused line, and nothing depends on it. `arguments` are those after the program's name, and `result` is how the run ended: its `exit_reason` decides the exit status, which is that of its `report_of` ([`iv_run/specs/ExitReasons.antt`](../crates/iv_run/specs/ExitReasons.antt)).
 
 {ended}
 """

@@ -143,7 +143,7 @@ No file is changed. The corrected track comes out by records, as in the example.
 Standard input is the script, so no file can be /dev/stdin; <(..) of bash is
 one.
 
-python3 -m bedkeep.curate GENOME BED is a prompt for corrections by hand.
+python3 -m bedkeep curate GENOME BED is a prompt for corrections by hand.
 
 Different from bedtools: bedtools has no sessions. The help of each subcommand
 says what else differs.

@@ -9,15 +9,15 @@ use std::fmt;
 const MOST_LINES: usize = 3;
 
 /// How many bytes of a value are shown.
-const MOST_VALUE_BYTES: usize = 160;
+const MOST_VALUE_BYTES: usize = 120;
 
-/// Bytes as a hint shows them: those that are no character of ASCII that is shown are escaped.
+/// The front of a value, as a hint shows it: bytes that are no character of ASCII that is shown are escaped.
 #[derive(Clone, Copy)]
 pub(crate) struct Escaped<'a>(pub(crate) &'a [u8]);
 
 impl fmt::Display for Escaped<'_> {
     fn fmt<W: fmt::Write>(&self, f: &mut fmt::Formatter<W>) -> fmt::Result {
-        for byte in self.0 {
+        for byte in self.0.iter().take(MOST_VALUE_BYTES) {
             match *byte {
                 b' '..=b'~' => f.write_char(*byte as char)?,
                 b'\t' => f.write_str("\\t")?,
@@ -25,13 +25,12 @@ impl fmt::Display for Escaped<'_> {
                 other => write!(f, "\\x{other:02x}")?,
             }
         }
-        Ok(())
+        f.write_str(if self.0.len() > MOST_VALUE_BYTES {
+            " .."
+        } else {
+            ""
+        })
     }
-}
-
-/// As much of a value as is shown.
-pub(crate) fn shown(value: &[u8]) -> Escaped<'_> {
-    Escaped(value.get(..MOST_VALUE_BYTES).unwrap_or(value))
 }
 
 /// Lines that are indented by two spaces, of ASCII's characters that are shown.
@@ -40,21 +39,21 @@ pub struct Hint {
     pub(crate) alloc: Global,
     text: Vec<u8>,
     lines: usize,
-    /// The number of the line and that of its field that the first line names; 0 if it names none.
-    place: (u64, usize),
+    /// The number of the line and that of its field that the first line names, unless they are 0.
+    pub(crate) place: (u64, usize),
     ghost few: { lines ≤ 3 },
     ghost ended: { feeds text.items ≡ lines },
     ghost shown: { AreShown text.items },
 }
 
 impl Hint {
-    /// A hint that says nothing yet. Its first line will name this line and this field of it, unless they are 0.
-    pub(crate) fn new(alloc: Global, line: u64, field: usize) -> Hint {
+    /// A hint that says nothing yet.
+    pub(crate) fn new(alloc: Global) -> Hint {
         Hint {
             alloc,
             text: Vec::new(alloc),
             lines: 0,
-            place: (line, field),
+            place: (0, 0),
         }
     }
 
@@ -66,20 +65,9 @@ impl Hint {
         self.text.as_slice()
     }
 
-    /// Its first line will name this line and this field of it.
-    pub(crate) fn set_place(&mut self, line: u64, field: usize) {
-        self.place = (line, field);
-    }
-
     /// Whether it says nothing.
     pub(crate) fn is_empty(&self) -> bool {
         self.lines == 0
-    }
-
-    /// Adds a line, as long as there are fewer than three. Values in it are escaped.
-    pub(crate) fn put<D: fmt::Display + Drop>(&mut self, text: D) -> Result<(), AllocError> {
-        let text = String::format(self.alloc, text)?;
-        self.put_line(text.as_bytes())
     }
 
     /// Adds a line, as long as there are fewer than three.

@@ -5,14 +5,6 @@ use strsim::generic_levenshtein;
 /// How many bytes a word has at most for which a near one is looked for.
 const MOST_BYTES: usize = 40;
 
-/// The nearest word so far to one that is not known, if it is at most two letters away; empty if there is none.
-#[derive(Clone, Copy)]
-pub(crate) struct Nearest<'a> {
-    word: &'a [u8],
-    distance: usize,
-    pub(crate) found: &'static [u8],
-}
-
 /// A word without the dashes that it begins with.
 fn letters_of(word: &[u8]) -> &[u8] {
     match word {
@@ -21,36 +13,34 @@ fn letters_of(word: &[u8]) -> &[u8] {
     }
 }
 
-impl<'a> Nearest<'a> {
-    /// None so far.
-    pub(crate) fn to(word: &'a [u8]) -> Nearest<'a> {
-        Nearest {
-            word,
-            distance: 3,
-            found: b"",
-        }
+/// How many letters of two words are others. It is 3 or more if half of a short word are.
+fn distance(alloc: Global, word: &[u8], known: &[u8]) -> Result<usize, AllocError> {
+    let (letters, wanted) = (letters_of(word), letters_of(known));
+    if letters.eq_ignore_ascii_case(wanted) {
+        return Ok(if word == known { 3 } else { 0 });
     }
+    let distance = generic_levenshtein(alloc, letters, wanted)?;
+    Ok(if distance > wanted.len() / 2 {
+        3
+    } else {
+        distance
+    })
+}
 
-    /// Looks at one more known word.
-    pub(crate) fn look_at(
-        &mut self,
-        alloc: Global,
-        known: &'static [u8],
-    ) -> Result<(), AllocError> {
-        if self.word.len() > MOST_BYTES || self.word == known {
-            return Ok(());
+/// The word of a list that is nearest to one that isn't of it, if it is at most two letters away; else empty.
+pub(crate) fn near_in(
+    alloc: Global,
+    list: &[&'static [u8]],
+    word: &[u8],
+) -> Result<&'static [u8], AllocError> {
+    let mut least: usize = 3;
+    let mut found: &'static [u8] = b"";
+    for known in list.iter().filter(|_| word.len() <= MOST_BYTES) {
+        let distance = distance(alloc, word, known)?;
+        if distance < least {
+            least = distance;
+            found = known;
         }
-        let (word, letters) = (letters_of(self.word), letters_of(known));
-        let distance = if word.eq_ignore_ascii_case(letters) {
-            0
-        } else {
-            generic_levenshtein(alloc, word, letters)?
-        };
-        // Of a short word at most half of the letters may be others.
-        if distance < self.distance && distance <= letters.len() / 2 {
-            self.distance = distance;
-            self.found = known;
-        }
-        Ok(())
     }
+    Ok(found)
 }

@@ -1,120 +1,128 @@
-//! The hint on a refused line of a script.
-use crate::endings::{fault_name, put_missing_column};
-use crate::fields::{Grammar, grammar_of_line, has_two};
-use crate::hint::{Hint, shown};
-use crate::lines::Line;
-use crate::nearest::Nearest;
-use crate::plan_files::{HintFiles, PlanFiles};
-use crate::records::field;
-use crate::script::Refusal;
-use crate::table::is_between;
-use crate::vocabulary::COMMANDS;
-use crate::words::put_view;
-use iv_args::{Plan, Slot};
+//! The hint on a refused line of a script, and what is known of a line with a fault.
+use crate::facts::{Facts, flag, is_between};
+use crate::field::{column_of, fields_before, place_of};
+use crate::files::RunFiles;
+use crate::hint::Hint;
+use crate::nearest::near_in;
+use crate::text::{after_columns, field, first_word, is_record};
+use crate::vocabulary::{COLUMNS, COMMANDS, FAULTS};
+use crate::words::{put_words, value_after};
+use iv_args::Slot;
+use iv_lines::{Fault, lines_of};
 use std::alloc::{AllocError, Global};
 
-/// How many bytes of the front of a file are looked at for a refused line.
-const BYTES: u64 = 1_048_576;
-
-/// The hint on a refused line of the script of a session, given the arguments after the program's name. If it is not shown below the
-/// message, it names the line. If the fault is about one field, it names that; of a refusal that is one too many of its kind it has the
-/// value of the field alone.
-///
-/// # Errors
-///
-/// An allocation failed.
-pub fn hint_of_refusal<F: HintFiles>(
-    alloc: Global,
-    words: &[&[u8]],
-    refusal: Refusal,
-    line: &[u8],
-    files: &mut F,
-    is_below: bool,
-) -> Result<Hint, AllocError> {
-    let mut hint = Hint::new(alloc, 0, 0);
-    let number = if is_below { 0 } else { refusal.number };
-    let fault = fault_name(refusal.code);
-    if !refusal.is_few && !(has_two(line) && matches!(fault, b"E3" | b"E7")) {
-        put_value(grammar_of_line(fault, line, b""), number, line, &mut hint)?;
-    } else if let Ok(plan) = Plan::read(alloc, words) {
-        let files = &mut PlanFiles { alloc, plan, files };
-        put_refusal(refusal, number, line, files, &mut hint)?;
-    }
-    Ok(hint)
+/// How a fault is called in docs/FORMAT.md.
+pub(crate) fn fault_name(fault: Fault) -> &'static [u8] {
+    FAULTS.get(fault.code() as usize).copied().unwrap_or(b"")
 }
 
-/// Puts what is wrong with a line, of which the hint names the number, unless that is 0.
-fn put_refusal<F: HintFiles>(
-    refusal: Refusal,
-    number: u64,
+/// What a column of a record is called.
+fn subject_of(column: usize, is_length: bool) -> &'static [u8] {
+    if is_length {
+        return b"the length";
+    }
+    COLUMNS.get(column).copied().unwrap_or(b"")
+}
+
+/// What is known of a line on which this fault is about this column after so many fields.
+pub(crate) fn line_facts<'a>(
+    alloc: Global,
+    on: &'static [u8],
+    fault: &'static [u8],
+    line: &'a [u8],
+    before: usize,
+    column: usize,
+) -> Result<Facts<'a>, AllocError> {
+    let is_length = on == b"genome".as_slice() || field(line, 0) == b"resize".as_slice();
+    let record = after_columns(line, before);
+    let mut facts = Facts::new(
+        alloc,
+        on,
+        &[
+            (b"fault", fault),
+            (b"line", line),
+            (b"record", record),
+            (b"value", field(record, column)),
+            (b"subject", subject_of(column, is_length)),
+            (b"of_length", flag(is_length)),
+        ],
+    )?;
+    facts.count(b"column", column.saturating_add(1))?;
+    Ok(facts)
+}
+
+/// The hint on a refused line, of which so many columns after the command are a sound record. If the fault is about one field, it names
+/// that. Of a line that isn't one of the first of its kind it has the value of the field alone.
+pub(crate) fn hint_of_refusal(
+    files: &RunFiles<'_>,
     line: &[u8],
-    files: &mut PlanFiles<'_, '_, F>,
-    hint: &mut Hint,
-) -> Result<(), AllocError> {
-    let slot = match field(line, 0) {
+    fault: Fault,
+    sound: u8,
+    is_few: bool,
+) -> Result<Hint, AllocError> {
+    let (command, name) = (field(line, 0), fault_name(fault));
+    let (before, column) = (
+        fields_before(name, command, sound),
+        column_of(name, command),
+    );
+    let mut hint = Hint::new(files.rt.alloc());
+    hint.place = (0, place_of(before, column));
+    let mut facts = line_facts(
+        hint.alloc,
+        b"script",
+        name,
+        line,
+        before,
+        column.unwrap_or(0),
+    )?;
+    if !is_few {
+        if column.is_some() {
+            facts.put_text("`value`", &mut hint)?;
+        }
+        return Ok(hint);
+    }
+    let words = field(line, 2).split(is_between);
+    let words: Vec<&[u8]> = words.filter(|word| !word.is_empty()).collect(hint.alloc)?;
+    if fault == Fault::Words {
+        put_words(words.as_slice(), true, &mut hint)?;
+        return Ok(hint);
+    }
+    let slot = match command {
         b"addb" | b"removeb" | b"replaceb" => Slot::Other,
         _ => Slot::First,
     };
-    let fault = fault_name(refusal.code);
-    let genome = files.front(Slot::Sizes, BYTES)?;
-    let grammar = grammar_of_line(fault, line, genome.bytes.as_slice());
-    if !refusal.is_few {
-        return put_value(grammar, number, line, hint);
-    }
-    hint.set_place(number, grammar.field());
-    let front = files.front(slot, BYTES)?;
-    let name = files.name(slot).to_vec(hint.alloc)?;
-    let known = Line {
-        on: b"script",
-        fault,
-        text: line,
-        grammar,
-        name: name.as_slice(),
-        front: front.bytes.as_slice(),
-        genome: genome.bytes.as_slice(),
-    };
-    let (width, _) = files.width(slot)?;
-    let words = view_words(hint.alloc, line)?;
-    match fault {
-        b"E16" => put_view(words.as_slice(), hint),
-        b"E17" | b"E18" => {
-            put_missing_column(words.as_slice(), refusal.code, width, false, hint)
+    let fields = after_columns(line, 1);
+    let commands: Vec<&'static [u8]> = COMMANDS.split(is_between).collect(hint.alloc)?;
+    let (nearest, equal) = nearest_in(files.front(slot), fields, files.width(slot));
+    facts.add(&[
+        (b"name", files.name(slot)),
+        (b"front", files.front(slot)),
+        (b"genome", files.front(Slot::Sizes)),
+        (b"fields", fields),
+        (
+            b"near",
+            near_in(hint.alloc, commands.as_slice(), first_word(line).0)?,
+        ),
+        (b"item", value_after(words.as_slice(), b"-c")),
+        (b"nearest", nearest),
+        (b"is_there", flag(equal == files.width(slot))),
+    ])?;
+    facts.count(b"width", files.width(slot))?;
+    facts.put(&mut hint)?;
+    Ok(hint)
+}
+
+/// The line of a file that has most columns of a record, at least two of them, and how many; empty if there is none.
+fn nearest_in<'a>(front: &'a [u8], record: &[u8], width: usize) -> (&'a [u8], usize) {
+    let mut best: usize = 1;
+    let mut found: &[u8] = b"";
+    for line in lines_of(front).filter(|line| is_record(line)) {
+        let is_equal = |number: &usize| field(line, *number) == field(record, *number);
+        let count = (0..width.min(6)).filter(is_equal).count();
+        if count > best {
+            best = count;
+            found = line;
         }
-        _ => {
-            let near = near_command(hint.alloc, known.word())?;
-            let mut facts = known.facts(hint.alloc)?;
-            known.add_of_script(width, near, &mut facts)?;
-            facts.put(hint)
-        }
     }
-}
-
-/// Puts the value of the field that a fault is about, if it is about one.
-fn put_value(
-    grammar: Grammar,
-    number: u64,
-    line: &[u8],
-    hint: &mut Hint,
-) -> Result<(), AllocError> {
-    if !grammar.is_known {
-        return Ok(());
-    }
-    hint.set_place(number, grammar.field());
-    let value = field(line, grammar.field().saturating_sub(1));
-    hint.put(format_args!("\"{}\"", shown(value)))
-}
-
-/// The words of a view that a line opens.
-fn view_words(alloc: Global, line: &[u8]) -> Result<Vec<&[u8]>, AllocError> {
-    let words = field(line, 2).split(is_between);
-    words.filter(|word| !word.is_empty()).collect(alloc)
-}
-
-/// The command of a script that is near to a word.
-fn near_command(alloc: Global, word: &[u8]) -> Result<&'static [u8], AllocError> {
-    let mut nearest = Nearest::to(word);
-    for known in COMMANDS.split(is_between) {
-        nearest.look_at(alloc, known)?;
-    }
-    Ok(nearest.found)
+    (found, best)
 }

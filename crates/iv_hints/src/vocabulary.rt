@@ -1,4 +1,4 @@
-//! Words that are tried instead of those that there are, and what to do: tables for `text_for`, and lists of words for `lists`.
+//! Words that are tried instead of those that there are, and what to do: tables for `text_for`, and lists of words with a space between two.
 
 /// Faults of a line by their numbers in docs/FORMAT.md.
 pub(crate) const FAULTS: &[&[u8]] = &[
@@ -9,6 +9,24 @@ pub(crate) const FAULTS: &[&[u8]] = &[
 /// The commands of a script.
 pub(crate) const COMMANDS: &[u8] =
     b"add remove replace addb removeb replaceb resize open close print printall show showall";
+
+/// The subcommands and their options, as words that may be meant.
+pub(crate) const SUBJECTS: &[u8] =
+    b"session merge cluster complement genomecov intersect subtract getfasta records --help --version";
+
+/// The views.
+pub(crate) const VIEWS: &[u8] =
+    b"merge cluster complement genomecov intersect subtract getfasta records";
+
+/// What a column of a record is called.
+pub(crate) const COLUMNS: &[&[u8]] = &[
+    b"the name",
+    b"the start",
+    b"the end",
+    b"column 4, the name,",
+    b"column 5, the score,",
+    b"the strand",
+];
 
 /// What follows a command, in a few words.
 pub(crate) const FIELDS: &str =
@@ -24,7 +42,7 @@ add remove replace addb removeb replaceb: the columns of a record, in as many fi
 pub(crate) const OTHERS: &str = "delete del rm Delete: remove takes a record out
 insert put new: add puts a record in
 change update edit modify move rename set: replace has the old record and the new one
-undo: write the edit that reverses it; python3 -m bedkeep.curate has undo
+undo: write the edit that reverses it; python3 -m bedkeep curate has undo
 help: bedkeep session --help lists the commands
 quit exit: a script ends with its input
 save list: open NAME records, and then print NAME, has all records

@@ -7,6 +7,7 @@ mod program;
 mod script_run;
 
 pub use files::InputFiles;
+pub use iv_session::{SeesRefusals, Unseen};
 pub use memory::{MemFiles, NamedBytes};
 pub use program::{
     Ended, done_is_all, one_plan_at_most, report, run_program, views_depend_on_bytes_alone,

@@ -27,6 +27,7 @@ use iv_args::{Notice, Plan};
 use iv_bytes::{Flush, Sink, Source, put_all};
 use iv_locators::Span;
 use iv_run::{CliFault, ExitReason, HeldBed, HeldRecords, IntervalsView, RunFiles, shot_of_held};
+use iv_session::SeesRefusals;
 use std::alloc::Allocator;
 
 /// How a run has ended, its output flushed.
@@ -124,13 +125,14 @@ fn print_view<A: Allocator + Copy, F: InputFiles, W: Sink>(
 }
 
 /// Does what a plan asks for.
-fn run_plan<A: Allocator + Copy, F: InputFiles, R: Source, W: Sink, E: Sink>(
+fn run_plan<A: Allocator + Copy, F: InputFiles, R: Source, W: Sink, E: Sink, O: SeesRefusals>(
     alloc: A,
     plan: &Plan<'_, A>,
     files: &mut F,
     input: &mut R,
     output: &mut W,
     messages: &mut E,
+    observer: &mut O,
 ) -> Ended
     ensures { ReadsAll plan.now
         (world (F.state files.old) (R.state input.old) (W.state output.old) (E.state messages.old))
@@ -140,7 +142,7 @@ fn run_plan<A: Allocator + Copy, F: InputFiles, R: Source, W: Sink, E: Sink>(
         (world (F.state files.new) (R.state input.new) (W.state output.new) (E.state messages.new)) result.exit_reason result.line }
 {
     if plan.is_script() {
-        return match run_session(alloc, files, plan, input, output, messages) {
+        return match run_session(alloc, files, plan, input, output, messages, observer) {
             Ok(ended) => ended,
             Err(why) => Ended::at_no_line(ExitReason::from(why)),
         };
@@ -178,14 +180,22 @@ fn finish<W: Flush, E: Sink>(ended: Ended, name: &[u8], output: &mut W, messages
 }
 
 /// Runs the program: does what the arguments after its name ask for, with these files, this input, output and messages, and says how
-/// that ended.
-pub fn run_program<A: Allocator + Copy, F: InputFiles, R: Source, W: Flush, E: Sink>(
+/// that ended. The observer sees each refused line of a script.
+pub fn run_program<
+    A: Allocator + Copy,
+    F: InputFiles,
+    R: Source,
+    W: Flush,
+    E: Sink,
+    O: SeesRefusals,
+>(
     alloc: A,
     arguments: &[&[u8]],
     files: &mut F,
     input: &mut R,
     output: &mut W,
     messages: &mut E,
+    observer: &mut O,
 ) -> Ended
     ensures { Runs (map (λ argument. argument.now) arguments.now)
         (world (F.state files.old) (R.state input.old) (W.state output.old) (E.state messages.old))
@@ -197,7 +207,7 @@ pub fn run_program<A: Allocator + Copy, F: InputFiles, R: Source, W: Flush, E: S
     }
     match Plan::read(alloc, arguments) {
         Ok(plan) => {
-            let ended = run_plan(alloc, &plan, files, input, output, messages);
+            let ended = run_plan(alloc, &plan, files, input, output, messages, observer);
             finish(ended, ended.exit_reason.file_meant(&plan), output, messages)
         }
         Err(fault) => {

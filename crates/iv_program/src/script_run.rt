@@ -15,7 +15,7 @@ use iv_bytes::{Sink, Source};
 use iv_cli::{begin_session, ending_of_run};
 use iv_lines::Record;
 use iv_run::{ExitReason, HeldRecords, RunFiles};
-use iv_session::{RunFault, ScriptLimits, Summary, run_script};
+use iv_session::{RunFault, ScriptLimits, SeesRefusals, Summary, run_script};
 use std::alloc::Allocator;
 use std::mem;
 
@@ -33,13 +33,14 @@ fn line_of_stop(done: &Result<Summary, RunFault>) -> u64
 }
 
 /// Runs the script on the input, which may have at most `limit` lines, over the session that the files of a plan begin.
-fn run_over<A: Allocator + Copy, R: Source, W: Sink, E: Sink>(
+fn run_over<A: Allocator + Copy, R: Source, W: Sink, E: Sink, O: SeesRefusals>(
     alloc: A,
     files: RunFiles<HeldRecords<Record<A>, A>, A>,
     limit: u32,
     input: &mut R,
     output: &mut W,
     messages: &mut E,
+    observer: &mut O,
 ) -> Ended
     requires same { files.run_genome.limit ≡ limit }
     requires few { limit ≤ most_limit }
@@ -56,7 +57,15 @@ fn run_over<A: Allocator + Copy, R: Source, W: Sink, E: Sink>(
         lines: limit,
         line_bytes: MOST_LINE_BYTES,
     };
-    let done = run_script(alloc, &mut session, &limits, input, output, messages);
+    let done = run_script(
+        alloc,
+        &mut session,
+        &limits,
+        input,
+        output,
+        messages,
+        observer,
+    );
     // The process ends soon, and the system takes its memory at once. A drop would free record by record.
     mem::forget(session);
     Ended {
@@ -66,13 +75,21 @@ fn run_over<A: Allocator + Copy, R: Source, W: Sink, E: Sink>(
 }
 
 /// Reads the files of a plan, and runs the script on the input over the session that they begin.
-pub(crate) fn run_session<A: Allocator + Copy, F: InputFiles, R: Source, W: Sink, E: Sink>(
+pub(crate) fn run_session<
+    A: Allocator + Copy,
+    F: InputFiles,
+    R: Source,
+    W: Sink,
+    E: Sink,
+    O: SeesRefusals,
+>(
     alloc: A,
     files: &mut F,
     plan: &Plan<'_, A>,
     input: &mut R,
     output: &mut W,
     messages: &mut E,
+    observer: &mut O,
 ) -> Result<Ended, SlotFault>
     ensures ok { IfOk result (λ ended. (texts : Texts) × AreTexts (F.state files.old) plan.now texts
         × RunsScript plan.now texts
@@ -84,5 +101,5 @@ pub(crate) fn run_session<A: Allocator + Copy, F: InputFiles, R: Source, W: Sink
         ≡ streams (R.state input.old) (W.state output.old) (E.state messages.old)) }
 {
     let read = read_files(alloc, files, plan)?;
-    Ok(run_over(alloc, read, plan.limit(), input, output, messages))
+    Ok(run_over(alloc, read, plan.limit(), input, output, messages, observer))
 }

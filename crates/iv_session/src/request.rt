@@ -341,6 +341,24 @@ fn two_rows<'a, A: Allocator + Copy>(
     }
 }
 
+/// How many columns after the command of a line are a record without a fault, before another one: those of the old record of a line that
+/// replaces it.
+pub(crate) fn sound_columns<A: Allocator + Copy>(session: &Session<A>, line: &[u8]) -> u8 {
+    let (command, fields) = split_first_column(line);
+    let target = match command {
+        b"replace" => Target::First,
+        b"replaceb" => Target::Second,
+        _ => return 0,
+    };
+    let Ok((genome, width)) = session.genome_and_width(target) else {
+        return 0;
+    };
+    match split_columns(fields.unwrap_or(b""), width) {
+        Some((old, _)) if read_record(genome, width, old).is_ok() => width,
+        _ => 0,
+    }
+}
+
 /// The first columns of a text, as many as the count, and the columns after them. There is at least one on each side.
 fn split_columns(text: &[u8], count: u8) -> Option<(&[u8], &[u8])>
     requires { 0 < count }
