@@ -12,16 +12,18 @@ prefix = $(PREFIX)
 bindir = $(prefix)/bin
 datadir = $(prefix)/share
 docdir = $(datadir)/doc/bedkeep
+# PYTHONPATH is then this folder, or pip installs it; bedkeep-desk finds it by itself.
+pythondir = $(datadir)/bedkeep/python
 man1dir = $(datadir)/man/man1
 bashdir = $(datadir)/bash-completion/completions
 zshdir = $(datadir)/zsh/site-functions
 INSTALL ?= install
 INSTALL_PROGRAM ?= $(INSTALL) -m 755
 INSTALL_DATA ?= $(INSTALL) -m 644
-# The Python package, which is installed below datadir/bedkeep: PYTHONPATH is then its folder python, or pip installs that.
-PACKAGE = python/pyproject.toml python/README.md python/bedkeep/py.typed $(sort $(wildcard $(addprefix python/bedkeep/,*.py review/*.py review/*.css review/*.js)))
+# The Python package, which is installed below pythondir.
+PACKAGE = python/pyproject.toml python/README.md python/bedkeep/py.typed $(sort $(wildcard $(addprefix python/bedkeep/,*.py */*.py */*.css */*.js */page/*)))
 # What is installed below docdir, in the folders that it has here, so that links and the steps of the guide work there too.
-DOCUMENTS = README.md CHANGELOG.md LICENSE CITATION.cff $(addprefix docs/,GUIDE.md BEDTOOLS.md bedtools-report.md FORMAT.md PROMISES.md STATEMENT.md BENCHMARKS.md speed.svg review.png) \
+DOCUMENTS = README.md CHANGELOG.md LICENSE CITATION.cff $(addprefix docs/,GUIDE.md BEDTOOLS.md bedtools-report.md FORMAT.md PROMISES.md STATEMENT.md BENCHMARKS.md speed.svg desk.png review.png) \
 	$(shell find examples -type f ! -path '*/.snakemake/*' ! -name '*.pyc' ! -name corrected.bed ! -name 'review.*' \
 		! \( -path '*/workflows/*/*' ! -name '*.cwl' ! -name '*.yaml' \) | LC_ALL=C sort)
 
@@ -65,6 +67,7 @@ install:
 	@test -x $(PROGRAM) || { echo '$(PROGRAM) is not there: run make build first' >&2; exit 1; }
 	$(INSTALL) -d $(addprefix $(DESTDIR),$(bindir) $(man1dir) $(bashdir) $(zshdir) $(docdir))
 	$(INSTALL_PROGRAM) $(PROGRAM) $(DESTDIR)$(bindir)/bedkeep
+	$(INSTALL_PROGRAM) python/bedkeep-desk $(DESTDIR)$(bindir)/bedkeep-desk
 	$(INSTALL_DATA) man/bedkeep.1 $(DESTDIR)$(man1dir)/bedkeep.1
 	$(INSTALL_DATA) completions/bedkeep.bash $(DESTDIR)$(bashdir)/bedkeep
 	$(INSTALL_DATA) completions/_bedkeep $(DESTDIR)$(zshdir)/_bedkeep
@@ -72,13 +75,13 @@ install:
 		mode=644; test ! -x $$file || mode=755; \
 		$(INSTALL) -D -m $$mode $$file $(DESTDIR)$(docdir)/$$file; \
 	done
-	set -e; for file in $(PACKAGE); do $(INSTALL_DATA) -D $$file $(DESTDIR)$(datadir)/bedkeep/$$file; done
+	set -e; for file in $(PACKAGE:python/%=%); do $(INSTALL_DATA) -D python/$$file $(DESTDIR)$(pythondir)/$$file; done
 
 uninstall:
-	rm -f $(addprefix $(DESTDIR),$(bindir)/bedkeep $(man1dir)/bedkeep.1 $(bashdir)/bedkeep $(zshdir)/_bedkeep)
+	rm -f $(addprefix $(DESTDIR),$(bindir)/bedkeep $(bindir)/bedkeep-desk $(man1dir)/bedkeep.1 $(bashdir)/bedkeep $(zshdir)/_bedkeep)
 	rm -f $(addprefix $(DESTDIR)$(docdir)/,$(DOCUMENTS))
-	rm -f $(addprefix $(DESTDIR)$(datadir)/bedkeep/,$(PACKAGE))
-	rm -rf $(addprefix $(DESTDIR)$(datadir)/bedkeep/python/bedkeep/,__pycache__ review/__pycache__)
+	rm -f $(addprefix $(DESTDIR)$(pythondir)/,$(PACKAGE:python/%=%))
+	rm -rf $(addprefix $(DESTDIR)$(pythondir)/,$(addsuffix __pycache__,$(sort $(dir $(filter %.py,$(PACKAGE:python/%=%))))))
 	find $(DESTDIR)$(docdir) $(DESTDIR)$(datadir)/bedkeep -depth -type d -empty -delete 2> /dev/null || true
 
 # A release is linked from the object file of the program, which the build leaves beside it.

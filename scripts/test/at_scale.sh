@@ -20,24 +20,17 @@ if [ $# -eq 0 ] || [ $# -gt 2 ] || [ ! -x "$1" ]; then
 fi
 records=${2:-20000}
 tools=$(realpath "$(dirname "$0")/../../examples/at_scale")
-folder=$(mktemp -d)
-trap 'rm -rf "$folder"' EXIT
-mkdir "$folder/path" && ln -s "$(realpath "$1")" "$folder/path/bedkeep"
-export PATH=$folder/path:$PATH XDG_CACHE_HOME=$folder/cache PYTHONDONTWRITEBYTECODE=1
+# shellcheck source=scripts/test/on_path.sh
+. "$(dirname "$0")/on_path.sh" "$1"
+export XDG_CACHE_HOME=$found/cache
 PYTHONPATH=$(realpath "$(dirname "$0")/../../python")
 export PYTHONPATH
-cd "$folder" || exit 1
-failed=0
+cd "$found" || exit 1
 if ! command -v bgzip > /dev/null || ! command -v tabix > /dev/null; then
     echo 'bgzip and tabix are not installed, so windows were left out'
     exit 0
 fi
 ulimit -n 128
-
-fails() {
-    echo "$*" >&2
-    failed=1
-}
 
 # make_small: seven sequences, two of them without a record and one of these without a base; six columns, in no order
 make_small() {
@@ -145,8 +138,8 @@ same_fault() {
 
 # same_workflow: the same by Snakemake, in a folder of its own
 same_workflow() {
-    printf '%s\n' 'subcommand: intersect' 'options: -wa -wb' "genome: $folder/short_genome" "tracks: {some: $folder/short.bed.gz}" \
-        "second: $folder/short_second.bed.gz" "window: $((4 * records))" > config.yaml
+    printf '%s\n' 'subcommand: intersect' 'options: -wa -wb' "genome: $found/short_genome" "tracks: {some: $found/short.bed.gz}" \
+        "second: $found/short_second.bed.gz" "window: $((4 * records))" > config.yaml
     (ulimit -n "$(ulimit -H -n)" && snakemake --snakefile "$tools/Snakefile" --configfile config.yaml --directory workflow --cores "$(nproc)") \
         > said 2>&1 || fails "snakemake: $(cat said)"
     bedkeep intersect -g short_genome -a short.bed -b short_second.bed -wa -wb > rows

@@ -24,6 +24,8 @@ import tempfile
 import threading
 from pathlib import Path
 
+from trials import begin, parser_of
+
 SECONDS = 60
 PIECE = 3
 # One in so many cuts comes in pieces. It is no multiple of their size, so a file's cuts end everywhere in a piece.
@@ -262,9 +264,7 @@ def checks(every):
 
 
 def main():
-    if len(sys.argv) != 2:
-        sys.exit("usage: scripts/test/cuts.py PROGRAM")
-    program = Path(sys.argv[1]).resolve()
+    program = begin(parser_of(__doc__)).program
     if first_read(b"abcd") != b"abc":
         sys.exit("pipes don't keep pieces apart here")
     wrong = 0

@@ -11,20 +11,11 @@ if [ "$1" = --show ]; then
     show=true
     shift
 fi
-program=$(realpath "$1")
+# shellcheck source=scripts/test/on_path.sh
+. "$(dirname "$0")/on_path.sh" "$1"
 cd "${2:-$(dirname "$0")/../../examples}" || exit 1
-found=$(mktemp -d)
-trap 'rm -rf "$found"' EXIT
-mkdir "$found/path" && ln -s "$program" "$found/path/bedkeep"
-export PATH=$found/path:$PATH PYTHONDONTWRITEBYTECODE=1
 # The package of the sources, or of a release.
 export PYTHONPATH=$PWD/../python:$PWD/../../../bedkeep/python
-failed=0
-
-fails() {
-    echo "$*" >&2
-    failed=1
-}
 
 # wanted NAME STATUS FOUND: compares what is in the files of this name with what is expected
 wanted() {

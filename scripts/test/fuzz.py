@@ -15,9 +15,7 @@ by a signal but the one that was sent, or takes longer than ten seconds. After a
 lines are asked for; and with so little memory that nothing was written at all, a run may not have been started.
 """
 
-import argparse
 import collections
-import contextlib
 import os
 import random
 import re
@@ -28,6 +26,8 @@ import sys
 import tempfile
 import threading
 import time
+
+from trials import Wrong, begin, parser_of, require, stopped_after
 
 # seconds that a run may take
 LONGEST = 10
@@ -42,35 +42,22 @@ VIEWS = ["merge", "merge -d 3", "merge -c 1,2 -o count,max", "cluster", "complem
 
 
 def main():
-    words = argparse.ArgumentParser(description=__doc__.splitlines()[0])
-    words.add_argument("program")
+    words = parser_of(__doc__)
     words.add_argument("--seed", type=int, default=1)
     words.add_argument("--seconds", type=float, default=20, help="stop after this time")
     words.add_argument("--count", type=int, default=10**9, help="stop after so many scripts")
-    wanted = words.parse_args()
-    program = os.path.realpath(wanted.program)
-    if not os.access(program, os.X_OK):
-        sys.exit(f"{wanted.program} is not there: run `make build` first")
+    wanted = begin(words)
     end, done, ends = time.monotonic() + wanted.seconds, 0, collections.Counter()
     with tempfile.TemporaryDirectory() as folder:
         while done < wanted.count and time.monotonic() < end:
             chance = random.Random(f"{wanted.seed} {done}")
             try:
-                ends[disturb(program, folder, chance)] += 1
+                ends[disturb(wanted.program, folder, chance)] += 1
             except Wrong as wrong:
                 sys.exit(f"seed {wanted.seed}, script {done}: {wrong}")
             done += 1
     print(f"fuzz: {done} scripts from seed {wanted.seed}, disturbed, and none left anything wrong")
     print("  how they ended: " + ", ".join(f"{name} {status} ({count})" for (name, status), count in sorted(ends.items())))
-
-
-class Wrong(Exception):
-    """Something that must not be."""
-
-
-def require(holds, what):
-    if not holds:
-        raise Wrong(what)
 
 
 class Case:
@@ -185,7 +172,7 @@ def slow_reader(case, chance):
     feeder = threading.Thread(target=feed, args=(process, case.script, chance.randrange(1, 400), 0.0005))
     feeder.start()
     output = b""
-    with watched(process):
+    with stopped_after(LONGEST, process):
         while piece := os.read(process.stdout.fileno(), chance.randrange(1, 300)):
             output += piece
             time.sleep(0.0003)
@@ -213,7 +200,7 @@ def killed(case, chance):
     feeder.start()
     timer = threading.Timer(chance.random() * 0.05, process.terminate)
     timer.start()
-    with watched(process):
+    with stopped_after(LONGEST, process):
         output = process.stdout.read()
         messages = process.stderr.read()
         status = process.wait()
@@ -224,17 +211,6 @@ def killed(case, chance):
     if status == case.status:
         require((output, messages) == (case.output, case.messages), "killed too late: another answer")
     return status
-
-
-@contextlib.contextmanager
-def watched(process):
-    """Ends a run that takes too long, by a signal that no case allows."""
-    timer = threading.Timer(LONGEST, process.kill)
-    timer.start()
-    try:
-        yield
-    finally:
-        timer.cancel()
 
 
 def feed(process, script, size, seconds):

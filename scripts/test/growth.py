@@ -16,8 +16,6 @@ are measured.
 
 Status 1 if something grows faster, or if a run fails, hangs or prints something else.
 """
-import argparse
-import contextlib
 import ctypes
 import fcntl
 import functools
@@ -31,6 +29,8 @@ import tempfile
 import threading
 from pathlib import Path
 
+from trials import Wrong, begin, parser_of, require, stopped_after
+
 # Seconds of processor time that the smaller run of a shape takes, above those of an empty run.
 FLOOR = 0.02
 # How much longer twice as much work may take.
@@ -42,15 +42,6 @@ FIRST, LARGEST = 1_000, 500_000
 # The five views of docs/BENCHMARKS.md.
 FIVE_VIEWS = ["merge", "merge -d 100", "complement", "cluster", "genomecov -bg"]
 OPEN_FIVE = "".join(f"open\t{name}\t{view}\n" for name, view in zip("abcde", FIVE_VIEWS))
-
-
-class Wrong(Exception):
-    """Something that must not be."""
-
-
-def require(holds, what):
-    if not holds:
-        raise Wrong(what)
 
 
 # ------------------------------------------------------------------ files
@@ -397,17 +388,6 @@ class Runs:
         return least
 
 
-@contextlib.contextmanager
-def stopped_after(seconds, process):
-    """Ends a process if it takes longer."""
-    timer = threading.Timer(seconds, process.kill)
-    timer.start()
-    try:
-        yield
-    finally:
-        timer.cancel()
-
-
 def reads_of(process):
     """How many calls that read a process has made. It has ended, and nobody has waited for it."""
     with open(f"/proc/{process}/io", encoding="ascii") as file:
@@ -473,10 +453,12 @@ def opened_once(runs):
     """Each file is opened once: a pipe that is opened again may wait for a writer forever."""
     files, rows = files_of_all_kinds(100)
     folder = runs.write("opened", files)
-    opens, closes = 0x20, 0x10  # IN_OPEN, IN_CLOSE_NOWRITE: without a close in between two opens would be one event
+    opens = 0x20  # IN_OPEN
     system = ctypes.CDLL(None)
     watch = system.inotify_init1(os.O_NONBLOCK | os.O_CLOEXEC)
-    require(watch >= 0 and system.inotify_add_watch(watch, os.fsencode(folder), opens | closes) >= 0, "nothing can be watched here")
+    # Each open is an event of the folder and one of the file, in turn: two events that are the same would be one.
+    watched = [os.fsencode(folder / file) for file in ("", *"gabf")]
+    require(watch >= 0 and all(system.inotify_add_watch(watch, path, opens) >= 0 for path in watched), "nothing can be watched here")
     try:
         runs.run(ALL_FILES, "opened", rows=rows)
         events = os.read(watch, 1 << 16)
@@ -486,7 +468,7 @@ def opened_once(runs):
     while at < len(events):
         _, mask, _, length = struct.unpack_from("iIII", events, at)
         name = events[at + 16 : at + 16 + length].rstrip(b"\0").decode()
-        found += [name] if mask & opens and name in "gabf" else []
+        found += [name] if mask & opens and name in list("gabf") else []
         at += 16 + length
     require(found == list("gabf"), f"files are opened in this order: {found}")
     return "each file is opened once, in order"
@@ -599,18 +581,14 @@ CHECKS = [("calls that read", few_calls), ("opens", opened_once), ("named pipes"
 
 
 def main():
-    words = argparse.ArgumentParser(description=__doc__.splitlines()[0])
-    words.add_argument("program")
+    words = parser_of(__doc__)
     words.add_argument("--only", default="", help="what has this word in its name")
-    wanted = words.parse_args()
-    program = os.path.realpath(wanted.program)
-    if not os.access(program, os.X_OK):
-        sys.exit(f"{wanted.program} is not there: run `make build` first")
+    wanted = begin(words)
     checks = [*((shape.name, lambda runs, shape=shape: look_at(runs, shape)) for shape in SHAPES), *CHECKS]
     checks = [check for check in checks if wanted.only in check[0]]
     failed = 0
     with tempfile.TemporaryDirectory() as folder:
-        runs = Runs(program, folder)
+        runs = Runs(wanted.program, folder)
         for name, check in checks:
             try:
                 print(f"{name}: {check(runs)}", flush=True)

@@ -241,7 +241,7 @@ PLANTED = [
     ("iv_session", "fn f() -> EditFault { let fault = EditFault::NoMemory; fault }", MADE),
     ("iv_session", "const MAKE: fn(u8) -> EditFault = |_| EditFault::NoMemory;", MADE),
     ("iv_session", "fn f() -> Result<(), PrintFault> { Err(PrintFault::Refused(Fault::NoMemory)) }", MADE),
-    ("test_text_and_track", "fn f() -> Result<(), AllocError> { Err(AllocError) }", MADE),
+    ("test_calls", "fn f() -> Result<(), AllocError> { Err(AllocError) }", MADE),
     ("bedkeep", "use iv_session::EditFault::NoMemory as Full;", OTHER_NAME),
     ("iv_text", "/// Memory was refused: `AllocError`.\nfn f<A>(a: A) -> Result<Vec<u8, A>, AllocError>\n    ensures { OnErr result (g.fault ≡ LoadCause.Memory) }\n{\n    g(\"Memory\")\n}", None),
     ("iv_text", "fn f(c: LoadCause) -> u8 { match c { LoadCause::Memory => 10, LoadCause::TooMany => { 9 } Fault { cause: LoadCause::Memory } | LoadCause::Memory if true => 1 } }", None),
@@ -252,7 +252,7 @@ PLANTED = [
     ("iv_cli", "fn f(why: Why) -> Fault { match why { Why::Memory | Why::Other => Fault::Memory, _ => Fault::Other } }", MADE),
     ("iv_cli", "fn f(why: Why) -> Fault { match why { Why::Other => Fault::Memory, _ => Fault::Other } }", MADE),
     ("iv_cli", "fn f(why: Why) -> bool { why == Why::Memory || matches!(why, Why::Memory | Why::Other) }", None),
-    ("test_text_and_track", "fn f() -> bool { g() == Err(EditFault::NoMemory) }", None),
+    ("test_calls", "fn f() -> bool { g() == Err(EditFault::NoMemory) }", None),
     ("iv_depth", "fn f() -> u64 { let meter = Meter::new(); meter.steps() }", METERS),
     ("iv_cover", "fn f() -> u64 { let mut meter = Meter::new(); meter.steps() }", METERS),
     ("iv_cover", "fn f() -> u64 { <Meter>::new().steps() }", METERS),
@@ -271,7 +271,7 @@ PLANTED = [
     ("iv_pair", "fn may(n: u8) { for _ in 0..n { g(Meter::new()); } }", METERS),
     ("iv_pair", "fn may<A>(&self) { g(Meter::new()); }", None),
     ("iv_workspace", "fn may(&mut self) { let mut meter = Meter::new(); }", None),
-    ("test_text_and_track", "fn f() { g(Meter::new()); g(Meter::new()); }", None),
+    ("test_calls", "fn f() { g(Meter::new()); g(Meter::new()); }", None),
 ]
 
 

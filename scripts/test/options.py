@@ -362,10 +362,8 @@ def main():
         faults = faults_of(os.path.abspath(sys.argv[1]), runs)
     except (OSError, subprocess.CalledProcessError) as error:
         sys.exit(f"options.py: {error}")
-    for fault in faults:
-        print(fault, file=sys.stderr)
     if faults:
-        sys.exit(1)
+        sys.exit("\n".join(faults))
     print("the help, the man page, the completions, FORMAT, README and the package have the options of the table")
 
 

@@ -40,10 +40,8 @@ def main():
         steps, wrong = read_page(page, top / "examples")
         faults += wrong + run_page(page.name, steps, program, top)
         done.append(f"{len(steps)} steps of {page.relative_to(top)}")
-    for fault in faults:
-        print(fault, file=sys.stderr)
     if faults:
-        sys.exit(1)
+        sys.exit("\n".join(faults))
     print(f"{' and '.join(done)} print what the pages show")
 
 

@@ -3,8 +3,7 @@
 
 A call allocates if it is a `pub fn` of a library crate whose result has a fault that an allocation failure can become: AllocError, and
 each type that it is turned into (`impl From<AllocError>`), also under another name (`pub type`) or as a part of it. A call has a row if a
-documentation comment of crates/test_refused names it: `Session::new`. ELSEWHERE has those whose rows are in other crates of tests, and
-WITHOUT those that need none, each with its reason.
+documentation comment of crates/test_refused names it: `Session::new`. WITHOUT has those that need none, each with its reason.
 
     scripts/test/refused_rows.py          lists the calls without a row; status 1 if there is one
     scripts/test/refused_rows.py --all    lists all calls that allocate, each with where its row is
@@ -29,50 +28,12 @@ WITHOUT = {
     "View::narrowed": "the options of a view are held without an allocation",
     "Plan::view": "the options of a view are held without an allocation",
     "Plan::view_beside": "the options of a view are held without an allocation",
-    "Batches::push": "`BedFile::parse` calls it",
     "Batches::into_vec": "`BedFile::parse` calls it",
     "RecordBatches::into_records": "`BedFile::parse` calls it",
     "NameMap::rehash": "`Genome::parse` calls it",
     "NameMap::push": "`Genome::parse` calls it",
     "BedLines::take_lines": "`BedReader::take_piece` calls it",
     "Ledger::from_entries": "`Track::from_records` calls it",
-}
-
-# The file of another crate of tests that refuses each allocation of a call, or of a run that makes it.
-ELSEWHERE = {
-    "MemSink::new": "test_text_and_track/src/copy_refusals.rt",
-    "RecordRef::to_record": "test_text_and_track/src/copy_refusals.rt",
-    "BedReader::take_piece": "test_text_and_track/src/parse_refusals.rt",
-    "BedReader::finish": "test_text_and_track/src/parse_refusals.rt",
-    "BedText::parse": "test_text_and_track/src/many_places.rt",
-    "BedText::sort": "test_text_and_track/src/sorted_places.rt",
-    "BedText::ranks": "test_program/src/program_refusals.rt",
-    "Ledger::put": "test_text_and_track/src/refusals.rt",
-    "Track::from_records": "test_text_and_track/src/track_refusals.rt",
-    "Track::from_held": "test_text_and_track/src/track_refusals.rt",
-    "Track::replace": "test_text_and_track/src/track_refusals.rt",
-    "summary": "test_text_and_track/src/summaries.rt",
-    "results": "test_text_and_track/src/summaries.rt",
-    "results_in": "test_text_and_track/src/summaries.rt",
-    "FastaReader::take_piece": "test_second_and_fasta/src/fasta_refusals.rt",
-    "FastaReader::finish": "test_second_and_fasta/src/fasta_refusals.rt",
-    "Second::new": "test_second_and_fasta/src/second_refusals.rt",
-    "Second::from_batches": "test_second_and_fasta/src/second_refusals.rt",
-    "run_script": "test_scripts/src/refusals.rt",
-    "Plan::read": "test_runs/src/read_refusals.rt",
-    "read_all": "test_runs/src/read_refusals.rt",
-    "load": "test_runs/src/run_refusals.rt",
-    "shot": "test_runs/src/shot_refusals.rt",
-    "CountSweep::new": "test_runs/src/shot_refusals.rt",
-    "MergeSweep::new": "test_program/src/program_refusals.rt",
-    "DepthSweep::new": "test_program/src/program_refusals.rt",
-    "PairSweep::new": "test_program/src/program_refusals.rt",
-    "RunFiles::print": "test_program/src/program_refusals.rt",
-    "RunGenome::read": "test_program/src/program_refusals.rt",
-    "RunGenome::read_fasta": "test_program/src/program_refusals.rt",
-    "sound_files": "test_program/src/program_refusals.rt",
-    "begin_session": "test_program/src/program_refusals.rt",
-    "shot_of_held": "test_program/src/program_refusals.rt",
 }
 
 
@@ -130,17 +91,16 @@ def main():
     failures = types_of_failure(texts)
     calls = [call for path, text in texts.items() for call in calls_of(path.relative_to(TOP), text, failures)]
     found = rows()
-    others = {name: path for name, path in ELSEWHERE.items() if (CRATES / path).exists()}
-    missing = [(name, path) for name, path in calls if name not in found and name not in WITHOUT and name not in others]
+    missing = [(name, path) for name, path in calls if name not in found and name not in WITHOUT]
     if "--all" in sys.argv[1:]:
         for name, path in calls:
-            print(f"{name} ({path}): {found.get(name) or WITHOUT.get(name) or others.get(name) or 'no row'}")
+            print(f"{name} ({path}): {found.get(name) or WITHOUT.get(name) or 'no row'}")
     for name, path in missing:
         print(f"{path}: {name} allocates, and has no row in {ROWS.relative_to(TOP)}")
     names = {name for name, _ in calls}
-    useless = [name for name in [*WITHOUT, *ELSEWHERE] if name not in names or name in found]
+    useless = [name for name in WITHOUT if name not in names or name in found]
     for name in useless:
-        print(f"{Path(__file__).name}: {name} has a row, or is no call that allocates: take it out of the lists")
+        print(f"{Path(__file__).name}: {name} has a row, or is no call that allocates: take it out of the list")
     if missing or useless or not calls:
         return 1
     print(f"refused rows: each of {len(calls)} public calls that allocate has a row, or a reason for none")

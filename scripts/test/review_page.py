@@ -20,7 +20,7 @@ PYTHON = Path(__file__).resolve().parent.parent.parent / "python"
 sys.path[:0] = [str(PYTHON), str(PYTHON / "tests")]
 sys.dont_write_bytecode = True
 
-from bedkeep.review import write_page  # noqa: E402
+from bedkeep.review.output import write_page  # noqa: E402
 from pages import Page  # noqa: E402
 
 GENOME = {"chr1": 1000, "2": 300, 'x&<"y': 0, "chr3": 5_000_000}

@@ -21,7 +21,7 @@ import sys
 import tempfile
 from pathlib import Path
 
-from says import is_proved
+from trials import begin, is_proved, parser_of
 
 SECONDS = 120
 # What most sizes are divided by.
@@ -74,6 +74,21 @@ def reversed_records():
     yield "records from the end", "cluster -g g -i a", files, None, table((*place, number) for number, place in enumerate(places, 1))
 
 
+def out_of_order():
+    """Records in order except for some of one start, the longest first, or for neighbors; and many of one interval in no order."""
+    for count in 2, 3, 16, 17, 18, 40:
+        ties = [("chr1", 1, 2, "n", 0, "+"), *(("chr1", 5, 99 - number, "n", 0, "+") for number in range(count)), ("chr1", 6, 7, "n", 0, "+")]
+        yield f"{count} records of one start", "records -g g -i a", {"g": "chr1\t100\n", "a": table(ties)}, None, table(sorted(ties))
+    for count in 3, 17, 300:
+        names = [("chr1", 5, 9, f"read:{(number * 7919 % 251) ** 3}", number % 5, "+-."[number % 3]) for number in range(count)]
+        yield f"{count} records of one interval", "records -g g -i a", {"g": "chr1\t100\n", "a": table(names)}, None, (
+            table(sorted(names, key=lambda name: [str(cell).encode() for cell in name]))
+        )
+    for run in *range(2, 17), 17:
+        turned = [("big", run * turn - back, run * turn - back + 1) for turn in range(1, 1_201) for back in range(1, run + 1)]
+        yield f"neighbors of {run}", "records -g g -i a", {"g": "big\t100000\n", "a": table(turned)}, None, table(sorted(turned))
+
+
 def regions():
     """A few rows of many records on two sequences, without a long record over all of them, with it, and without it again."""
     places = [(name, start, start + 5) for name in ("big", "other") for start in range(0, 500_000, 10)]
@@ -120,6 +135,15 @@ def long_names():
     }, table([("add", name, 20, 30, cell + "x", cell + "x", "+"), ("open", "m", "merge -c 4 -o collapse"), ("print", "m")]), (
         f"{name}\t10\t30\t{cell},{cell}x\n"
     )
+
+
+def rows_of_each_length():
+    """Sequences, names and scores around the sizes of what a row is put together in."""
+    for sequence, name, score in (1, 1, 1), (20, 64, 24), (20, 65, 24), (20, 64, 25), (300, 2, 3), (300, 700, 500):
+        row = ("c" * sequence, 7, 19, "n" * name, "5" * score, "-")
+        files = {"g": f"chr1\t9\n{row[0]}\t100\n", "a": table([row])}
+        yield f"a record of {len(table([row]))} bytes", "records -g g -i a", files, None, table([row])
+        yield f"a row of {len(table([row]))} bytes", "cluster -g g -i a", files, None, table([(*row, 1)])
 
 
 def long_bases():
@@ -271,14 +295,12 @@ def is_right(program, name, words, files, script, wanted, rooms=()):
 
 def main():
     global LESS
-    if len(sys.argv) != 2:
-        sys.exit("usage: scripts/test/sizes.py PROGRAM")
-    program = Path(sys.argv[1]).resolve()
+    program = begin(parser_of(__doc__)).program
     LESS = 1 if is_proved(program) else 10
     if run_in_parts([sys.executable, "-c", IS_SHORT], "/", None)[0] != 1:
         sys.exit("no write is cut short here")
-    whole = [records_at_one_place, many_sequences, reversed_records, regions, long_lines, long_file_lines, long_names, long_bases,
-             many_short_bases, long_headers, long_rows, pairs]
+    whole = [records_at_one_place, many_sequences, reversed_records, out_of_order, regions, long_lines, long_file_lines, long_names,
+             rows_of_each_length, long_bases, many_short_bases, long_headers, long_rows, pairs]
     results = [is_right(program, *run) for kind in whole for run in kind()]
     for kind in long_prints, long_sequences:
         results += [is_right(program, *run, rooms=[*ROOMS, len(run[-1]) - 1]) for run in kind()]

@@ -3,22 +3,14 @@
 #
 #     scripts/test/workflows.sh build/bedkeep [FOLDER]     FOLDER has the examples, for instance those of an unpacked release
 set -u
-program=$(realpath "$1")
+# shellcheck source=scripts/test/on_path.sh
+. "$(dirname "$0")/on_path.sh" "$1"
 cd "${2:-$(dirname "$0")/../../examples}" || exit 1
-found=$(mktemp -d)
-trap 'rm -rf "$found"' EXIT
-mkdir "$found/path" && ln -s "$program" "$found/path/bedkeep"
-export PATH=$found/path:$PATH PYTHONDONTWRITEBYTECODE=1 XDG_CACHE_HOME=$found/cache HOME=$found
+export XDG_CACHE_HOME=$found/cache HOME=$found
 export PYTHONPATH=$PWD/../python:$PWD/../../../bedkeep/python
 cp -R workflows in_git "$found"
 cd "$found/workflows" || exit 1
-failed=0
 ran=()
-
-fails() {
-    echo "workflows: $*" >&2
-    failed=1
-}
 
 # holds FILE LINES: looks whether a file has these lines
 holds() {

@@ -1,5 +1,5 @@
 //! Arguments of runs: the plans that they are read as.
-use iv_args::{Plan, Slot, Subcommand};
+use iv_args::{Notice, Plan, Slot, Subcommand};
 use iv_lines::Fault;
 use std::test::Fail;
 use test_faults::words_of;
@@ -264,5 +264,40 @@ fn have_limits(rt: &HostRuntime, asked: &[(&[u8], u32)]) -> Result<bool, Fail> {
 #[test]
 fn limits_of_runs(rt: HostRuntime) -> Result<(), Fail> {
     assert!(rt; have_limits(&rt, &LIMITS)?);
+    Ok(())
+}
+
+/// Arguments that ask for a notice, and are no plan.
+const NOTICES: [(&[u8], Notice); 17] = [
+    (b"--help", Notice::Help),
+    (b"-h", Notice::Help),
+    (b"help", Notice::Help),
+    (b"--version", Notice::Version),
+    (b"--help session", Notice::HelpOf(Subcommand::Session)),
+    (b"help session", Notice::HelpOf(Subcommand::Session)),
+    (b"session --help", Notice::HelpOf(Subcommand::Session)),
+    (b"session -h", Notice::HelpOf(Subcommand::Session)),
+    (b"--help merge", Notice::HelpOf(Subcommand::Merge)),
+    (b"merge --help", Notice::HelpOf(Subcommand::Merge)),
+    (b"cluster -h", Notice::HelpOf(Subcommand::Cluster)),
+    (b"help complement", Notice::HelpOf(Subcommand::Complement)),
+    (b"genomecov --help", Notice::HelpOf(Subcommand::Genomecov)),
+    (b"intersect -h", Notice::HelpOf(Subcommand::Intersect)),
+    (b"help subtract", Notice::HelpOf(Subcommand::Subtract)),
+    (b"getfasta --help", Notice::HelpOf(Subcommand::Getfasta)),
+    (b"records -h", Notice::HelpOf(Subcommand::Records)),
+];
+
+/// Whether arguments, separated by spaces, ask for this notice.
+fn asks(rt: &HostRuntime, text: &[u8], notice: Notice) -> Result<bool, Fail> {
+    let words = words_of(rt.alloc(), text)?;
+    Ok(Notice::of(words.as_slice()) == Some(notice))
+}
+
+#[test]
+fn words_of_notices(rt: HostRuntime) -> Result<(), Fail> {
+    for (words, notice) in NOTICES {
+        assert!(rt; asks(&rt, words, notice)? && is_refused(&rt, words)?);
+    }
     Ok(())
 }

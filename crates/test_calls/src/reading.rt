@@ -1,5 +1,5 @@
 //! Reading whole files: up to the limits on their bytes and records, and at a real size.
-use iv_bytes::{MemSource, Source, StdSource};
+use iv_bytes::{ByteQueue, MemSource, Source, StdSource};
 use iv_lines::{Genome, LoadCause, LoadFault, RecordFault};
 use iv_run::{FileFault, read_all};
 use iv_text::BedFile;
@@ -146,4 +146,23 @@ fn two_megabytes_are_read(rt: HostRuntime) -> Result<(), Fail> {
     let text = letters(&rt, 2_000_001)?;
     assert!(rt; is_read(&rt, text.as_slice())?);
     Ok(())
+}
+
+/// Whether the queue is filled from the source, and then holds these bytes.
+fn is_filled_with(held: &mut ByteQueue, source: &mut MemSource<'_>, bytes: &[u8]) -> bool {
+    held.fill(source) == Ok(!bytes.is_empty()) && held.bytes() == bytes
+}
+
+/// A queue is filled only if it holds no byte.
+#[test]
+fn bytes_that_are_held(rt: HostRuntime) {
+    let mut source = MemSource::new(b"chr1\t10", usize::MAX, 4);
+    let mut held = ByteQueue::new();
+    assert!(rt; is_filled_with(&mut held, &mut source, b"chr1"));
+    held.skip(held.bytes().len());
+    assert!(rt; held.add(b"abc") == 3 && is_filled_with(&mut held, &mut source, b"abc"));
+    held.skip(held.bytes().len());
+    assert!(rt; is_filled_with(&mut held, &mut source, b"\t10"));
+    held.skip(held.bytes().len());
+    assert!(rt; is_filled_with(&mut held, &mut source, b""));
 }

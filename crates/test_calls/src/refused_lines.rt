@@ -1,7 +1,7 @@
 //! Refused lines of a script, while the session's next allocation fails: each is answered by its own fault, and allocates nothing.
 use crate::fixtures::{Files, alone, joined, session_in};
 use iv_bytes::{MemSink, MemSource};
-use iv_session::{ScriptLimits, run_script};
+use iv_session::{ScriptLimits, Unseen, run_script};
 use iv_workspace::Session;
 use std::alloc::Global;
 use std::test::Fail;
@@ -46,6 +46,7 @@ fn written<'a>(
         &mut source,
         &mut output,
         &mut messages,
+        &mut Unseen,
     )?;
     Ok((output, messages))
 }

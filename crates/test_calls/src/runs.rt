@@ -105,8 +105,8 @@ fn wrong_cases(rt: &HostRuntime, texts: &Texts) -> Result<u32, Fail> {
 fn subcommands_over_many_records(rt: HostRuntime) -> Result<(), Fail> {
     let texts = long_files(&rt)?;
     assert!(rt; wrong_cases(&rt, &texts)? == 0);
-    let block = (None, b"big\t0\t199995\t20000\n".as_slice());
-    let words = b"merge -d 5 -c 4 -o count -g g -i a";
+    let block = (None, b"big\t0\t199995\t20000\t0\tn\n".as_slice());
+    let words = b"merge -d 5 -c 4,5,4 -o count,sum,distinct -g g -i a";
     assert!(rt; ends(&rt, words, &inputs_of(&texts), None, block)?);
     Ok(())
 }

@@ -1,7 +1,7 @@
 //! Scripts at their limits, in pieces: how they end, and what they have written then.
 use crate::fixtures::{Files, SIZES, alone, session_of};
 use iv_bytes::{MemSink, MemSource};
-use iv_session::{RunCause, RunFault, ScriptLimits, Summary, run_script};
+use iv_session::{RunCause, RunFault, ScriptLimits, Summary, Unseen, run_script};
 use iv_workspace::Session;
 use std::test::Fail;
 
@@ -43,6 +43,7 @@ fn ends(
         &mut source,
         &mut output,
         &mut messages,
+        &mut Unseen,
     );
     Ok(
         done == want.done

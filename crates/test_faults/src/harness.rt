@@ -1,6 +1,5 @@
 //! Runs with each of their allocations refused in turn.
 use crate::RefusesNth;
-use std::alloc::Allocator;
 use std::test::Fail;
 
 /// Makes a call with its first allocation refused, once more with its second, and so on, until one meets no refusal. It answers how many
@@ -68,32 +67,4 @@ where
         holds_after(on, false)?;
     }
     Ok(is_met)
-}
-
-/// Makes a run with its first allocation refused, one with its second, and so on, until one meets no refusal. It answers the sum of what
-/// the runs give: how many of their calls were answered with out of memory. That is never more than allocations were refused in
-/// the run, so it is 0 in the last one.
-///
-/// # Errors
-///
-/// That of the first run that has one; and one if a run gives more than that, or if there is no end of allocations.
-pub fn refuse_each<B, F>(inner: B, run: F) -> Result<u32, Fail>
-where
-    B: Allocator + Copy,
-    F: Fn(&RefusesNth<B>) -> Result<u32, Fail>,
-    requires { F.IsAlwaysCallable run }
-{
-    let mut sum = 0u32;
-    for number in 1..10_000u64 {
-        let alloc = RefusesNth::new(inner, number);
-        let met = run(&alloc)?;
-        if u64::from(met) > alloc.refusals() {
-            return Err(Fail::new("more calls out of memory than growths were refused"));
-        }
-        sum = sum.saturating_add(met);
-        if !alloc.has_refused() {
-            return Ok(sum);
-        }
-    }
-    Err(Fail::new("no end of growths"))
 }

@@ -1,16 +1,16 @@
-//! For tests: an allocator that refuses one allocation, a reader and writer that goes wrong at one call, and words of a line.
+//! For tests: an allocator that refuses one allocation, readers and writers that go wrong, and words of a line.
 #![tactic(auto)]
 
 ghost use Rattle.std.specs.Prelude.{IfSome, ◌≡◌, ◌<◌};
 
-mod device;
 mod harness;
+mod stream;
 mod words;
 
-pub use device::{Bad, Device, FAILURES};
-pub use harness::{refuse_each, refused};
+pub use harness::refused;
 use std::alloc::{AllocError, Allocator};
 use std::cell::Cell;
+pub use stream::{Bad, FAILURES, Manner, Stream};
 pub use words::words_of;
 
 /// Passes every call on to the allocator inside it, but refuses one allocation, that of the given number.

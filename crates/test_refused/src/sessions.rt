@@ -22,9 +22,9 @@ pub(crate) struct Place<'t> {
 pub(crate) enum Call<'t> {
     /// `Session::new`, `Session::from_batches`, `Genome::parse`, `BedFile::parse`, `Fasta::parse`
     Begin,
-    /// `Session::open_view`
+    /// `Session::open_view`, `results_in`
     Open(Open<'t>),
-    /// `Session::add`, `Session::edit`, `Track::add`
+    /// `Session::add`, `Session::edit`, `Track::add`, `results`
     Add(&'t [u8]),
     /// `Session::remove`, `Track::remove`
     Remove(&'t [u8]),
