@@ -9,19 +9,29 @@
     for block in bedkeep.merge("sizes", "genes.bed", d=100):
         ...
 
+    bedkeep.apply("sizes", "genes.bed", "corrections", "corrected.bed")  # also `diff` and `replay`, as python3 -m bedkeep has them
+
 A record is the columns of a BED line: chromosome, start, end, and then name, score and strand if the file has them. Start
 counts from 0, and end is not included. The program is the argument `program`, else what BEDKEEP in the environment names,
 else `bedkeep` on the path, or where pip put it.
 """
+from .commands.apply import Applied, apply
+from .commands.diff import diff
+from .commands.replay import replay
 from .errors import BadOptions, Damaged, Ended, Error, InputOutput, NoMemory, NotFound, Refused
-from .rows import Row
-from .runs import Rows, cluster, complement, genomecov, getfasta, intersect, merge, subtract
+from .printed_rows import Row
+from .runs import Rows, cluster, complement, genomecov, getfasta, intersect, merge, records, subtract
 from .session import Session
 from .tables import edits, to_frame
 
 __version__ = "1.0.0"
 __all__ = [
     "BadOptions", "Damaged", "Ended", "Error", "InputOutput", "NoMemory", "NotFound", "Refused",
-    "Row", "Rows", "Session", "edits", "to_frame",
-    "cluster", "complement", "genomecov", "getfasta", "intersect", "merge", "subtract",
+    "Applied", "Row", "Rows", "Session", "apply", "diff", "edits", "replay", "to_frame",
+    "cluster", "complement", "genomecov", "getfasta", "intersect", "merge", "records", "subtract",
 ]
+
+
+def __dir__() -> list[str]:
+    """What is public; the modules aren't."""
+    return [*__all__, *(name for name in globals() if name.startswith("__"))]

@@ -1,7 +1,7 @@
 """python3 -m bedkeep"""
 import sys
 
-from .desk import main
+from .commands import main
 
 if __name__ == "__main__":
     sys.exit(main())

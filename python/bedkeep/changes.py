@@ -4,7 +4,7 @@ from __future__ import annotations
 from collections.abc import Mapping
 from typing import Iterator, Optional, Sequence
 
-from .records import Record, name_of, record_of
+from .record import Record, name_of, record_of
 
 Step = tuple[Record, int]  # copies of a record that a line puts in: 1, or -1 if it takes one out
 

@@ -14,10 +14,11 @@ import subprocess
 import weakref
 from typing import IO, Callable, NamedTuple, NoReturn, Optional, Sequence
 
+from .encoding import decoded, encoded
 from .errors import HINT, Ended, Error, ended
 from .interrupts import Interrupts
-from .program import decoded, encoded, environment
-from .rows import Lines
+from .printed_rows import Lines
+from .program import environment
 
 Take = Callable[[bytes], object]
 MARK = "?\n"
@@ -32,6 +33,13 @@ class Answer(NamedTuple):
     sent: int
     refused: dict[int, str]
     hints: dict[int, list[str]]
+
+    def within(self, count: int) -> Answer:
+        """The answer of so many lines, without that of the line before them and of the one after."""
+        numbers = range(2, count + 2)
+        return Answer(max(min(self.sent - 1, count), 0),
+                      {number - 1: reason for number, reason in self.refused.items() if number in numbers},
+                      {number - 1: listed for number, listed in self.hints.items() if number in numbers})
 
 
 class Exchange:
@@ -166,6 +174,14 @@ class Conversation:
     def is_over(self) -> bool:
         """Whether the program has ended."""
         return self._over is not None
+
+    @property
+    def state(self) -> Optional[int]:
+        """How the program ended or is stopped, as waitid has it; None if it goes on, or that can't be known."""
+        if self._over or not hasattr(os, "waitid"):
+            return None
+        state = os.waitid(os.P_PID, self._process.pid, os.WSTOPPED | os.WEXITED | os.WNOHANG | os.WNOWAIT)
+        return state.si_code if state else None
 
     def kill(self) -> None:
         """Ends the program at once; who waits for it sees its end."""

@@ -2,8 +2,10 @@
 from __future__ import annotations
 
 import re
+from typing import Optional, Sequence
 
 HINT = "  "  # how the lines of a hint begin
+FIELD = re.compile(r"field (\d+): ")  # how a hint begins that is about one field
 
 
 class Error(Exception):
@@ -22,6 +24,7 @@ class Refused(Error, ValueError):
     line:   the line as it was sent, its fields separated by TABs
     hint:   what the program says of it besides, line by line; of the first three refused lines of a kind. Its first line is in
             the text of the exception
+    field:  the number of the field that it is about, from 1, the command among them; or None
     others: what was refused after it, if `edit` raised it
     """
 
@@ -33,9 +36,24 @@ class Refused(Error, ValueError):
         self.hint = hint
         self.others: list[Refused] = []
 
+    @property
+    def field(self) -> Optional[int]:
+        return field_of(self.hint)
+
     def __str__(self) -> str:
         more = f", and {len(self.others)} more" if self.others else ""
         return ": ".join([f"line {self.number}: {self.reason}: {self.line!r}", *self.hint[:1]]) + more
+
+
+def without_fields(hints: Sequence[str]) -> list[str]:
+    """Hints without the numbers of fields, which nobody counts who didn't write the line into a file."""
+    return [FIELD.sub("", hint, count=1) for hint in hints]
+
+
+def field_of(hints: Sequence[str]) -> Optional[int]:
+    """The number of the field that the hints on a refused line are about, or None."""
+    found = FIELD.match(hints[0]) if hints else None
+    return int(found[1]) if found else None
 
 
 class Ended(Error):

@@ -15,8 +15,8 @@ from __future__ import annotations
 import re
 from typing import Collection, Mapping, NamedTuple, Optional, Sequence
 
-from .records import WIDEST, Record
-from .rows import RECORD
+from .printed_rows import RECORD
+from .record import WIDEST, Record
 
 DIGITS = re.compile("[0-9]{1,10}")
 WHOLE = re.compile("-?[0-9]{1,10}")

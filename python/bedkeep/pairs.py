@@ -2,12 +2,10 @@
 from __future__ import annotations
 
 from bisect import bisect_left
-from collections import defaultdict
-from typing import Callable, Iterable, Iterator, Mapping, NamedTuple, Optional, Sequence
+from collections import Counter, defaultdict
+from typing import Iterable, Iterator, Mapping, NamedTuple, Optional, Sequence
 
-from .records import COMMON, NAMELESS, Record, distance, name_of, overlap, split_row, strand_of
-
-Key = Callable[[Record], Optional[Record]]  # what is the same for two records that may be one, or None
+from .record import COMMON, NAMELESS, Record, distance, name_of, overlap, split_row, strand_of
 
 
 class Change(NamedTuple):
@@ -163,3 +161,15 @@ def _have_name(records: Iterable[Record], whole: Record) -> bool:
 
 def _label(record: Record) -> str:
     return name_of(record) if name_of(record) not in NAMELESS else " ".join(record[:3])
+
+
+def beyond(rows: Iterable[str], others: Iterable[str]) -> list[str]:
+    """The rows that aren't among the others, in their order, each copy once."""
+    left = Counter(others)
+    beyond = []
+    for row in rows:
+        if left[row] > 0:
+            left[row] -= 1
+        else:
+            beyond.append(row)
+    return beyond

@@ -15,10 +15,11 @@ from collections import Counter, defaultdict
 from collections.abc import Mapping
 from typing import BinaryIO, Callable, Iterable, Iterator, NamedTuple, Optional
 
+from .bed import is_header
+from .encoding import Path, decoded, encoded
 from .errors import Error
-from .files import is_header, line_text
-from .program import Path, decoded, encoded
-from .records import WIDEST, Record, split_row
+from .files import line_text
+from .record import WIDEST, Record, split_row
 from .regions import Order, Region
 from .script import Move
 

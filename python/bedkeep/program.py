@@ -1,15 +1,16 @@
-"""The path of the program, and texts of bytes in any encoding."""
+"""The path of the program, and its environment."""
 from __future__ import annotations
 
 import os
 import shutil
 import sys
 import sysconfig
-from typing import Optional, Union
+from typing import Optional
 
+from .encoding import Path
 from .errors import NotFound
 
-Path = Union[str, "os.PathLike[str]"]
+MOST = 100_000_000  # records of a file, and lines of a script: the greatest value of -limit
 
 
 def find(program: Optional[Path]) -> str:
@@ -27,13 +28,3 @@ def find(program: Optional[Path]) -> str:
 def environment() -> dict[str, str]:
     """The environment of the program: it says what is wrong and what to do, after each message."""
     return {**os.environ, "BEDKEEP_HINTS": "always"}
-
-
-def decoded(text: bytes) -> str:
-    """The text of bytes in any encoding; `encoded` gives the same bytes again."""
-    return text.decode("utf-8", "surrogateescape")
-
-
-def encoded(text: str) -> bytes:
-    """The bytes of a text."""
-    return text.encode("utf-8", "surrogateescape")

@@ -7,8 +7,8 @@ from collections import defaultdict
 from collections.abc import Mapping
 from typing import Any, Collection, Iterable, Iterator, Optional
 
-from .program import encoded
-from .records import Record
+from .encoding import encoded
+from .record import Record
 
 Region = tuple[str, int, int]
 PLACE = re.compile(r"(.+):([\d,]+)-([\d,]+)")

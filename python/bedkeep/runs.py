@@ -12,11 +12,12 @@ import os
 import subprocess
 from typing import Any, Generator, Iterator, Optional, Sequence, SupportsIndex, Union
 
+from .arguments import Genome, Sources, Track, path_of
+from .encoding import Path, decoded
 from .errors import Ended, ended
-from .program import Path, decoded, environment, find
-from .rows import Lines, Reader, Row, count_of, fields_of, width_of
+from .printed_rows import Lines, Reader, Row, count_of, fields_of, width_of
+from .program import environment, find
 from .script import text_of
-from .sources import Genome, Sources, Track, path_of
 from .tables import frame_of_rows, frame_of_text
 
 PIECE = 1 << 20
@@ -117,6 +118,11 @@ def getfasta(genome: Genome, bed: Track, fasta: Path, *, s: bool = False, width:
     s: the strand before the bases, which are those of the record's own strand.
     """
     return _run(_words("getfasta", s=s, tab=True), genome, [("-bed", bed)], width, program, fasta)
+
+
+def records(genome: Genome, bed: Track, *, width: Optional[int] = None, program: Optional[Path] = None) -> Rows:
+    """All records in the order of the genome file, those of a sequence by start and end, then by the bytes of other columns."""
+    return _run(_words("records"), genome, [("-i", bed)], width, program)
 
 
 def _words(kind: str, **options: Value) -> list[str]:

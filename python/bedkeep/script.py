@@ -11,14 +11,32 @@ from itertools import islice
 from typing import Collection, Iterable, Iterator, Optional, Sequence, SupportsIndex, Union
 
 from .changes import Changes
-from .corrections import is_marker, is_reason, is_together
 from .interrupts import Interrupts
-from .records import record_of
+from .record import record_of
 
+EDITS = {"add", "remove", "replace", "addb", "removeb", "replaceb"}
+VIEWS = {"open", "close", "print", "printall", "show", "showall"}
+TOGETHER = "together:"
+MARKER = re.compile(r"#\s*(?:(?:was|conflict|dropped):|[a-z ]+, was:|(?:[^\t]*: )?(?:(?:add|remove|replace)b?|resize)\t)")
 INVERSE = {"add": "remove", "remove": "add", "replace": "replace",
            "addb": "removeb", "removeb": "addb", "replaceb": "replaceb"}
 Move = tuple[Optional[str], Optional[str]]  # the record that a line took out, and the one that it put in
 VIEW_COMMAND = re.compile(r"\n(?:open\t|close\t|print\t|printall\n|show\t|showall\t)")
+
+
+def is_marker(text: str) -> bool:
+    """Whether a line of a script is a comment that a program wrote about one line, or a line that is commented out: no reason."""
+    return bool(MARKER.match(text))
+
+
+def is_reason(text: str) -> bool:
+    """Whether a line of a script is a comment on those below it."""
+    return text.startswith("#") and not is_marker(text)
+
+
+def is_together(text: str) -> bool:
+    """Whether it is the comment below which the lines of a paragraph are done whole or not at all."""
+    return text.startswith("#") and text[1:].strip().startswith(TOGETHER)
 
 
 def text_of(field: object) -> str:
@@ -69,6 +87,13 @@ def _refuse_other_types(lines: object) -> None:
         raise TypeError(f"edits are a text, an open file or lines, and not a {type(lines).__name__}")
     if isinstance(lines, str) and lines and not re.search("^#|[\t\n]", lines):
         raise ValueError(f"no line of a script: {lines!r}; a file of edits is handed in when it is open")
+
+
+def inverse_of(line: str) -> str:
+    """The line that takes back an edit of a record, directly after it."""
+    command, *fields = line.removesuffix("\r").split("\t")
+    half = len(fields) // 2 if command.startswith("replace") else 0
+    return "\t".join([INVERSE.get(command, command), *fields[half:], *fields[:half]])
 
 
 def is_edit(line: str) -> bool:
@@ -227,8 +252,7 @@ class Script:
         if command == "resize":
             later = sum(line.startswith(f"resize\t{fields[0]}\t") for line in lines[place + 1:])
             return line_of("resize", fields[0], self.changes().length_before(fields[0], later))
-        half = len(fields) // 2 if command.startswith("replace") else 0
-        return line_of(INVERSE[command], *fields[half:], *fields[:half])
+        return inverse_of("\t".join([command, *fields])) + "\n"
 
     def _add(self, lines: list[str]) -> None:
         """Appends the lines of a call, after an empty one if the first would get the reason of the line before."""

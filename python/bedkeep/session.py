@@ -10,22 +10,23 @@ from collections import Counter
 from collections.abc import Mapping
 from heapq import nsmallest
 from types import MappingProxyType
-from typing import Any, Callable, Iterable, Iterator, Optional, Sequence, TypeVar, Union, cast
+from typing import Any, Callable, Iterable, Iterator, NamedTuple, Optional, Sequence, TypeVar, Union, cast
 
+from .arguments import Genome, Sources, Track, path_of
+from .bed import headers_of
 from .changes import Copies
 from .conversation import Answer, Conversation, Take
-from .corrections import TOGETHER
+from .encoding import Path, decoded, encoded
 from .errors import Ended, Refused
-from .files import headers_of, is_plain, same_file, whole
+from .file_search import Lookup, stamp
+from .files import is_plain, same_file, whole
 from .interrupts import Interrupts
-from .lookup import Lookup, stamp
 from .placement import Looks, write_placed
-from .program import Path, decoded, encoded, find
-from .records import WIDEST, Record, record_of
+from .printed_rows import RECORD, Lines, Reader, Row, count_of, fields_of, row_of, shows_second, width_of
+from .program import find
+from .record import WIDEST, Record, record_of
 from .regions import Order, Region, Regions, absent
-from .rows import RECORD, Lines, Reader, Row, count_of, fields_of, row_of, shows_second, width_of
-from .script import Script, accepted, edits_of, is_edit, line_of, pieces_of, text_of
-from .sources import Genome, Sources, Track, path_of
+from .script import TOGETHER, Script, accepted, edits_of, inverse_of, is_edit, line_of, pieces_of, text_of
 from .tables import SCORE, frame_of_text, is_table, score_of
 from .wide_session import Wide, WideScript
 
@@ -34,6 +35,7 @@ STANDARD_INPUT = {"/dev/stdin", "/dev/fd/0", "/proc/self/fd/0"}
 OPENED = "view:"  # how the names of views begin that `view` opens
 UNDONE = "not done, since line"  # how the refusal of a line begins whose group has one that is refused
 LONGEST = 1 << 32  # more than a sequence can have
+HEADED = re.compile("^#(.*)\n", re.MULTILINE)  # the line above the rows of a view, of several
 REACH = 10_000  # how far from a record those near it are looked for at first
 Call = TypeVar("Call", bound=Callable[..., Any])
 
@@ -49,12 +51,28 @@ def alone(call: Call) -> Call:
     return cast(Call, locked)
 
 
+class Seen(NamedTuple):
+    """What `Session.edit_seen` saw.
+
+    refused: as `Session.edit` returns it; before, after: the rows of each open view, by its options, each with its end
+    inverse: the lines that take the edits back, with all columns of their records
+    warnings: what of these can't hold any more, as `Session.warnings` has it
+    """
+
+    refused: list[Refused]
+    before: dict[str, str]
+    after: dict[str, str]
+    inverse: list[str]
+    warnings: list[tuple[str, str]]
+
+
 class Session:
     """A track over a genome file, edited by lines of a script, and views of it.
 
     genome, bed: the files; second: the second file, for intersect, subtract and the edits of it; fasta: for getfasta;
-    width: the number of columns of a BED file without a record. No file is ever changed. A genome may be a dict of lengths,
-    and a BED file a DataFrame of pandas. wide: takes files of more than six columns, packed by gzip or not. The columns from
+    width: the number of columns of a BED file without a record; limit: how many records a file may have, and how many lines may
+    be sent, one more a call: 4,000,000 if it isn't given, at most 100,000,000. No file is ever changed. A genome may be a dict of
+    lengths, and a BED file a DataFrame of pandas. wide: takes files of more than six columns, packed by gzip or not. The columns from
     the seventh on go along with their records, and `records` and `save` have them. A line that gives them names a record by all
     columns, one that gives six leaves them, moved by the rules of BED12 and narrowPeak; a line after which they can't hold is
     refused, and the line that would fit is in its hint. leave_blocks: it is done, they are left, and `warnings` has it.
@@ -65,15 +83,14 @@ class Session:
 
     An interrupt (Ctrl-C) is raised once the answer that was begun is complete, and the session can be used on. A second
     interrupt closes it. Threads may share a session: a call waits until that of another is over. A process that was forked
-    can't use it. A call takes one more line than it sends of the 4,000,000 that the program takes. The program ends with
-    `close`, at the end of `with`, or when nobody holds the session any more.
+    can't use it. The program ends with `close`, at the end of `with`, or when nobody holds the session any more.
 
     `len` is the number of records, and `in` asks whether a record is there.
     """
 
     def __init__(self, genome: Genome, bed: Track, second: Optional[Track] = None, fasta: Optional[Path] = None,
                  width: Optional[int] = None, program: Optional[Path] = None, wide: bool = False,
-                 leave_blocks: bool = False) -> None:
+                 leave_blocks: bool = False, limit: Optional[int] = None) -> None:
         self._wide = Wide(bed, second, width, leave_blocks) if wide else None
         self._named: dict[str, list[str]] = {}
         self._opened = 0
@@ -92,6 +109,8 @@ class Session:
             words = [find(program), "session", *(word for option in self._files.items() for word in option)]
             if width is not None:
                 words += ["-width", str(min(width, WIDEST) if wide else width)]
+            if limit is not None:
+                words += ["-limit", str(limit)]
             self._source = self._wide.source if self._wide else None if is_table(bed) else self._files["-i"]
             self._source_read = stamp(self._source) if self._source else None
             if self._source_read is None:
@@ -102,7 +121,7 @@ class Session:
                 self.width = self._find_width("remove", loads=True)
             except Ended as failure:
                 self.end()
-                if not wide and any(map(_needs_wide, (bed, second))):
+                if not wide and any(map(needs_wide, (bed, second))):
                     failure.hint = ("wide=True takes files of more than six columns, and those that gzip packed",)
                 raise sources.renamed(self._wide.named(failure) if self._wide else failure) from None
             except BaseException:
@@ -228,6 +247,29 @@ class Session:
                 raise refused
 
     @alone
+    def edit_seen(self, lines: Union[str, Iterable[str]], region: Optional[Region] = None, keep: bool = True) -> Seen:
+        """Carries out edits as `edit` does, and has the rows of all open views before and after them, as `show_all` has them.
+
+        That is one exchange with the program. keep: whether the edits stay; else all are taken back, so that one sees what they
+        would do. No rows come of a region that isn't there before and after. ValueError for lines among which some, not all, are
+        done together.
+        """
+        text = edits_of(lines)
+        is_group = [is_group for _, is_group in pieces_of(text)] or [False]
+        if len(is_group) > 1:
+            raise ValueError("lines of which only some are done together")
+        look = line_of("showall", *region) if region and self._named else ""
+        printed: list[bytes] = []
+        warnings: list[tuple[str, str]] = []
+        if keep or self._wide or "resize\t" in text:
+            refused, inverse = self._see(text, is_group[0], printed.append, look, keep, warnings)
+        else:
+            refused, inverse = self._try(text, is_group[0], printed.append, look)
+        shown = self._shown(b"".join(printed))
+        before, after = (shown[0], shown[-1]) if len(shown) > 1 else ({}, {})
+        return Seen(refused, before, before if is_group[0] and refused else after, inverse, warnings)
+
+    @alone
     def undo(self) -> str:
         """Takes the last accepted edit back by the one that reverses it, and returns its line; of a group all its lines.
 
@@ -242,6 +284,12 @@ class Session:
     def inverse(self) -> str:
         """The lines that `undo` would send, each with its end. IndexError if there is no edit."""
         return "".join(self._script.reverse(place) for place in reversed(self._script.last()))
+
+    @alone
+    def inverse_of(self, first: int, count: int) -> list[str]:
+        """The lines that take back some edits, if none after them is about their records. first: the number of edits before them"""
+        places = [place for place, line in enumerate(self._script.lines()) if is_edit(line)][first:first + count]
+        return [self._script.reverse(place).rstrip("\n") for place in reversed(places)]
 
     @alone
     def explain(self, reason: str) -> None:
@@ -264,6 +312,11 @@ class Session:
         """Opens a view, such as `merge -d 10`, under a name."""
         listed = _words(words)
         self._send_one(line_of("open", name, " ".join(listed)), done=lambda _: self._named.update({name: listed}))
+
+    @alone
+    def watch(self, words: str) -> str:
+        """Opens a view if none is open with these options, and returns them, by which `show_all` has its rows."""
+        return " ".join(self._named[self._view(words)])
 
     def close(self, name: Optional[str] = None) -> None:
         """Closes a view, or ends the session."""
@@ -291,6 +344,14 @@ class Session:
         """
         name = self._view(words)
         return self._rows(name, line_of("show", name, chromosome, start, end))
+
+    @alone
+    def show_all(self, chromosome: str, start: int, end: int) -> dict[str, str]:
+        """The rows of each open view that `show` gives, by its options, as text: as the program prints them, each with its end."""
+        printed: list[bytes] = []
+        if self._named:
+            self._send_one(line_of("showall", chromosome, start, end), printed.append)
+        return self._shown(b"".join(printed))[0]
 
     @alone
     def records(self) -> list[Row]:
@@ -353,9 +414,12 @@ class Session:
     @alone
     def named(self, names: Iterable[str]) -> dict[str, list[Record]]:
         """The records of each of the names, in their order, as tuples of text, of at most six columns."""
+        listed = list(names)
         if self._lookup.is_possible:
-            return self._lookup.named(names)
-        found: dict[str, list[Record]] = {name: [] for name in names}
+            found = self._lookup.named(listed)
+            if self._lookup.is_possible:  # and was while it was read
+                return found
+        found = {name: [] for name in listed}
         for record in self._all():
             if len(record) > 3 and record[3] in found:
                 found[record[3]].append(record)
@@ -365,7 +429,9 @@ class Session:
     def search(self, part: str) -> list[Row]:
         """The records that have this in their names, in any case, in their order."""
         if self._lookup.is_possible:
-            return self._rows_of(self._lookup.search(part))
+            rows = self._rows_of(self._lookup.search(part))
+            if self._lookup.is_possible:
+                return rows
         return self._rows_of(record for record in self._all() if len(record) > 3 and part.casefold() in record[3].casefold())
 
     @alone
@@ -397,6 +463,11 @@ class Session:
         return width_of(self._files.get("-b", "")) or 0 if second else self.width
 
     @alone
+    def format(self, second: bool = False) -> str:
+        """The format of these columns, such as BED12 or narrowPeak, by the file's first record. Empty if they are text, or none."""
+        return self._wide.format(second) if self._wide else ""
+
+    @alone
     def net(self, record: Columns, second: bool = False) -> int:
         """How many copies of a record the edits put in, less those that they took out. Of its columns the first six count.
 
@@ -424,6 +495,18 @@ class Session:
         if chromosome not in lengths:
             raise ValueError(absent(chromosome, lengths))
         return lengths[chromosome]
+
+    @property
+    def narrow(self) -> str:
+        """The path of the BED file that the program reads, with at most six columns."""
+        return self._wide.narrow["-i"] if self._wide else self._files["-i"]
+
+    def is_suspended(self) -> bool:
+        """Whether a signal stopped the program, so that it answers once another one has it go on. Ended if it has ended."""
+        state = self._talk.state
+        if state is not None and state != os.CLD_STOPPED:
+            self._send("")
+        return state == os.CLD_STOPPED
 
     @alone
     def to_frame(self, words: Optional[str] = None, names: str = "bedkeep") -> Any:
@@ -549,19 +632,49 @@ class Session:
             before += piece.count("\n")
         return all_refused
 
-    def _send_group(self, text: str, before: int) -> list[Refused]:
+    def _send_group(self, text: str, before: int, take: Take = len, look: str = "") -> list[Refused]:
         """Does all edits of a text, or returns each as refused. before: how many lines of the script are before it."""
         with Interrupts():
-            refused = self._send(text, done=self._script.add, whole=True)
-            if not refused:
-                return []
-            numbers = {one.number: one for one in refused}
-            edits = [(number, line) for number, line in enumerate(text.split("\n"), 1) if is_edit(line)]
-            done = len(edits) - len(refused)
-            if done:
+            refused = self._send(text, take, self._script.add, whole=True, look=look)
+            done = sum(map(is_edit, text.split("\n"))) - len(refused)
+            if refused and done:
                 self._take_back(self._script.last_edits(done))
-            because = f"{UNDONE} {before + refused[0].number} is refused"
-            return [numbers.get(number) or Refused(because, number, line) for number, line in edits]
+            return _together(text, refused, before)
+
+    def _see(self, text: str, is_group: bool, take: Take, look: str, keep: bool,
+             warnings: list[tuple[str, str]]) -> tuple[list[Refused], list[str]]:
+        """Does edits for `edit_seen`, and returns what is refused, and what takes the others back. warnings: gets theirs"""
+        with Interrupts():
+            warned = len(self.warnings())
+            if is_group:
+                refused = self._send_group(text, 0, take, look)
+            else:
+                refused = self._send(text, take, self._script.add, whole=True, look=look)
+            places = self._script.last_edits(sum(map(is_edit, text.split("\n"))) - len(refused))
+            inverse = [self._script.reverse(place).rstrip("\n") for place in reversed(places)]
+            warnings += self.warnings()[warned:]
+            if keep:
+                self._refused = refused
+            elif places:
+                self._take_back(places)
+        return refused, inverse
+
+    def _try(self, text: str, is_group: bool, take: Take, look: str) -> tuple[list[Refused], list[str]]:
+        """The same without keeping them, in one exchange, by their inverse lines."""
+        edits = list(filter(is_edit, text.split("\n")))
+        inverse = [inverse_of(edit) for edit in reversed(edits)]
+        sent = "".join([look, text, look, *(f"{line}\n" for line in inverse)])
+        with Interrupts():
+            all_refused = {one.number: one for one in self._send(sent, take, whole=True)}
+            done = [line for number, line in enumerate(sent.split("\n"), 1)
+                    if is_edit(line) and number not in all_refused and f"{line}\n" != look]
+            if len(done) < len(edits) + len(inverse):  # An inverse may be done without its line.
+                self._send("".join(f"{inverse_of(line)}\n" for line in reversed(done)), whole=True)
+        first = bool(look) + 1
+        refused = [one for number, one in all_refused.items() if first <= number < first + text.count("\n")]
+        for one in refused:
+            one.number -= first - 1
+        return _together(text, refused, 0) if is_group else refused, inverse
 
     def _take_back(self, places: Sequence[int]) -> None:
         """Takes back the last edits, the last one first."""
@@ -582,16 +695,18 @@ class Session:
 
     @alone
     def _send(self, text: str, take: Take = len, done: Callable[[str], object] = len, whole: bool = False,
-              loads: bool = False) -> list[Refused]:
+              loads: bool = False, look: str = "") -> list[Refused]:
         """Sends lines; `take` gets what they print, and `done` those that were accepted.
 
-        whole: an interrupt leaves none out; loads: an interrupt ends the program at once
+        whole: an interrupt leaves none out; loads: an interrupt ends the program at once; look: a line to send before and after them
         """
         with Interrupts(self._talk.kill, at_once=loads) as interrupts:
             def ask(lines: str, whole: bool) -> Answer:
                 return self._talk.ask(lines, take, interrupts, whole)
 
-            sent, refused, hints = self._wide.ask(ask, text, whole) if self._wide else ask(text, whole)
+            asked = f"{look}{text}{look}"
+            answer = self._wide.ask(ask, asked, whole) if self._wide else ask(asked, whole)
+            sent, refused, hints = answer.within(text.count("\n")) if look else answer
             lines = text.split("\n") if refused or interrupts.came else []
             if lines:
                 text = accepted(lines[:sent], refused)
@@ -605,11 +720,19 @@ class Session:
         refused = self._send("".join(command + "\t" * width + "\n" for width in widths), loads=loads)
         return next(width for width, why in zip(widths, refused) if why.reason != "wrong number of columns")
 
+    def _shown(self, printed: bytes) -> list[dict[str, str]]:
+        """The rows of each view by its options, for each time that all were printed. No row begins as the line `#NAME` does."""
+        parts = HEADED.split(decoded(printed))
+        count = len(self._named)
+        rows = [dict(zip(map(" ".join, self._named.values()), parts[begin:begin + 2 * count:2]))
+                for begin in range(2, len(parts), 2 * count)] if count else []
+        return rows or [{}]
+
     def _view(self, words: str) -> str:
         """The name of the view with these options, which is opened if it isn't yet."""
         mine = [name for name in self._named if name.startswith(OPENED)]
-        for name in mine:
-            if self._named[name] == _words(words):
+        for name, listed in self._named.items():
+            if listed == _words(words):
                 return name
         self._opened += 1
         name = f"{OPENED}{self._opened}"
@@ -623,7 +746,16 @@ class Session:
         return name
 
 
-def _needs_wide(track: Track) -> bool:
+def _together(text: str, refused: Sequence[Refused], before: int) -> list[Refused]:
+    """The refusals of all edits of a text, if one is refused. before: how many lines of the script are before it."""
+    if not refused:
+        return []
+    numbers = {one.number: one for one in refused}
+    because = f"{UNDONE} {before + refused[0].number} is refused"
+    return [numbers.get(number) or Refused(because, number, line) for number, line in enumerate(text.split("\n"), 1) if is_edit(line)]
+
+
+def needs_wide(track: Track) -> bool:
     """Whether it is a file that only a wide session takes."""
     if not isinstance(track, (str, os.PathLike)) or not os.path.isfile(track):
         return False

@@ -6,9 +6,8 @@ import importlib
 import io
 from typing import Any, Iterable, Optional, Sequence
 
-from .differences import beyond
-from .pairs import changes
-from .rows import RECORD, Reader, Row, distinct, is_integer, is_number
+from .pairs import beyond, changes
+from .printed_rows import RECORD, Reader, Row, distinct, is_integer, is_number
 from .script import text_of
 
 NAMES = {

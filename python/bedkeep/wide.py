@@ -11,7 +11,7 @@ from itertools import chain, islice, repeat
 from typing import Iterable, Iterator, NamedTuple, Optional, Sequence
 
 from .formats import BED12, DIGITS, NARROW, default_tail, faults_of, follow, format_of, names_of, worse
-from .records import WIDEST, Record, split_row
+from .record import WIDEST, Record, split_row
 
 ABSENT = "no such record"
 SAMPLE = 10_000  # records of a file that show its format and what doesn't hold in it
@@ -43,9 +43,11 @@ def cut(command: str, fields: list[str], width: int) -> Cut:
 
 
 def _gives_old(fields: Sequence[str], width: int) -> bool:
-    """Whether of six columns and all columns the old record has all: what is read so looks like a record, and isn't one otherwise."""
+    """Whether of six columns and all columns the old record has all: what is read so looks like a record, and isn't one otherwise.
+
+    If both or none of them do, the name of the sequence says it."""
     first, last = fields[width:], fields[WIDEST:]
-    return _is_record(first) and (not _is_record(last) or first[0] == fields[0] != last[0])
+    return _is_record(first) if _is_record(first) != _is_record(last) else first[0] == fields[0] != last[0]
 
 
 def _is_record(fields: Sequence[str]) -> bool:
@@ -137,7 +139,7 @@ class Tails:
             return Step(old, taken, None, "")
         if old and new_tail is None:
             return self._follow(old, taken, new, leave)
-        put = default_tail(new, self.width, self._format) if new_tail is None else new_tail
+        put = default_tail(new, self.width, self.format) if new_tail is None else new_tail
         spoiled = ", ".join(self._spoiled(old, taken, new, put))
         if spoiled and not leave:
             followed = follow(old, taken, new) if old else None
@@ -171,14 +173,14 @@ class Tails:
         net = self._net.get(new)
         if net and net[put] < 0:
             return []
-        if self._is_strict and format_of(new, put) != self._format:
-            return [f"the columns from the seventh on are not those of {self._format}"]
+        if self._is_strict and format_of(new, put) != self.format:
+            return [f"the columns from the seventh on are not those of {self.format}"]
         if old:
             return worse(old, taken, new, put, self._kinds)
         return [fault.text for fault in faults_of(new, put) if fault.kind not in self._kinds]
 
     @cached_property
-    def _format(self) -> Optional[str]:
+    def format(self) -> Optional[str]:
         """The format of the file's first record, or None if it has none."""
         return next((format_of(record, tails[0]) for record, tails in self._file.items() if tails), None)
 
@@ -190,7 +192,7 @@ class Tails:
     @cached_property
     def _is_strict(self) -> bool:
         """Whether all records of the file have a format that can't be mistaken."""
-        return self._format in (BED12, NARROW) and all(format_of(*row) == self._format for row in self._sample())
+        return self.format in (BED12, NARROW) and all(format_of(*row) == self.format for row in self._sample())
 
     def _sample(self) -> Iterator[tuple[Record, str]]:
         return islice(chain.from_iterable(zip(repeat(record), tails) for record, tails in self._file.items()), SAMPLE)

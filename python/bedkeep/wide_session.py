@@ -13,14 +13,13 @@ import weakref
 from collections.abc import Mapping
 from typing import Callable, Iterator, NamedTuple, Optional, Sequence
 
+from .bed import Bed
 from .conversation import Answer
-from .corrections import EDITS
-from .errors import Ended, Error
-from .files import Bed
+from .encoding import Path, decoded, encoded
+from .errors import FIELD, Ended, Error, field_of
 from .formats import DIGITS
-from .program import Path, decoded, encoded
-from .records import WIDEST, record_of
-from .script import INVERSE, Move, Script, is_edit, line_of
+from .record import WIDEST, record_of
+from .script import EDITS, INVERSE, Move, Script, is_edit, line_of
 from .wide import Joiner, Step, Tails, Unfit, cut
 
 Ask = Callable[[str, bool], Answer]  # sends the lines of a text to the program; all of them, or those before an interrupt
@@ -84,6 +83,11 @@ class Wide:
         file = self._beds.get("-b" if second else "-i")
         return file.width if file else 0
 
+    def format(self, second: bool = False) -> str:
+        """The format of a file's columns from the seventh on."""
+        tails = self._tails.get("-b" if second else "-i")
+        return tails.format or "" if tails else ""
+
     def tails_of(self, record: Sequence[str], second: bool = False) -> list[str]:
         """The tails of the copies of a record, in the order in which they would be taken."""
         tails = self._tails.get("-b" if second else "-i")
@@ -119,7 +123,7 @@ class Wide:
             batch = _batch(lines, sent, size)
             answer, done = self._exchange(batch, ask, whole)
             refused.update((sent + number, reason) for number, reason in answer.refused.items())
-            hints.update((sent + number, list(map(self._given, hint))) for number, hint in answer.hints.items())
+            hints.update((sent + number, self._hints(batch[number - 1], hint)) for number, hint in answer.hints.items())
             sent += done
             if answer.sent < len(batch):
                 break
@@ -142,7 +146,8 @@ class Wide:
                 refused[number] = plan.refusal
             if plan.hint:
                 answer.hints[number] = list(plan.hint)
-            if number not in refused and is_edit(line):
+            command = line.split("\t", 1)[0]
+            if number not in refused and (command in EDITS or command == "resize"):
                 self.steps.append(plan.step)
                 self._resize(line)
         return answer._replace(refused=dict(sorted(refused.items()))), done
@@ -197,11 +202,16 @@ class Wide:
             tails.do(step)
         return Plan(sent, step, is_wide=True)
 
-    def _given(self, text: str) -> str:
-        """A hint with the names of the files as they were given."""
+    def _hints(self, line: str, hints: Sequence[str]) -> list[str]:
+        """Hints on a line with the names of the files as they were given, and with the number that a field has among all columns."""
+        text = "\n".join(hints)
         for bed in self._beds.values():
             text = text.replace(bed.narrow, bed.path)
-        return text
+        command, *fields = line.split("\t")
+        tails, field = self._of(command), field_of(hints) or 0
+        if tails and field > 1 + WIDEST and cut(command, fields, tails.width).old_tail is not None:
+            text = FIELD.sub(f"field {field + tails.width - WIDEST}: ", text, count=1)
+        return text.split("\n")
 
     def _undo(self, plan: Plan) -> None:
         tails = self._of(plan.sent.split("\t")[0])

@@ -4,15 +4,20 @@ import io
 import os
 import signal
 import subprocess
+import sys
 import tempfile
 import unittest
 from pathlib import Path
 from unittest import mock
 
 import bedkeep
-from bedkeep import curate, desk
+from bedkeep import commands
+from bedkeep.commands.core import opened
+from bedkeep.commands.prompt import Curator
+from bedkeep.commands.prompt_files import Given
 
 PROGRAM = os.environ["BEDKEEP"]
+os.environ["PYTHONPATH"] = str(Path(bedkeep.__file__).parent.parent)  # of what a test starts
 EXAMPLES = Path(__file__).resolve().parent.parent.parent / "examples"
 
 # A shell starts what it runs in the background with interrupts ignored, and so are those of Python then.
@@ -57,24 +62,66 @@ class Prompt(Case):
 
     def typed(self, *lines, words=None, status=0):
         """What the prompt prints for these lines, after what it says at its begin."""
-        said = io.StringIO()
         words = list(map(str, words or (self.sizes, self.genes, self.mask)))
-        with mock.patch("sys.stdin", io.StringIO("".join(f"{line}\n" for line in lines))), \
-                contextlib.redirect_stdout(said), contextlib.redirect_stderr(said):
-            self.assertEqual(curate.main(words), status)
-        listed = said.getvalue().splitlines()
+        outcome = Outcome("curate", *words, typed=lines)
+        self.assertEqual(outcome.status, status)
+        listed = (outcome.out + outcome.err).splitlines()
         begin = next((at + 1 for at, line in enumerate(listed) if line.endswith("lists the commands")), 0)
         return listed[begin + (not status and "--script" not in words):]
 
 
-class Outcome:
-    """What a command of the desk printed, on standard output and on standard error, and its status."""
+class Prompted(Case):
+    """A test of a prompt with a script, in this process."""
 
-    def __init__(self, *words):
+    def setUp(self):
+        super().setUp()
+        self.path = self.folder / "corrections"
+
+    @contextlib.contextmanager
+    def prompt(self, *answers, asked=True, genes=None, views=("merge",), second=None, **options):
+        """A prompt, as a call that types lines and returns what it says, or without a line what it says at its begin.
+
+        answers: to its questions, in their order; asked: whether somebody is there to be asked
+        """
+        left = list(answers)
+        with contextlib.ExitStack() as stack:
+            given = Given(str(self.sizes), str(genes or self.genes), second, script=str(self.path), **options)
+            core = opened(given, list(views), stack)
+            curator = Curator(core, (lambda _: left.pop(0)) if asked else None)
+
+            def says(*lines):
+                said = io.StringIO()
+                with contextlib.redirect_stdout(said):
+                    for line in lines or [None]:
+                        curator.begin() if line is None else curator.run(line)
+                return said.getvalue().splitlines()
+
+            says.session, says.curator = core.session, curator
+            yield says
+        self.assertEqual(left, [])
+
+
+class Corrected(Case):
+    """A test of commands over the texts of a BED file and of a script."""
+
+    def corrected(self, command, bed, script, *words):
+        """What a command printed, with its rows, and its messages without the script's name. Spaces are TABs in both texts."""
+        self.bed, corrections = self.file("given.bed", tabs(bed)), self.file("corrections", script_of(script))
+        outcome = Outcome(command, self.sizes, self.bed, corrections, *words)
+        outcome.rows = outcome.out.replace("\t", " ").split("\n")[:-1]
+        outcome.messages = [line.replace(f"{corrections}: ", "") for line in outcome.err.split("\n")[:-1]]
+        return outcome
+
+
+class Outcome:
+    """What a command printed, on standard output and on standard error, and its status. typed: the lines of standard input"""
+
+    def __init__(self, *words, typed=None):
         out, err = io.TextIOWrapper(io.BytesIO(), "utf-8", "surrogateescape", newline=""), io.StringIO()
-        with contextlib.redirect_stdout(out), contextlib.redirect_stderr(err):
+        lines = sys.stdin if typed is None else io.StringIO("".join(f"{line}\n" for line in typed))
+        with contextlib.redirect_stdout(out), contextlib.redirect_stderr(err), mock.patch("sys.stdin", lines):
             try:
-                self.status = desk.main([str(word) for word in words])
+                self.status = commands.main([str(word) for word in words])
             except SystemExit as end:
                 self.status = end.code
         out.flush()
@@ -85,6 +132,11 @@ class Outcome:
 def tabs(text):
     """Lines with TABs for spaces."""
     return "".join("\t".join(line.split()) + "\n" for line in text.strip().split("\n"))
+
+
+def script_of(text):
+    """The text of a script with TABs for the spaces of its lines, and not for those of comments."""
+    return "".join((line if line.startswith("#") else line.replace(" ", "\t")) + "\n" for line in text.rstrip("\n").split("\n"))
 
 
 def printed(*words, **options):

@@ -1,9 +1,15 @@
-"""Random files of each format, releases of them, and lines that a curator types, for test_formats and test_histories."""
+"""Random files of each format, releases of them, and lines that a curator types, for test_histories."""
 from slow_track import plain
 
 LENGTHS = {"chr1": 400, "chr2": 200}
 WIDTHS = {"BED3": 3, "BED4": 4, "BED6": 6, "BED9": 9, "BED12": 12, "narrowPeak": 10}
 NAMES = "abcdefgh"
+
+
+def moved(row, by):
+    """A record with all that it has, some bases further on."""
+    columns = [str(int(text) + by) if place in (1, 2) or place in (6, 7) and len(row) in (9, 12) else text for place, text in enumerate(row)]
+    return tuple(columns)
 
 
 class Maker:
@@ -87,21 +93,11 @@ class Maker:
                 row = self.changed(row)
             elif fate < 0.38:
                 out.append(self.record(row[3] if len(row) > 3 else None))
-            out.append(self.moved(row, by))
+            out.append(moved(row, by) if int(row[2]) + by <= LENGTHS[row[0]] else row)
         out += [row for row in corrected if row not in rows and pick.random() < 0.3]
         if pick.random() < 0.3:
             pick.shuffle(out)
         return out
-
-    def moved(self, row, by):
-        """A record with all that it has, some bases further on if it fits there."""
-        start, end = int(row[1]) + by, int(row[2]) + by
-        if end > LENGTHS[row[0]]:
-            return row
-        moved = (row[0], str(start), str(end), *row[3:])
-        if self.width in (9, 12):
-            moved = (*moved[:6], *(str(int(text) + by) for text in row[6:8]), *row[8:])
-        return moved
 
     def changed(self, row):
         """A record of which a release changed something, with columns after the sixth that hold."""

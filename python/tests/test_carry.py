@@ -1,17 +1,14 @@
 """Scripts of corrections: reasons, groups and markers; and what comes of their lines."""
-import os
 import subprocess
 import sys
-from pathlib import Path
 from unittest import mock
 
 import bedkeep
-from bedkeep.carry import Carrier
-from bedkeep.corrections import is_marker, read_text
-from bedkeep.three_way import Version, merge
-from helpers import Case, Outcome, tabs
-
-PACKAGE = Path(bedkeep.__file__).parent.parent
+from bedkeep.commands.carry import Carrier
+from bedkeep.commands.corrections import read_text
+from bedkeep.commands.three_way import Version, merge
+from bedkeep.script import is_marker
+from helpers import Case, Corrected, Outcome, tabs
 
 
 class Paragraphs(Case):
@@ -47,26 +44,18 @@ class Paragraphs(Case):
         self.assertEqual([line.number for line in read_text("\nadd\tx", "more", 7)], [8, 9])
 
 
-class Commands(Case):
+class Commands(Corrected):
     """What must not happen, each with its own files and commands."""
 
     def setUp(self):
         super().setUp()
         self.sizes = self.file("sizes", "chr1\t1000\n")
 
-    def run_on(self, command, bed, script, *words):
-        """A command over the text of a BED file and of a script, and what it printed; spaces for TABs in the rows."""
-        bed, script = self.file("bed", tabs(bed)), self.file("script", script.replace("~", "\t"))
-        outcome = Outcome(command, self.sizes, bed, script, *words)
-        outcome.rows = outcome.out.replace("\t", " ").split("\n")[:-1]
-        outcome.messages = [row.replace(f"{script}: ", "") for row in outcome.err.split("\n")[:-1]]
-        return outcome
-
     def mended(self, bed, script, *words):
         """What `replay --mend` writes, line by line with spaces for TABs, its status, and the rows of what `apply` makes of it."""
         mend = self.folder / "mend"
         mend.unlink(missing_ok=True)
-        status = self.run_on("replay", bed, script, "--mend", mend, *words).status
+        status = self.corrected("replay", bed, script, "--mend", mend, *words).status
         again = Outcome("apply", self.sizes, self.bed_of(bed), mend)
         return mend.read_text().replace("\t", " ").split("\n")[:-1], status, again.out.replace("\t", " ").split("\n")[:-1], again.status
 
@@ -76,62 +65,62 @@ class Commands(Case):
     def test_no_other_record_is_removed(self):
         lines, status, rows, again = self.mended(
             "chr1 100 200 isoB\nchr1 500 600 g2",
-            "# isoA is an artefact\nremove~chr1~100~200~isoA\nreplace~chr1~500~600~g2~chr1~500~620~g2\n")
+            "# isoA is an artefact\nremove chr1 100 200 isoA\nreplace chr1 500 600 g2 chr1 500 620 g2\n")
         self.assertEqual((lines, status, rows, again), ([
             "# isoA is an artefact", "# dropped: remove chr1 100 200 isoA", "replace chr1 500 600 g2 chr1 500 620 g2"], 1,
             ["chr1 100 200 isoB", "chr1 500 620 g2"], 0))
-        for bed, script in (("chr1 150 260", "remove~chr1~100~200\n"), ("chr1 900 950 MIR1", "remove~chr1~100~200~MIR1\n")):
+        for bed, script in (("chr1 150 260", "remove chr1 100 200\n"), ("chr1 900 950 MIR1", "remove chr1 100 200 MIR1\n")):
             lines, status, rows, again = self.mended(bed, script)
-            self.assertEqual((lines, status, rows, again), ([f"# dropped: {script[:-1]}".replace("~", " ")], 1, [bed], 0))
-        self.assertIn("one of its name is at chr1 900 950", self.run_on("replay", bed, script).out)
+            self.assertEqual((lines, status, rows, again), ([f"# dropped: {script[:-1]}"], 1, [bed], 0))
+        self.assertIn("one of its name is at chr1 900 950", self.corrected("replay", bed, script).out)
 
     def test_a_mended_line_moves_along_or_is_a_conflict(self):
-        script = "replace~chr1~500~600~g2~chr1~490~600~g2\n"
+        script = "replace chr1 500 600 g2 chr1 490 600 g2\n"
         self.assertEqual(self.mended("chr1 530 630 g2", script), (
             ["# was: replace chr1 500 600 g2 chr1 490 600 g2", "replace chr1 530 630 g2 chr1 520 630 g2"], 1, ["chr1 520 630 g2"], 0))
-        self.assertEqual(self.mended("chr1 510 600 g2", f"# begins earlier\n{script}add~chr1~1~2~x\n"), ([
+        self.assertEqual(self.mended("chr1 510 600 g2", f"# begins earlier\n{script}add chr1 1 2 x\n"), ([
             "# begins earlier", "# conflict: base chr1 500 600 g2 (start 500)", "# conflict: mine chr1 490 600 g2 (start 490)",
             "# conflict: theirs chr1 510 600 g2 (start 510)", "# replace chr1 500 600 g2 chr1 490 600 g2", "add chr1 1 2 x"], 1,
             ["chr1 1 2 x", "chr1 510 600 g2"], 0))
 
     def test_what_is_there_is_not_added_once_more(self):
-        outcome = self.run_on("apply", "chr1 390 500 geneC", "add~chr1~390~500~geneC\nadd~chr1~0390~500~geneC\n")
+        outcome = self.corrected("apply", "chr1 390 500 geneC", "add chr1 390 500 geneC\nadd chr1 0390 500 geneC\n")
         self.assertEqual((outcome.status, outcome.rows, outcome.messages), (0, ["chr1 390 500 geneC"], [
             "line 1: already there: chr1 390 500 geneC", "line 2: already there: chr1 390 500 geneC"]))
-        outcome = self.run_on("apply", "chr1 390 500 geneC", "add~chr1~391~500~geneC\n")
+        outcome = self.corrected("apply", "chr1 390 500 geneC", "add chr1 391 500 geneC\n")
         self.assertEqual((outcome.status, outcome.rows, outcome.messages), (1, ["chr1 390 500 geneC"], [
             "line 1: there with another start: chr1 390 500 geneC",
             "  this would fit: replace chr1 390 500 geneC chr1 391 500 geneC"]))
-        outcome = self.run_on("apply", "chr1 390 500 geneC", "add~chr1~391~500~geneC\nadd~chr1~390~500~geneC\n", "--copies")
+        outcome = self.corrected("apply", "chr1 390 500 geneC", "add chr1 391 500 geneC\nadd chr1 390 500 geneC\n", "--copies")
         self.assertEqual((outcome.status, outcome.rows), (0, ["chr1 390 500 geneC", "chr1 390 500 geneC", "chr1 391 500 geneC"]))
-        for bed, script in ("chr1 390 500", "add~chr1~391~500\n"), ("chr1 390 500 .", "add~chr1~391~500~.\n"):
-            self.assertEqual(self.run_on("apply", bed, script).status, 0)
+        for bed, script in ("chr1 390 500", "add chr1 391 500\n"), ("chr1 390 500 .", "add chr1 391 500 .\n"):
+            self.assertEqual(self.corrected("apply", bed, script).status, 0)
 
     def test_a_place_in_one_field(self):
-        self.assertEqual(self.run_on("apply", "chr1 1 2 x", "add~chr1:10-20~x\n").messages,
+        self.assertEqual(self.corrected("apply", "chr1 1 2 x", "add chr1:10-20 x\n").messages,
                          ["line 1: wrong number of columns: 2 fields; 4 are needed; chr1:10-20 is three fields"])
 
     def test_what_was_taken_out_may_come_back(self):
         """Also among copies, and beside a record of its name."""
         bed = "chr1 390 500 geneC\nchr1 390 500 geneC\nchr1 400 500 geneC"
-        outcome = self.run_on("apply", bed, "remove~chr1~390~500~geneC\nadd~chr1~390~500~geneC\nadd~chr1~390~500~geneC\n")
+        outcome = self.corrected("apply", bed, "remove chr1 390 500 geneC\nadd chr1 390 500 geneC\nadd chr1 390 500 geneC\n")
         self.assertEqual((outcome.status, outcome.messages), (0, ["line 3: already there: chr1 390 500 geneC"]))
         self.assertEqual(sorted(outcome.rows), sorted(bed.split("\n")))
-        outcome = self.run_on("apply", "chr1 100 200 A", "# together: two\nreplace~chr1~100~200~A~chr1~100~150~A\nadd~chr1~140~200~A\n")
+        outcome = self.corrected("apply", "chr1 100 200 A", "# together: two\nreplace chr1 100 200 A chr1 100 150 A\nadd chr1 140 200 A\n")
         self.assertEqual((outcome.status, outcome.rows), (0, ["chr1 100 150 A", "chr1 140 200 A"]))
 
     def test_what_an_edit_put_there_may_come_back(self):
         """As the undo of another day writes it: beside a record of its name that overlaps."""
-        script = "replace~chr1~100~200~A~chr1~110~200~A\nremove~chr1~110~200~A\nadd~chr1~110~200~A\nadd~chr1~110~200~A\n"
-        outcome = self.run_on("apply", "chr1 100 200 A\nchr1 150 300 A", script)
+        script = "replace chr1 100 200 A chr1 110 200 A\nremove chr1 110 200 A\nadd chr1 110 200 A\nadd chr1 110 200 A\n"
+        outcome = self.corrected("apply", "chr1 100 200 A\nchr1 150 300 A", script)
         self.assertEqual((outcome.status, outcome.rows, outcome.messages), (0, ["chr1 110 200 A", "chr1 150 300 A"], [
             "line 4: already there: chr1 110 200 A"]))
 
     def test_a_group_puts_what_it_adds_again(self):
         """With the columns after the sixth that followed."""
         bed = "chr1 100 200 A 0 + 100 200 0 1 100 0\nchr1 500 600 B 0 + 500 600 0 1 100 0"
-        script = "# together: x\nreplace~chr1~100~200~A~0~+~chr1~110~200~A~0~+\nadd~chr1~110~200~A~0~+~110~200~0~1~90~0\n"
-        outcome = self.run_on("apply", bed, script)
+        script = "# together: x\nreplace chr1 100 200 A 0 + chr1 110 200 A 0 +\nadd chr1 110 200 A 0 + 110 200 0 1 90 0\n"
+        outcome = self.corrected("apply", bed, script)
         self.assertEqual((outcome.status, outcome.rows, outcome.messages), (0, [
             "chr1 110 200 A 0 + 110 200 0 1 90 0", bed.split("\n")[1]], ["line 3: already there: chr1 110 200 A 0 +"]))
 
@@ -139,45 +128,45 @@ class Commands(Case):
         """A line that gives them names a record by all of them; the next release's are merged field by field."""
         old, mine = "chr1 100 200 g 0 + 120 180 0 2 10,20, 0,80,", "chr1 100 200 g 5 + 120 180 0 2 10,20, 0,80,"
         release = "chr1 100 200 g 0 + 110 190 0 3 10,30,20, 0,40,80,"
-        script = f"replace {old} {mine}\n".replace(" ", "~")
-        outcome = self.run_on("apply", release, script)
+        script = f"replace {old} {mine}\n"
+        outcome = self.corrected("apply", release, script)
         self.assertEqual((outcome.status, outcome.rows), (1, [release]))
         self.assertIn("line 1: no such record: chr1 100 200 g 0 +: the record is there with thickStart 110 instead of 120", outcome.messages[0])
         lines, status, rows, again = self.mended(release, script)
         self.assertEqual((lines, status, rows, again), ([f"# was: replace {old} {mine}", f"replace {release} {release.replace('g 0', 'g 5')}"],
                                                         1, [release.replace("g 0", "g 5")], 0))
-        self.assertEqual(self.run_on("apply", release, f"remove {old}\n".replace(" ", "~")).status, 1)
+        self.assertEqual(self.corrected("apply", release, f"remove {old}\n").status, 1)
         both = mine.replace("120 180", "130 180")
-        lines, status, rows, again = self.mended(release, f"replace {old} {both}\n".replace(" ", "~"))
+        lines, status, rows, again = self.mended(release, f"replace {old} {both}\n")
         self.assertEqual((lines[-1], lines[1], status, rows), (f"# replace {old} {both}", f"# conflict: mine {both} (thickStart 130)", 1, [release]))
 
     def test_a_shift_that_the_release_made_too(self):
         """It isn't done twice, also in a chain."""
-        lines, status, rows, again = self.mended("chr1 141 161\nchr1 175 196", "replace~chr1~175~195~chr1~171~191\nreplace~chr1~171~191~chr1~141~161\n")
+        lines, status, rows, again = self.mended("chr1 141 161\nchr1 175 196", "replace chr1 175 195 chr1 171 191\nreplace chr1 171 191 chr1 141 161\n")
         self.assertEqual((lines, rows), (["# dropped: replace chr1 175 195 chr1 171 191", "# dropped: replace chr1 171 191 chr1 141 161"],
                                          ["chr1 141 161", "chr1 175 196"]))
-        script = ("replace~chr1~37~87~e~chr1~28~78~e\nreplace~chr1~28~78~e~chr1~37~87~e\nreplace~chr1~37~87~e~chr1~37~87~b\n"
-                  "replace~chr1~37~87~b~chr1~40~90~b\n")
+        script = ("replace chr1 37 87 e chr1 28 78 e\nreplace chr1 28 78 e chr1 37 87 e\nreplace chr1 37 87 e chr1 37 87 b\n"
+                  "replace chr1 37 87 b chr1 40 90 b\n")
         lines, status, rows, again = self.mended("chr1 40 90 b", script)
-        self.assertEqual((lines, rows), ([f"# dropped: {line}".replace("~", " ") for line in script.split("\n")[:-1]], ["chr1 40 90 b"]))
-        lines, status, rows, again = self.mended("chr1 110 210 g 7", "replace~chr1~100~200~g~5~chr1~110~210~g~5\n")
+        self.assertEqual((lines, rows), ([f"# dropped: {line}" for line in script.split("\n")[:-1]], ["chr1 40 90 b"]))
+        lines, status, rows, again = self.mended("chr1 110 210 g 7", "replace chr1 100 200 g 5 chr1 110 210 g 5\n")
         self.assertEqual((lines, rows), (["# dropped: replace chr1 100 200 g 5 chr1 110 210 g 5"], ["chr1 110 210 g 7"]))
 
     def test_the_second_file(self):
         second = self.file("second", tabs("chr1 1 5 a\nchr1 1 5 a\nchr1 1 5 b"))
-        script = "addb~chr1~1~5~a\nremoveb~chr1~1~5~a\naddb~chr1~1~5~a\naddb~chr1~1~5~a\naddb~chr1~1~5~c\n"
-        outcome = self.run_on("apply", "chr1 1 2 x", script, "-b", second)
+        script = "addb chr1 1 5 a\nremoveb chr1 1 5 a\naddb chr1 1 5 a\naddb chr1 1 5 a\naddb chr1 1 5 c\n"
+        outcome = self.corrected("apply", "chr1 1 2 x", script, "-b", second)
         self.assertEqual((outcome.status, outcome.messages), (0, [
             "line 1: already there: chr1 1 5 a", "line 4: already there: chr1 1 5 a"]))
-        self.assertIn("2 already there, 3 fits", self.run_on("replay", "chr1 1 2 x", script, "-b", second).out)
+        self.assertIn("2 already there, 3 fits", self.corrected("replay", "chr1 1 2 x", script, "-b", second).out)
 
     def test_a_group_is_done_whole_or_not_at_all(self):
-        script = "# together: one gene\nreplace~chr1~100~200~A~chr1~100~400~A\nremove~chr1~300~400~B\n\nadd~chr1~1~2~x\n"
+        script = "# together: one gene\nreplace chr1 100 200 A chr1 100 400 A\nremove chr1 300 400 B\n\nadd chr1 1 2 x\n"
         bed = "chr1 100 210 A\nchr1 300 400 B"
-        outcome = self.run_on("apply", bed, script)
+        outcome = self.corrected("apply", bed, script)
         self.assertEqual((outcome.status, outcome.messages, outcome.rows), (1, [
             "line 2: no such record: chr1 100 200 A", "line 3: not done, since line 2 is refused"], ["chr1 1 2 x", *bed.split("\n")]))
-        outcome = self.run_on("apply", "chr1 100 200 A\nchr1 300 400 B", script)
+        outcome = self.corrected("apply", "chr1 100 200 A\nchr1 300 400 B", script)
         self.assertEqual((outcome.status, outcome.rows), (0, ["chr1 1 2 x", "chr1 100 400 A"]))
         lines, status, rows, again = self.mended("chr1 100 410 A\nchr1 300 400 B", script)
         self.assertEqual((lines, status, rows, again), ([
@@ -191,15 +180,15 @@ class Commands(Case):
             "remove chr1 300 400 B"], ["chr1 1 2 x", "chr1 90 400 A"], 0))
 
     def test_an_add_of_a_group_that_differs(self):
-        script = "# together: split\nremove~chr1~300~400~B\nadd~chr1~101~200~A\nremove~chr1~3O~400~C\n"
-        outcome = self.run_on("apply", "chr1 100 200 A\nchr1 300 400 B", script)
+        script = "# together: split\nremove chr1 300 400 B\nadd chr1 101 200 A\nremove chr1 3O 400 C\n"
+        outcome = self.corrected("apply", "chr1 100 200 A\nchr1 300 400 B", script)
         self.assertEqual((outcome.status, outcome.rows, outcome.messages), (1, ["chr1 100 200 A", "chr1 300 400 B"], [
             "line 2: not done, since line 3 is refused", "line 3: there with another start: chr1 100 200 A",
             "  this would fit: replace chr1 100 200 A chr1 101 200 A", "line 4: start is not a number: '3O' (start, field 3)"]))
 
     def test_reasons_stay_with_their_lines(self):
-        lines, *_ = self.mended("chr1 100 200 A\nchr1 390 500 geneC", "# lacks geneC\nadd~chr1~390~500~geneC\n# A was cut\n"
-                                "replace~chr1~100~200~A~chr1~100~210~A\n")
+        lines, *_ = self.mended("chr1 100 200 A\nchr1 390 500 geneC", "# lacks geneC\nadd chr1 390 500 geneC\n# A was cut\n"
+                                "replace chr1 100 200 A chr1 100 210 A\n")
         self.assertEqual(lines, ["# lacks geneC", "# dropped: add chr1 390 500 geneC", "", "# A was cut",
                                  "replace chr1 100 200 A chr1 100 210 A"])
         reasons = [(line.text, line.comments) for line in read_text("\n".join(lines)) if line.is_run]
@@ -304,8 +293,7 @@ class Options(Case):
     def test_nobody_reads_the_output(self):
         many = self.file("many.bed", "".join(f"chr1\t{n}\t{n + 1}\tname\n" for n in range(900)) * 100)
         for words in ["apply", self.sizes, many, self.script], ["replay", self.sizes, self.genes, self.script, "--tsv"]:
-            process = subprocess.Popen([sys.executable, "-m", "bedkeep", *map(str, words)], stdout=subprocess.PIPE, stderr=subprocess.PIPE,
-                                       env={**os.environ, "PYTHONPATH": str(PACKAGE)})
+            process = subprocess.Popen([sys.executable, "-m", "bedkeep", *map(str, words)], stdout=subprocess.PIPE, stderr=subprocess.PIPE)
             process.stdout.close()
             self.assertNotIn(b"pipe", process.stderr.read())
             process.stderr.close()

@@ -11,30 +11,24 @@ import time
 import types
 from unittest import mock
 
-import bedkeep
-import bedkeep.curator
-from bedkeep import curate
-from bedkeep.curator import Curator
-from bedkeep.journal import Journal
-from bedkeep.prompt_files import Given
-from helpers import Case, Prompt
-
-PACKAGE = str(pathlib.Path(bedkeep.__file__).parent.parent)
+from bedkeep.commands import curate
+from bedkeep.commands.prompt_help import HELP
+from helpers import Outcome, Prompt, Prompted
 
 
 class Curate(Prompt):
     def command(self, *words):
-        return [sys.executable, "-S", "-m", "bedkeep.curate", *map(str, words)]
+        return [sys.executable, "-S", "-m", "bedkeep", "curate", *map(str, words)]
 
     def environment(self):
-        return {**os.environ, "PYTHONPATH": PACKAGE, "TERM": "dumb"}
+        return {**os.environ, "TERM": "dumb"}
 
     def test_edits(self):
         self.assertEqual(
             self.typed("add chr1  390 500 geneC", "add\tchr1\t1\t2\twith space", "", "remove chr1 300 401 geneB", "ad chr1 1 2",
                        "removeb chr1 1 2", "addb chr2 1 2", "resize chr2 600", "replace chr9 1 2 x chr1 1 2 x", "intersect -c"),
-            ["done", "done", "refused: no such record", "   near: chr1 300 400 geneB", "   near: chr1 390 500 geneC",
-             "   near: chr1 100 200 geneA", "refused: ad is no command: is add meant?", "   `help` lists the commands",
+            ["done", "done", "refused: no such record", "   1 takes: remove chr1 300 400 geneB (end 1 base earlier)",
+             "refused: ad is no command: is add meant?", "   1 takes: add chr1 1 2", "   `help` lists the commands",
              "refused: no such record", "done", "done", "refused: unknown sequence",
              *self.hints("replace chr9 1 2 x chr1 1 2 x"),
              "chr1\t1\t2\twith space\t0", "chr1\t100\t200\tgeneA\t1", "chr1\t300\t400\tgeneB\t1", "chr1\t390\t500\tgeneC\t0"])
@@ -51,8 +45,9 @@ class Curate(Prompt):
                              ("add chr1 20 10 x", "start not below end"), ("add chr1 x 20 y", "start is not a number"),
                              ("resize chr1", "no such command or wrong fields"), ("resize chr1 50", "records past the new end")):
             with self.subTest(line):
-                self.assertEqual(self.typed(line), [f"refused: {reason}", *self.hints(line)])
-        self.assertEqual(self.typed("set end geneA 2000"),
+                said = self.typed(line)
+                self.assertEqual([one for one in said if " takes: " not in one], [f"refused: {reason}", *self.hints(line)])
+        self.assertEqual(self.typed("set end geneA 2000")[:-2],
                          ["named geneA: chr1 100 200 geneA", "refused: end past the sequence's end",
                           *self.hints("replace chr1 100 200 geneA chr1 100 2000 geneA")])
         said = self.typed("merge -x")
@@ -61,16 +56,20 @@ class Curate(Prompt):
 
     def test_lines_that_the_prompt_does_not_know(self):
         for line, *said in (
-                ("add chr1 10 20", "refused: wrong number of columns", "   4 columns are needed: chromosome, start, end, name"),
+                ("add chr1 10 20", "refused: wrong number of columns", "   4 columns are needed: chromosome, start, end, name",
+                 "   1 takes: add chr1 10 20 ."),
                 ("replace chr1 100 200 geneA chr1 100 250", "refused: wrong number of columns",
                  "   replace has 4 columns of the old record, and then 4 of the new one: chromosome, start, end, name"),
                 ("add chr1:11-20 x", "refused: wrong number of columns", "   4 columns are needed: chromosome, start, end, name",
-                 "   chr1:11-20 is three columns: chr1 10 20"),
-                ("closest", "refused: closest is no command: is near meant?", "   `help` lists the commands"),
+                 "   1 takes: add chr1 10 20 x"),
+                ("closest geneA", "refused: closest is no command: is near meant?", "   1 takes: near geneA", "   `help` lists the commands"),
                 ("quux", "refused: quux is no command", "   `help` lists the commands"),
-                ("undo 2", "undo takes one edit back: write it again for the one before"),
-                ("redo 2", "redo does one edit again: write it again for the next one"),
-                ("redo", "nothing to do again"), ("why", "why TEXT: the reason for the last edit"), ("why so", "nothing to undo")):
+                ("1", "refused: 1 is no command", "   `help` lists the commands"),
+                ("undo x", "undo takes the last correction back, and undo NUMBER that one; `history` has the numbers"),
+                ("undo 2", "there is no correction 2 that could be taken back"),
+                ("redo 2", "redo does one correction again: write it again for the next one"),
+                ("redo", "nothing to do again"), ("why", "why TEXT: the reason for the last correction"), ("why so", "nothing to take back"),
+                ("take", "no line needs a decision"), ("later", "no line needs a decision"), ("next", "no line needs a decision")):
             with self.subTest(line):
                 self.assertEqual(self.typed(line), said)
 
@@ -82,8 +81,10 @@ class Curate(Prompt):
              "undone: remove chr1 300 400 geneB", "at chr1 300 400, from 0: chr1 300 400 geneB", "done",
              "no record has geneX in its name, and the genome has no geneX; it has chr1, chr2", "no record is at chr1:1-5, from 1",
              "undone: remove chr1 300 400 geneB", "no record is named GENEB; named GENEB in any case:",
-             "chr1\t300\t400\tgeneB", "done", "2 records are named geneB: give the place of one, or all its columns",
-             "chr1\t5\t9\tgeneB", "chr1\t300\t400\tgeneB", "refused: wrong number of columns",
+             "chr1\t300\t400\tgeneB", "   1 takes: remove chr1 300 400", "done",
+             "2 records are named geneB: give the place of one, or all its columns",
+             "chr1\t5\t9\tgeneB", "chr1\t300\t400\tgeneB", "   1 takes: remove chr1 5 9", "   2 takes: remove chr1 300 400",
+             "refused: wrong number of columns",
              "   4 columns are needed: chromosome, start, end, name", "chr1\t5\t9\tgeneB", "chr1\t300\t400\tgeneB"])
 
     def test_undo_save_script_help(self):
@@ -92,9 +93,9 @@ class Curate(Prompt):
                           "undo", "undo", "save", "merge -x", "help", f"save {self.folder}/absent/x")
         self.assertEqual(said[:10], [
             "done", "done", "undone: remove chr1 1 2 x", "# why", "add\tchr1\t1\t2\tx", "saved", "written",
-            "undone: add chr1 1 2 x", "nothing to undo", "save FILE: the file's name is missing; save --sorted FILE has the track's order"])
+            "undone: add chr1 1 2 x", "nothing to take back", "save FILE: the file's name is missing; save --sorted FILE has the track's order"])
         self.assertEqual(said[10], "refused: bad options")
-        self.assertEqual("\n".join(said[12:-1]), bedkeep.curator.HELP)
+        self.assertEqual("\n".join(said[12:-1]), HELP)
         self.assertEqual(said[-1], f"{self.folder}/absent: no such folder")
         self.assertEqual(saved.read_text(), "chr1\t1\t2\tx\nchr1\t100\t200\tgeneA\nchr1\t300\t400\tgeneB\n")
         self.assertEqual(script.read_text(), "# why\nadd\tchr1\t1\t2\tx\n")
@@ -170,13 +171,15 @@ class Curate(Prompt):
                 ("set score geneA 5", f"score is no column of this file; {columns}"),
                 ("set end geneQ 5", "no record has geneQ in its name, and the genome has no geneQ; it has chr1, chr2"),
                 ("set start geneA 900", "named geneA: chr1 100 200 geneA", "refused: start not below end",
-                 "   the start 900 isn't below the end 200: exchange the two, if that is meant"),
-                ("set end chr1:100-200 250", "no record is at chr1:100-200, from 1; from 0 one is, chr1 100 200:", there),
+                 "   the start 900 isn't below the end 200: exchange the two, if that is meant",
+                 "   1 takes: replace chr1 100 200 geneA chr1 200 900 geneA"),
+                ("set end chr1:100-200 250", "no record is at chr1:100-200, from 1; from 0 one is, chr1 100 200:", there,
+                 "   1 takes: set end chr1 100 200 250"),
                 ("set end chr1:1-50 250", "no record is at chr1:1-50, from 1; near it:", there, "chr1\t300\t400\tgeneB"),
                 ("set end chr2:1-50 250", "no record is at chr2:1-50, from 1"),
                 ("set end 1:101-200 250", "the genome has no 1, and has chr1"),
                 ("set end gene 250", "2 records are with gene in the name: give the place of one, or all its columns", there,
-                 "chr1\t300\t400\tgeneB")):
+                 "chr1\t300\t400\tgeneB", "   1 takes: set end chr1 100 200 250", "   2 takes: set end chr1 300 400 250")):
             with self.subTest(line):
                 self.assertEqual(self.typed(line, "script"), said)
 
@@ -204,17 +207,12 @@ class Curate(Prompt):
                          ["done", asked, "saved", "saved", "written"])
         self.assertEqual(kept.read_text(), "add\tchr1\t1\t2\tx\n")
 
-    def test_no_path_through_a_missing_folder_is_written(self):
-        before, missing = self.genes.read_bytes(), self.folder / "missing"
-        said = self.typed(f"save {missing}/../{self.genes.name}", f"script {missing}/../{self.genes.name}")
-        self.assertEqual((said, self.genes.read_bytes()), ([f"{missing}/..: no such folder"] * 2, before))
-
     def test_many_rows_are_cut(self):
         said = self.typed(*(f"add chr1 {2 * number} {2 * number + 1} x" for number in range(50)), "cluster")
         self.assertEqual(said[50 + 40:], [".. and 12 more rows"])
 
     def test_a_session_that_cannot_begin(self):
-        self.assertEqual(self.typed(words=(self.sizes, "absent"), status=1), ["absent: cannot be read (status 4)", "  there is no such file: ls shows those that there are"])
+        self.assertEqual(self.typed(words=(self.sizes, "absent"), status=2), ["absent: cannot be read (status 4)", "  there is no such file: ls shows those that there are"])
 
     def test_as_a_process(self):
         run = subprocess.run(self.command(self.sizes, self.genes), input=b"find geneA\n", stdout=subprocess.PIPE,
@@ -224,59 +222,40 @@ class Curate(Prompt):
                          b"without --script FILE the edits are in memory alone: `script FILE` or `save FILE` writes them\n"
                          b"named geneA:\nchr1\t100\t200\tgeneA\n")
 
-    def test_at_a_terminal(self):
-        """A prompt, an interrupt that drops a line, and Ctrl-D."""
-        process, terminal = pty.fork()
-        if process == 0:
-            os.execve(sys.executable, self.command(self.sizes, self.genes), self.environment())
-        self.addCleanup(os.close, terminal)
-        said = b""
-
-        def types(text, wanted, times=1):
-            """Types the text until something was shown so often. A key that comes before the prompt is ready can be lost."""
-            nonlocal said
-            end = time.monotonic() + 30
-            while said.count(wanted) < times:
-                self.assertLess(time.monotonic(), end, said)
-                os.write(terminal, text)
-                while said.count(wanted) < times and select.select([terminal], [], [], 0.5)[0]:
-                    said += os.read(terminal, 1000)
-
-        types(b"", b"bedkeep> ")
-        types(b"add chr1 7", b"add chr1 7")
-        types(b"\x03", b"bedkeep> ", 2)
-        types(b"add chr1 1 2 x\n", b"done")
-        types(b"quit\n", b"quit again")
-        self.assertIn(b"2 records of 4 columns", said)
-        for _ in range(100):
-            os.write(terminal, b"\x04")
-            ended, status = os.waitpid(process, os.WNOHANG)
-            if ended:
-                break
-            time.sleep(0.1)
-        self.assertEqual((ended, status), (process, 0))
-
     @contextlib.contextmanager
-    def terminal(self, *words):
-        """A prompt at a terminal, as a call that types a text and returns what is shown until something was; then it has to end."""
+    def terminal(self, *words, end=b"quit\n"):
+        """A prompt at a terminal, as a call that types a text and returns what is shown until something was; then `end` has to end it."""
         process, terminal = pty.fork()
         if process == 0:
             os.execve(sys.executable, self.command(*words), self.environment())
+        self.addCleanup(os.close, terminal)
 
         def types(text, wanted):
+            said, until = b"", time.monotonic() + 60
             os.write(terminal, text)
-            said = b""
             while wanted not in said:
-                self.assertTrue(select.select([terminal], [], [], 30)[0], said)
-                said += os.read(terminal, 1000)
+                self.assertLess(time.monotonic(), until, said)
+                if select.select([terminal], [], [], 5)[0]:
+                    said += os.read(terminal, 1000)
+                elif not said:  # A key that comes before the prompt is ready can be lost.
+                    os.write(terminal, text)
             return said
 
-        try:
-            yield types
-            os.write(terminal, b"quit\n")
-            self.assertEqual(os.waitpid(process, 0)[1], 0)
-        finally:
-            os.close(terminal)
+        yield types
+        ended = (0, None)
+        while not ended[0]:
+            os.write(terminal, end)
+            time.sleep(0.1)
+            ended = os.waitpid(process, os.WNOHANG)
+        self.assertEqual(ended[1], 0)
+
+    def test_at_a_terminal(self):
+        """A prompt, an interrupt that drops a line, and Ctrl-D."""
+        with self.terminal(self.sizes, self.genes, end=b"\x04") as types:
+            self.assertIn(b"2 records of 4 columns", types(b"", b"bedkeep> "))
+            for text, wanted in ((b"add chr1 7", b"add chr1 7"), (b"\x03", b"bedkeep> "), (b"add chr1 1 2 x\n", b"why? "), (b"\n", b"done"),
+                                 (b"quit\n", b"quit again.\r\nbedkeep> ")):
+                types(text, wanted)
 
     def test_a_reason_at_a_terminal(self):
         script = self.folder / "corrections"
@@ -308,66 +287,45 @@ class Curate(Prompt):
 
     def test_a_script_in_the_place_of_the_second_file(self):
         script = self.file("corrections", "# why\nadd\tchr1\t1\t2\tx\n")
-        self.assertEqual(self.typed(words=(self.sizes, self.genes, script), status=1),
+        self.assertEqual(self.typed(words=(self.sizes, self.genes, script), status=2),
                          [f"{script} is a script of corrections, which comes after --script"])
 
 
-class Kept(Case):
+class Kept(Prompted):
     """The script that a prompt appends to, in this process."""
-
-    def setUp(self):
-        super().setUp()
-        self.path = self.folder / "corrections"
-
-    @contextlib.contextmanager
-    def prompt(self, answers=None):
-        """A prompt, as a call that types lines and returns what it says; `answers` are the reasons that are given."""
-        ask = None if answers is None else lambda _: answers.pop(0)
-        with bedkeep.Session(self.sizes, self.genes) as session, contextlib.closing(Journal(str(self.path))) as journal:
-            curator = Curator(session, Given(str(self.sizes), str(self.genes), None), journal, ask)
-
-            def says(*lines):
-                said = io.StringIO()
-                with contextlib.redirect_stdout(said):
-                    for line in lines:
-                        self.assertTrue(curator.run(line))
-                return said.getvalue().splitlines()
-
-            said = io.StringIO()
-            with contextlib.redirect_stdout(said):
-                curator.replay()
-            says.began, says.session, says.curator = said.getvalue().splitlines(), session, curator
-            yield says
 
     def test_reasons_and_undo(self):
         """A line without a reason comes after an empty line; the reason of a refused line isn't that of the next one."""
-        with self.prompt(["the track lacks it", "", "", "another"]) as says:
-            self.assertEqual(says.began, [])
-            self.assertEqual(says("add chr1 1 2 x", "add chr1 3 4 x", "# typed", "# twice", "add chr1 5 6 x"), ["done"] * 3)
+        with self.prompt("the track lacks it", "", "") as says:
+            self.assertEqual(says(), [])
+            shown = [f"   merge: nothing -> chr1 {start} {start + 1}" for start in (1, 3, 5)]
+            self.assertEqual(says("add chr1 1 2 x", "add chr1 3 4 x", "# typed", "# twice", "add chr1 5 6 x"),
+                             [row for one in shown for row in (one, "done")])
             lines = "# the track lacks it\nadd\tchr1\t1\t2\tx\n\nadd\tchr1\t3\t4\tx\n"
             self.assertEqual(self.path.read_text(), f"{lines}# typed\n# twice\nadd\tchr1\t5\t6\tx\n")
             self.assertEqual(says("script"), self.path.read_text().splitlines())
             says("undo")
             self.assertEqual(self.path.read_text(), lines)
-            self.assertEqual(says("# too short", "add chr1 1 2 1 2", "add chr1 7 8 x")[2:], ["   its reason isn't kept for the next line", "done"])
+            self.assertEqual(says("# too short", "add chr1 1 2 1 2", "add chr1 7 8 x")[2:],
+                             ["   1 takes: add chr1 1 2 1", "   its reason isn't kept for the next line", "   merge: nothing -> chr1 7 8", "done"])
             self.assertEqual(self.path.read_text(), f"{lines}\nadd\tchr1\t7\t8\tx\n")
             self.assertEqual(says("# a look between", "show chr1:1-2", "add chr1 9 10 x")[-1], "done")
             self.assertEqual(self.path.read_text(), f"{lines}\nadd\tchr1\t7\t8\tx\n# a look between\nadd\tchr1\t9\t10\tx\n")
             self.assertEqual(says("why it is new", "undo", "why seen in the cells", "script")[-2:],
                              ["# seen in the cells", "add\tchr1\t7\t8\tx"])
             self.assertEqual(self.path.read_text(), f"{lines}# seen in the cells\nadd\tchr1\t7\t8\tx\n")
-            self.assertEqual(says("undo", "undo", "undo", "undo")[-1], "nothing to undo")
+            self.assertEqual(says("undo", "undo", "undo", "undo")[-1], "nothing to take back")
             self.assertEqual((self.path.read_text(), says("script")), ("", []))
             says("# for nothing")
             says.curator.leave()
         self.assertEqual(self.path.read_text(), "# for nothing\n")
-        with self.prompt() as says:
+        with self.prompt(asked=False) as says:
             says("# of the next day", "add chr1 1 2 x")
         self.assertEqual(self.path.read_text(), "# for nothing\n\n# of the next day\nadd\tchr1\t1\t2\tx\n")
 
     def test_the_reason_of_a_refused_line(self):
         """It went to the next accepted line."""
-        with self.prompt() as says:
+        with self.prompt(asked=False) as says:
             says("# geneA is too short", "set end geneA 9999999", "set end geneB 450")
             says("# no such gene", "set end geneQ 5", "remove chr1 300 450 geneB", "# a typo", "ad chr1 1 2 x", "add chr1 1 2 x")
         self.assertEqual(self.path.read_text(), "replace\tchr1\t300\t400\tgeneB\tchr1\t300\t450\tgeneB\n\n"
@@ -376,11 +334,13 @@ class Kept(Case):
     def test_a_command_is_never_a_reason(self):
         """A paste of four lines at the terminal made two edits, and reasons of the other two."""
         said = "no reason is kept for the line above, since a command came; `why TEXT` gives it one"
-        with self.prompt(["add chr1 3 4 y", "# so", "set end geneA 250", "It ends there."]) as says:
-            self.assertEqual(says("add chr1 1 2 x"), ["done", said, "done", said])
-            self.assertEqual(says("add chr1 5 6 z"), ["done"])
+        with self.prompt("add chr1 3 4 y", "# so", "set end geneA 250", "It ends there.") as says:
+            one, other = "   merge: nothing -> chr1 1 2", "   merge: nothing -> chr1 3 4"
+            self.assertEqual(says("add chr1 1 2 x"), [one, said, "done", other, said, "done"])
+            self.assertEqual(says("add chr1 5 6 z"), ["   merge: nothing -> chr1 5 6", "done"])
             self.assertEqual(self.path.read_text(), "add\tchr1\t1\t2\tx\n\nadd\tchr1\t3\t4\ty\n# so\nadd\tchr1\t5\t6\tz\n")
-            self.assertEqual(says("add chr1 7 8 z"), ["done", said, "named geneA: chr1 100 200 geneA", "done"])
+            self.assertEqual(says("add chr1 7 8 z"), ["   merge: nothing -> chr1 7 8", said, "done", "named geneA: chr1 100 200 geneA",
+                                                      "   merge: chr1 100 200 -> chr1 100 250", "done"])
         self.assertEqual(self.path.read_text().splitlines()[-4:], [
             "", "add\tchr1\t7\t8\tz", "# It ends there.", "replace\tchr1\t100\t200\tgeneA\tchr1\t100\t250\tgeneA"])
 
@@ -388,8 +348,8 @@ class Kept(Case):
         """On another day the inverse of a line is a paragraph of its own, with the reason of the line, or the line itself."""
         before = "# why\r\nadd\tchr1\t1\t2\tx\nshow\tm\tchr1\t1\t2\nremove\tchr1\t7\t8\tx\n\nresize\tchr2\t600"
         self.path.write_bytes(before.encode())
-        with self.prompt() as says:
-            self.assertEqual(says.began, [f"{self.path}: line 4: no such record: remove chr1 7 8 x",
+        with self.prompt(asked=False) as says:
+            self.assertEqual(says(), [f"{self.path}: line 4: no such record: chr1 7 8 x",
                                           f"{self.path}: 2 done again, 1 refused"])
             self.assertEqual(self.path.read_bytes(), before.encode())
             self.assertEqual(says("script"), ["# why", "add\tchr1\t1\t2\tx", "", "resize\tchr2\t600"])
@@ -399,23 +359,11 @@ class Kept(Case):
             self.assertEqual((len(says.session), says("script")), (2, []))
         after = "\n# taken back: resize chr2 600\nresize\tchr2\t500\n# taken back: why\nremove\tchr1\t1\t2\tx\n"
         self.assertEqual(self.path.read_bytes(), (before + after).encode())
-        with self.prompt() as says:
+        with self.prompt(asked=False) as says:
             self.assertEqual(len(says.session), 2)
             says("# of another gene", "undo")
         after += "# taken back: of another gene\nadd\tchr1\t1\t2\tx\n"
         self.assertEqual(self.path.read_bytes(), (before + after).encode())
-
-    def test_redo(self):
-        with self.prompt() as says:
-            self.assertEqual(says("# one", "add chr1 1 2 x", "add chr1 3 4 x", "undo", "undo", "redo", "redo", "redo"),
-                             ["done", "done", "undone: add chr1 3 4 x", "undone: add chr1 1 2 x", "done", "done", "nothing to do again"])
-            text = "# one\nadd\tchr1\t1\t2\tx\n\nadd\tchr1\t3\t4\tx\n"
-            self.assertEqual(self.path.read_text(), text)
-            self.assertEqual(says("undo", "add chr1 5 6 x", "redo")[-1], "nothing to do again")
-        with self.prompt() as says:
-            says("undo", "redo")
-        self.assertEqual(self.path.read_text(), f"{text[:-len('add-chr1-3-4-x-')]}add\tchr1\t5\t6\tx\n"
-                                                "# taken back: add chr1 5 6 x\nremove\tchr1\t5\t6\tx\n\nadd\tchr1\t5\t6\tx\n")
 
     def test_no_script_is_no_script(self):
         """`--script other.bed` appended to any BED file."""
@@ -423,75 +371,31 @@ class Kept(Case):
                            ("track name=a\nchr1\t5\t9\n", "line 1 is no correction, so nothing is appended to this file: track name=a"),
                            ("# mine\n\nadd\tchr1\t1\t2\tx\nadd chr1 5 9 x\n", "line 4 has spaces for TABs: add chr1 5 9 x")):
             self.path.write_text(text)
-            said_now = io.StringIO()
-            with contextlib.redirect_stderr(said_now), mock.patch("sys.stdin", io.StringIO("remove chr1 100 200 geneA\n")), \
-                    contextlib.redirect_stdout(io.StringIO()) as out:
-                self.assertEqual(curate.main([str(self.sizes), str(self.genes), "--script", str(self.path)]), 1)
-            self.assertEqual((said_now.getvalue(), out.getvalue()), (f"{self.path}: {said}\n", ""))
-            self.assertEqual(self.path.read_text(), text)
+            outcome = Outcome("curate", self.sizes, self.genes, "--script", self.path, typed=["remove chr1 100 200 geneA"])
+            self.assertEqual((outcome.status, outcome.err, outcome.out, self.path.read_text()), (2, f"{self.path}: {said}\n", "", text))
 
     def test_no_empty_file_is_left(self):
-        with self.prompt():
+        with self.prompt(asked=False):
             self.assertTrue(self.path.exists())
         self.assertFalse(self.path.exists())
 
-    def test_two_prompts(self):
-        with self.prompt(), self.assertRaisesRegex(bedkeep.Error, "another prompt has it open"):
-            Journal(str(self.path))
-
     def test_a_script_that_was_changed_meanwhile(self):
-        def changes(_):
+        with self.prompt(asked=False) as says:
+            says("add chr1 1 2 x")
             with self.path.open("a") as file:
                 file.write("# mine")
-            return "so"
-
-        with self.prompt([]) as says:
-            says.curator._ask = changes
-            self.assertEqual(says("add chr1 1 2 x"), ["done", f"{self.path}: its last line isn't of this prompt, so the reason isn't there"])
-            says.curator._ask = None
+            self.assertEqual(says("why so"), [f"{self.path}: its last line isn't of this prompt, so the reason isn't there"])
             self.assertEqual(says("undo"), ["undone: add chr1 1 2 x"])
         self.assertEqual(self.path.read_text(),
                          "add\tchr1\t1\t2\tx\n# mine\n\n# taken back: add chr1 1 2 x\nremove\tchr1\t1\t2\tx\n")
 
-    def test_a_full_disk(self):
-        write, calls = os.pwrite, []
-
-        def full(file, text, place):
-            """Writes three bytes, and then no more; what was there is put back."""
-            calls.append(text)
-            if len(calls) == 1:
-                return write(file, text[:3], place)
-            if len(calls) == 2:
-                raise OSError(28, "No space left on device")
-            return write(file, text, place)
-
-        with self.prompt() as says:
-            says("add chr1 1 2 x")
-            before, records = self.path.read_text(), says.session.records()
-            with mock.patch("os.pwrite", full):
-                self.assertEqual(says("add chr1 3 4 x"), ["[Errno 28] No space left on device"])
-            self.assertEqual((self.path.read_text(), says.session.records()), (before, records))
-            self.assertEqual(says("add chr1 3 4 x"), ["done"])
-
-    def test_a_full_disk_at_an_undo_of_another_day(self):
-        """The inverse can't be written, so the edit is done again."""
-        with self.prompt() as says:
-            says("# why", "add chr1 1 2 x")
-        text = self.path.read_text()
-        with self.prompt() as says:
-            records = says.session.records()
-            with mock.patch("os.pwrite", side_effect=OSError(28, "No space left on device")):
-                self.assertEqual(says("undo"), ["[Errno 28] No space left on device"])
-            self.assertEqual((self.path.read_text(), says.session.records()), (text, records))
-            self.assertEqual(says("undo"), ["undone: add chr1 1 2 x"])
-
     def test_an_interrupt_of_an_edit(self):
-        with self.prompt() as says, mock.patch.object(says.session, "edit", side_effect=KeyboardInterrupt):
+        with self.prompt(asked=False) as says, mock.patch.object(says.session, "edit_seen", side_effect=KeyboardInterrupt):
             self.assertEqual(says("# why", "add chr1 1 2 x"), ["interrupted", "   its reason isn't kept for the next line"])
 
     def test_review(self):
         pages = []
-        module = types.ModuleType("bedkeep.review")
+        module = types.ModuleType("bedkeep.review.output")
 
         def write_page(genome, bed, scripts, page, second, copies, leave_blocks):
             self.assertFalse(copies or leave_blocks)
@@ -500,43 +404,34 @@ class Kept(Case):
 
         module.write_page = write_page
         page = f"{self.path}.html"
-        with mock.patch.dict("sys.modules", {"bedkeep.review": module}), mock.patch("webbrowser.open") as opened:
-            with self.prompt() as says:
+        with mock.patch.dict("sys.modules", {"bedkeep.review.output": module}), mock.patch("webbrowser.open") as browser:
+            with self.prompt(asked=False) as says:
                 self.assertEqual(says("add chr1 1 2 x", "review", "review"), ["done", f"written: {page}", f"written: {page}"])
-                opened.assert_not_called()
+                browser.assert_not_called()
                 says.curator._ask = lambda _: ""
                 self.assertEqual(says(f"review {self.path}"), [f"{self.path} is a file of this prompt, which isn't written over"])
-            with self.prompt([]) as says:
+            with self.prompt() as says:
                 self.assertEqual(says("review", "review"), [f"{page} is there already: the same line once more writes over it",
                                                             f"written: {page}"])
-                opened.assert_called_once_with(f"file://{page}")
-            with self.session() as session, contextlib.redirect_stdout(io.StringIO()):
-                curator = Curator(session, Given(str(self.sizes), str(self.genes), None))
-                curator.run("add chr1 7 8 z")
-                curator.run("review")
+                browser.assert_called_once_with(f"file://{page}")
+            Outcome("curate", self.sizes, self.genes, typed=["add chr1 7 8 z", "review"])
         given = str(self.sizes), str(self.genes)
         self.assertEqual([(*given, page, None, "add\tchr1\t1\t2\tx\n")] * 3 +
                          [(*given, f"{self.genes}.html", None, "add\tchr1\t7\t8\tz\n")], pages)
-        with mock.patch.dict("sys.modules", {"bedkeep.review": None}), self.prompt() as says:
-            self.assertEqual(says(f"review {self.folder}/x"), ["this package has no pages to review"])
 
     def test_the_command_line(self):
-        said, typed = io.StringIO(), io.StringIO("add chr1 1 2 x\n# later\nquit\n")
-        words = [str(self.sizes), str(self.genes), "--script", str(self.path)]
-        with contextlib.redirect_stdout(said), mock.patch("sys.stdin", typed):
-            self.assertEqual(curate.main(words), 0)
-        self.assertEqual(said.getvalue().splitlines(), ["2 records of 4 columns; `help` lists the commands", "done"])
+        words = "curate", self.sizes, self.genes, "--script"
+        outcome = Outcome(*words, self.path, typed=["add chr1 1 2 x", "# later", "quit"])
+        self.assertEqual((outcome.status, outcome.out), (0, "2 records of 4 columns; `help` lists the commands\ndone\n"))
         self.assertEqual(self.path.read_text(), "add\tchr1\t1\t2\tx\n# later\n")
-        for script, message in (self.genes, f"{self.genes} is a file of this session"), (self.folder, "Is a directory"):
-            said = io.StringIO()
-            with contextlib.redirect_stderr(said):
-                self.assertEqual(curate.main([*words[:3], str(script)]), 1)
-            self.assertIn(message, said.getvalue())
+        for script, message in (self.genes, f"{self.genes} is a file of this session"), (self.folder, "it is a folder"):
+            outcome = Outcome(*words, script)
+            self.assertEqual((outcome.status, message in outcome.err), (2, True))
 
     def test_an_answer_that_is_none(self):
-        for failure in KeyboardInterrupt, EOFError:
+        for failure, answer in (KeyboardInterrupt, None), (EOFError, ""):
             with mock.patch("builtins.input", side_effect=failure), contextlib.redirect_stdout(io.StringIO()):
-                self.assertEqual(curate.Typed().answer("why? "), "")
+                self.assertEqual(curate.Typed().answer("why? "), answer)
         with mock.patch("builtins.input", return_value="so"):
             self.assertEqual(curate.Typed().answer("why? "), "so")
 
@@ -546,32 +441,3 @@ class Kept(Case):
             typed = curate.Typed()
             lines = typed.lines()
             self.assertEqual([next(lines), typed.answer("why? "), *lines], ["add chr1 1 2 x", "so", "quit"])
-
-    def test_killed_after_each_line(self):
-        """Every line that was done is in the script, and the next prompt goes on from the same track."""
-        lines = ["add chr1 1 2 x", "# it ends later", "set end geneA 250", "remove chr1 300 400 geneB", "undo", "addb chr1 1 2",
-                 "resize chr2 700", "replace chr1 1 2 x chr2 1 699 x", "remove chr1 9 9 9", "add chr1 390 500 geneC"]
-        command = [sys.executable, "-S", "-m", "bedkeep.curate", self.sizes, self.genes, self.mask, "--script", self.path]
-        accepted = []
-        with bedkeep.Session(self.sizes, self.genes, self.mask) as session:
-            for line in lines:
-                with subprocess.Popen(command, stdin=subprocess.PIPE, stdout=subprocess.PIPE, bufsize=0,
-                                      env={**os.environ, "PYTHONPATH": PACKAGE}) as process:
-                    process.stdin.write(f"{line}\nfind it is over\n".encode())
-                    said = []
-                    while not said or said[-1] and not said[-1].startswith(b"no record has it is over"):
-                        said.append(process.stdout.readline())
-                    process.kill()
-                if b"done\n" in said and not line.startswith("set"):
-                    session.edit(["\t".join(line.split())], strict=True)
-                elif b"done\n" in said:
-                    session.replace(("chr1", 100, 200, "geneA"), ("chr1", 100, 250, "geneA"))
-                elif line == "undo":
-                    session.undo()
-                if b"done\n" in said:
-                    accepted.append(line)
-                with bedkeep.Session(self.sizes, self.genes, self.mask) as again, self.path.open() as script:
-                    self.assertEqual(again.edit(script), [])
-                    self.assertEqual((again.records(), again.view("intersect -wb"), again.view("complement")),
-                                     (session.records(), session.view("intersect -wb"), session.view("complement")))
-        self.assertEqual(len(accepted), 7)

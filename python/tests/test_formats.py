@@ -1,14 +1,10 @@
 """formats.py against a slow model that has each base of a record by itself, over all small records."""
 import itertools
-import random
 import unittest
 
-import bedkeep
 from bed_checks import peak_problems, problems
 from bedkeep.formats import (default_tail, faults, fields, follow, format_of, record_of_fields, shifted, tail_of, with_field,
                              worse)
-from helpers import Case
-from random_tracks import LENGTHS, WIDTHS, Maker
 
 LENGTH = 7
 
@@ -305,23 +301,3 @@ class Settings(unittest.TestCase):
                 with_field(gene, one, name, value)
         with self.assertRaisesRegex(ValueError, "^itemRgb can't be 9 in BED9$"):  # a number alone would make broadPeak of it
             with_field(gene, tail("100 200 0"), "itemRgb", "9")
-
-
-class Written(Case):
-    def test_what_is_written_passes_the_checks_of_bedtobigbed(self):
-        """Random files that pass them, and random lines, most of which are done."""
-        sizes = self.file("long", "".join(f"{name}\t{length}\n" for name, length in LENGTHS.items()))
-        done = refused = 0
-        for format, seed in itertools.product(("BED9", "BED12", "narrowPeak"), range(25)):
-            maker = Maker(random.Random(seed), format)
-            rows = maker.file(8)
-            bed = self.file("bed", "".join("\t".join(row) + "\n" for row in rows))
-            with bedkeep.Session(sizes, bed, wide=True) as session, self.subTest(format=format, seed=seed):
-                for _ in range(4):
-                    refused += len(session.edit("\t".join(maker.line(rows)) for _ in range(5)))
-                    rows = [tuple(map(str, row)) for row in session.records()]
-                done += session.script().count("\n")
-                session.save(self.folder / "out")
-                for line in (self.folder / "out").read_text().split("\n")[:-1]:
-                    self.assertEqual(peak_problems(line) if format == "narrowPeak" else problems(line, WIDTHS[format]), [], line)
-        self.assertGreater(min(done, refused), 150)

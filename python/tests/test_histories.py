@@ -11,10 +11,11 @@ from collections import Counter
 from unittest import mock
 
 from bed_checks import peak_problems, problems
-from bedkeep import curate
-from bedkeep.inputs import Inputs
+from bedkeep import commands
+from bedkeep.commands.input_files import Inputs
 from helpers import Case, Outcome
-from random_tracks import LENGTHS, WIDTHS, Maker
+from random_tracks import LENGTHS, WIDTHS, Maker, moved
+from slow_classes import overlap
 from slow_track import DONE, REFUSED, THERE, Slow, plain
 
 COUNT = int(os.environ.get("HISTORIES", "60"))
@@ -132,7 +133,7 @@ class Histories(Case):
         out = io.StringIO()
         with mock.patch("sys.stdin", Typing(lines, kill)), contextlib.redirect_stdout(out), contextlib.redirect_stderr(out):
             try:
-                status = curate.main([str(self.sizes), str(bed), "--script", str(script)])
+                status = commands.main(["curate", str(self.sizes), str(bed), "--script", str(script)])
             except Killed:
                 status = 0
                 self.seen["kill"] += 1
@@ -201,7 +202,7 @@ class Histories(Case):
     def check_fields(self, base, mine, theirs, merged, format):
         by = int(theirs[1]) - int(base[1])
         if by == int(theirs[2]) - int(base[2]) and base[0] == theirs[0]:
-            base, mine = (moved(row, by, format) for row in (base, mine))
+            base, mine = (moved(row, by) for row in (base, mine))
         base, mine, theirs, merged = (named(row, format) for row in (base, mine, theirs, merged))
         for name, value in merged.items():
             if name in base and name in theirs and name in mine:
@@ -220,21 +221,9 @@ def is_same_record(base, taken, became):
     return base[:3] == taken[:3] or overlap(base, taken) and base[3:] == taken[3:] and len(base) > 3
 
 
-def overlap(one, other):
-    return one[0] == other[0] and int(one[1]) < int(other[2]) and int(other[1]) < int(one[2])
-
-
 def is_moved(one, other):
     """Whether two records are of one length."""
     return int(other[1]) - int(one[1]) == int(other[2]) - int(one[2])
-
-
-def moved(row, by, format):
-    """A record with all that it has, some bases further on."""
-    row = (row[0], str(int(row[1]) + by), str(int(row[2]) + by), *row[3:])
-    if format in ("BED9", "BED12") and len(row) > SHORT:
-        row = (*row[:6], *(str(int(text) + by) for text in row[6:8]), *row[8:])
-    return row
 
 
 def named(row, format):

@@ -1,7 +1,7 @@
 """Places as people write them, and what is said of each."""
 import unittest
 
-from bedkeep.places import NoPlace, Place, absent, read_place
+from bedkeep.commands.places import NoPlace, Place, absent, read_place
 
 LENGTHS = {"chr1": 1000, "chr2": 500, "chrM": 100, "HLA:A*01:01": 50, "chrX_random": 10}
 

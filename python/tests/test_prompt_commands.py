@@ -3,7 +3,7 @@ import contextlib
 import io
 from unittest import mock
 
-from bedkeep import curate
+from bedkeep import commands
 from helpers import Outcome, Prompt
 
 
@@ -112,7 +112,8 @@ class Together(Kept):
         self.assertEqual(self.said[:2], ["named geneB: 2 records", "done: 2 lines together"])
         self.assertEqual(self.script("rename\tgeneB\tnew name").count("\tnew name\t"), 2)
         for line, *said in (("rename geneB geneB", "nothing changes"), ("rename geneb x", "no record is named geneb; named geneb in any case:",
-                                                                     "chr1\t150\t260\tgeneB\t7\t.", "chr1\t300\t400\tgeneB\t0\t-"),
+                                                                     "chr1\t150\t260\tgeneB\t7\t.", "chr1\t300\t400\tgeneB\t0\t-",
+                                                                     "   1 takes: rename chr1 150 260 x", "   2 takes: rename chr1 300 400 x"),
                             ("rename geneB", "rename OLD NEW, such as rename geneA geneX"),
                             ("rename zzz x", "no record has zzz in its name, and the genome has no zzz; it has chr1, chr2")):
             self.assertEqual(self.script(line), "")
@@ -129,11 +130,13 @@ class Together(Kept):
         with mock.patch("sys.stdin", io.StringIO("\n".join(["# together: one gene", "# of two", *lines]))):
             self.corrections.unlink()
             with contextlib.redirect_stdout(io.StringIO()):
-                self.assertEqual(curate.main(list(map(str, self.words))), 0)
+                self.assertEqual(commands.main(["curate", *map(str, self.words)]), 0)
             self.assertEqual(self.corrections.read_text(), text)
         self.assertEqual(self.script("# together: one gene", lines[0], "remove chr1 150 261 geneB 7 .", "", "undo"), "")
-        self.assertEqual(self.said[:2], ["refused: no such record in remove chr1 150 261 geneB 7 .", "   near: chr1 150 260 geneB 7 ."])
-        self.assertEqual(self.said[-3:-1], ["   its reason isn't kept for the next line", "nothing to undo"])
+        self.assertEqual(self.said[:2], ["refused: no such record in remove chr1 150 261 geneB 7 .",
+                                         f"   1 takes: {lines[0]}; {lines[1]} (end 1 base earlier)"])
+        self.assertEqual(self.said[-3:-1], ["   its reason isn't kept for the next line", "nothing to take back"])
+        self.assertEqual(self.script("# together: one gene", "# of two", lines[0], "remove chr1 150 261 geneB 7 .", "", "1"), text)
 
     def test_a_group_on_another_day(self):
         first = self.script("# one gene", "merge chr1:101-200 chr1 150 260")
@@ -223,7 +226,7 @@ class Blocks(Kept):
         self.assertEqual(self.script("set end g 105"), "")
         self.assertEqual(self.said[0], f"named g: {self.g}".replace("\t", " "))
         self.assertEqual(self.said[1], "refused: the end 105 is within block 1 of 2")
-        self.assertIn("this would fit: replace chr1 100 200 g 0 + ", self.said[2])
+        self.assertIn("1 takes: replace chr1 100 200 g 0 + ", self.said[2])
         self.assertIn(" chr1 100 105 g 0 + 100 100 0 1 5, 0,", self.said[2])
 
     def test_leave_blocks(self):

@@ -2,7 +2,6 @@ import random
 from collections import Counter
 
 import bedkeep
-from bedkeep.replay import replay
 from helpers import Case, tabs
 from slow_classes import DOABLE, Edit, Slow, carried, overlap
 
@@ -103,13 +102,13 @@ class RandomScripts(Replays):
             release = [entry[:2] for entry in carried(release, [edit for edit in edits if pick.random() < 0.7], True, default)[1].now] or release
         ignore, copies = pick.choice([[], [], ["score"], ["name"], ["strand", "name"]]), pick.random() < 0.3
         second = not wide and pick.random() < 0.3
-        slow = Slow(release, edits, LENGTHS, [bedkeep.rows.RECORD.index(name) for name in ignore], copies, default, not second)
+        slow = Slow(release, edits, LENGTHS, [bedkeep.printed_rows.RECORD.index(name) for name in ignore], copies, default, not second)
         expected = slow.all()
         self.bed, self.other = self.bed_of("release", release), self.bed_of("other", [(("chr1", "1", "2"), ())])
         if second:
             self.bed, self.other = self.other, self.bed
         script = self.file("corrections", script_of(edits, second, pick))
-        replayed = replay(self.sizes, self.bed, [script], self.other, ignore, copies)
+        replayed = bedkeep.replay(self.sizes, self.bed, [script], self.other, ignore, copies)
         self.assertEqual([verdict(finding.line) for finding in replayed.findings], list(slow.verdicts.values()))
         for finding, (kind, found, by, mended), edit in zip(replayed.findings, expected, edits):
             self.assertEqual((finding.kind, of_track(finding.mended), finding.by and of_track(finding.by.text)),
@@ -128,7 +127,7 @@ class RandomScripts(Replays):
         live = [finding for finding in replayed.findings
                 if finding.kind not in ("conflict", "already so", "already there") and finding.line.group not in out]
         text = "".join(f"{line}\n" for line in replayed.mended())
-        again = replay(self.sizes, self.bed, [self.file("mended", text)], self.other, (), copies)
+        again = bedkeep.replay(self.sizes, self.bed, [self.file("mended", text)], self.other, (), copies)
         self.assertEqual([finding.line.text for finding in again.findings], [finding.mended or finding.line.text for finding in live])
         for finding, later in zip(live, again.findings):
             old, found = finding.line.old, finding.found
@@ -183,14 +182,10 @@ class Releases(Replays):
 
     def replay(self, release, **options):
         self.release = self.bed("release", release)
-        return replay(self.sizes, self.release, [self.corrections], **options)
+        return bedkeep.replay(self.sizes, self.release, [self.corrections], **options)
 
     def refused_when_mended(self, replayed):
         return len(self.reasons(self.sizes, self.release, list(replayed.mended())))
-
-    def test_the_same_release(self):
-        replayed = self.replay(self.records)
-        self.assertEqual((self.kinds(replayed), replayed.is_refused), (Counter({"fits": 50}), False))
 
     def test_a_release_that_was_rescored(self):
         replayed = self.replay(self.rescored)
@@ -201,8 +196,6 @@ class Releases(Replays):
             fields = finding.mended.split("\t")
             self.assertEqual(fields[5::6], [scores[fields[4]]] * (1 if fields[0] == "remove" else 2))
         self.assertEqual(self.refused_when_mended(replayed), 0)
-
-    def test_a_release_that_was_rescored_and_scores_ignored(self):
         replayed = self.replay(self.rescored, ignore="score")
         self.assertEqual((self.kinds(replayed), replayed.is_refused), (Counter({"fits but for": 45, "fits": 5}), False))
         self.assertEqual(self.refused_when_mended(replayed), 0)
@@ -239,30 +232,18 @@ class Particular(Replays):
     def of(self, release, script, second=None, **options):
         other = self.file("second", tabs(second)) if second else None
         sizes, bed = self.file("sizes", "chr1\t1000\n"), self.file("release", tabs(release))
-        return replay(sizes, bed, [self.file("corrections", tabs(script))], other, **options)
+        return bedkeep.replay(sizes, bed, [self.file("corrections", tabs(script))], other, **options)
 
-    def listed(self, *given, **options):
-        return [finding.kind for finding in self.of(*given, **options).findings]
-
-    def test_both_changed_one_column(self):
-        """Nobody settles that but a person. If both came to the same there is nothing to settle."""
-        finding = self.of("chr1 12 30 a", "replace chr1 10 30 a chr1 11 30 a").findings[0]
-        self.assertEqual((finding.kind, finding.mended, finding.unlike, finding.found),
-                         ("conflict", "", ("start",), ("chr1", "12", "30", "a")))
-        finding = self.of("chr1 10 35 a 7", "replace chr1 10 30 a 5 chr1 9 35 a 5").findings[0]
-        self.assertEqual((finding.kind, finding.mended.split("\t")[1:]),
-                         ("moved", "chr1 10 35 a 7 chr1 9 35 a 7".split()))
-
-    def test_both_ends_moved_by_one_distance(self):
-        """The correction moves along, unless it would leave the sequence."""
-        finding = self.of("chr1 530 630 g2", "replace chr1 500 600 g2 chr1 490 600 g2").findings[0]
-        self.assertEqual((finding.kind, finding.mended.split("\t")[1:]), ("moved", "chr1 530 630 g2 chr1 520 630 g2".split()))
-        for release, script in (("chr1 0 90 a", "replace chr1 10 100 a chr1 9 100 a"), ("chr1 950 1000 a", "replace chr1 900 950 a chr1 900 960 a")):
-            self.assertEqual(self.listed(release, script), ["conflict"])
-
-    def test_what_is_found(self):
-        """By the name and an overlap alone; without a name by the place, or by the other columns and an overlap."""
-        for release, script, kind in (
+    def test_classes(self):
+        chain = "replace chr1 10 30 a chr1 11 30 a\nreplace chr1 11 30 a chr1 12 30 a"
+        removed = "remove chr1 10 30 a\nremove chr1 40 50 b\nreplace chr1 60 70 c chr1 60 71 c\n"
+        scored = "replace chr1 10 30 a 1 chr1 11 30 a 1\nremove chr1 11 30 a 1"
+        named = "replace chr1 10 30 a chr1 10 31 a\nremove chr1 12 40 a"
+        for release, script, kinds, *options in (
+            # Both ends moved by one distance, and the correction would leave the sequence.
+            ("chr1 0 90 a", "replace chr1 10 100 a chr1 9 100 a", "conflict"),
+            ("chr1 950 1000 a", "replace chr1 900 950 a chr1 900 960 a", "conflict"),
+            # A record is found by its name and an overlap alone; without a name by its place, or by its other columns and an overlap.
             ("chr1 150 260", "replace chr1 100 200 chr1 100 210", "gone"),
             ("chr1 150 260 .", "replace chr1 100 200 . chr1 100 210 .", "gone"),
             ("chr1 90 200 . 5 +", "replace chr1 100 200 . 5 + chr1 100 210 . 5 +", "moved"),
@@ -273,40 +254,46 @@ class Particular(Replays):
             ("chr1 200 300 a", "replace chr1 100 200 a chr1 100 210 a", "conflict"),
             ("chr1 200 290 a", "replace chr1 100 200 a chr1 100 210 a", "gone"),
             ("chr1 199 290 a", "remove chr1 100 200 a", "moved"),
+            # A record that another line names is left to that line.
+            ("chr1 10 31 a", named, "already so, already so"), ("chr1 12 40 a", named, "gone, fits"),
+            ("chr1 11 30 a 9 +", "replace chr1 10 30 a 5 + chr1 11 30 a 5 +", "already so"),
+            # Over the corrected track those at the place and of the name of one that was removed aren't taken for it.
+            ("chr1 10 30 other\nchr1 80 90 b\nchr1 60 71 c", removed, "already so, already so, already so"),
+            ("chr1 10 30 other\nchr1 80 90 b\nchr1 60 72 c", removed, "already so, already so, conflict"),
+            ("chr1 10 30 other\nchr1 80 90 b\nchr1 10 31 a\nchr1 60 71 c", removed, "moved, already so, already so"),
+            ("chr1 12 30 a", chain, "already so, already so"), ("chr1 10 40 a", chain, "moved, moved"),
+            ("chr1 10 30 a 2\nchr1 11 30 a 2", "replace chr1 10 30 a 1 chr1 11 30 a 1\nreplace chr1 11 30 a 1 chr1 12 30 a 1\n"
+             "replace chr1 11 30 a 1 chr1 13 30 a 1\nremove chr1 11 30 a 2", "changed, changed, taken out, fits"),
+            ("chr1 10 30 a 2", "replace chr1 10 30 a 1 chr1 10 30 b 2\nreplace chr1 10 30 b 2 chr1 12 30 b 2", "changed, follows"),
+            # Of those that differ in columns that may differ one alone is taken.
+            ("chr1 10 30 a 2", scored, "fits but for, fits but for", "score"), ("chr1 10 30 a 2\nchr1 10 30 a 3", scored, "conflict, conflict", "score"),
+            ("chr1 10 30 b 2", scored, "fits but for, fits but for", "score", "name"),
+            ("chr1 11 30 b 1", "remove chr1 11 30 a 1", "already so", "name"), ("chr1 11 30 a 2", "remove chr1 11 30 a 1", "fits but for", "score"),
+            ("chr1 10 30 a\nchr1 10 30 a", "remove chr1 10 30 a\nremove chr1 10 31 a", "fits, already so"),
+            ("chr1 10 30 a", "remove chr1 10 31 a\nremove chr1 10 30 a", "already so, fits"),
+            ("chr1 10 30", "remove chr1 10 30\nremove chr1 10 30", "fits, taken out"),
         ):
-            self.assertEqual(self.listed(release, script), [kind], (release, script))
+            with self.subTest(release=release, script=script):
+                self.assertEqual(", ".join(finding.kind for finding in self.of(release, script, ignore=options).findings), kinds)
 
-    def test_a_record_that_another_line_names(self):
-        """It is left to that line."""
-        script = "replace chr1 10 30 a chr1 10 31 a\nremove chr1 12 40 a"
-        self.assertEqual(self.listed("chr1 10 31 a", script), ["already so", "already so"])
-        self.assertEqual(self.listed("chr1 12 40 a", script), ["gone", "fits"])
-
-    def test_the_release_made_it_and_rescored(self):
-        self.assertEqual(self.listed("chr1 11 30 a 9 +", "replace chr1 10 30 a 5 + chr1 11 30 a 5 +"), ["already so"])
-
-    def test_a_record_that_was_removed_beside_others(self):
-        """Over the corrected track those at its place and of its name aren't taken for it."""
-        script = "remove chr1 10 30 a\nremove chr1 40 50 b\nreplace chr1 60 70 c chr1 60 71 c\n"
-        left = "chr1 10 30 other\nchr1 80 90 b\n"
-        self.assertEqual(self.listed(left + "chr1 60 71 c", script), ["already so"] * 3)
-        self.assertEqual(self.listed(left + "chr1 60 72 c", script), ["already so", "already so", "conflict"])
-        self.assertEqual(self.listed(left + "chr1 10 31 a\nchr1 60 71 c", script), ["moved", "already so", "already so"])
-
-    def test_a_chain(self):
-        script = "replace chr1 10 30 a chr1 11 30 a\nreplace chr1 11 30 a chr1 12 30 a"
-        self.assertEqual(self.listed("chr1 12 30 a", script), ["already so", "already so"])
-        self.assertEqual(self.listed("chr1 10 40 a", script), ["moved", "moved"])
-
-    def test_a_chain_over_a_rescored_release(self):
-        script = "replace chr1 10 30 a 1 chr1 11 30 a 1\nreplace chr1 11 30 a 1 chr1 11 31 a 1\nremove chr1 11 31 a 1"
-        self.assertEqual([one.mended.split("\t")[1:6] for one in self.of("chr1 10 30 a 2", script).findings],
-                         [["chr1", "10", "30", "a", "2"], ["chr1", "11", "30", "a", "2"], ["chr1", "11", "31", "a", "2"]])
-
-    def test_a_chain_leaves_a_copy_to_the_line_that_had_it(self):
-        script = ("replace chr1 10 30 a 1 chr1 11 30 a 1\nreplace chr1 11 30 a 1 chr1 12 30 a 1\n"
-                  "replace chr1 11 30 a 1 chr1 13 30 a 1\nremove chr1 11 30 a 2")
-        self.assertEqual(self.listed("chr1 10 30 a 2\nchr1 11 30 a 2", script), ["changed", "changed", "taken out", "fits"])
+    def test_mended_lines_and_notes(self):
+        release = "\n".join(f"chr1 {n * 10} {n * 10 + 8} gene" for n in range(90))
+        for release, script, *found in (
+            ("chr1 12 30 a", "replace chr1 10 30 a chr1 11 30 a", ("conflict", "", "")),  # nobody settles that but a person
+            ("chr1 10 35 a 7", "replace chr1 10 30 a 5 chr1 9 35 a 5", ("moved", "replace chr1 10 35 a 7 chr1 9 35 a 7", "")),
+            ("chr1 530 630 g2", "replace chr1 500 600 g2 chr1 490 600 g2", ("moved", "replace chr1 530 630 g2 chr1 520 630 g2", "")),
+            ("chr1 25 30 a", "replace chr1 10 30 a chr1 10 20 a", ("conflict", "", "start and end of the mended record don't fit")),
+            ("chr1 12 30 a\nchr1 8 30 a", "replace chr1 10 30 a chr1 10 31 a", ("conflict", "", "2 records fit equally")),
+            (release, "remove chr1 13 18 gene\nremove chr1 8 9 gene", ("moved", "remove chr1 10 18 gene", ""),
+             ("already so", "", "no record like it is there")),
+            ("chr1 10 30 a 2", "replace chr1 10 30 a 1 chr1 11 30 a 1\nremove chr1 11 30 a 1",
+             ("changed", "replace chr1 10 30 a 2 chr1 11 30 a 2", ""), ("changed", "remove chr1 11 30 a 2", "")),
+        ):
+            with self.subTest(script=script):
+                self.assertEqual([(one.kind, one.mended.replace("\t", " "), one.note) for one in self.of(release, script).findings], found)
+        self.assertEqual(self.of("chr1 12 30 a", "replace chr1 10 30 a chr1 11 30 a").findings[0].unlike, ("start",))
+        self.assertEqual(list(self.of("chr1 1 2", "add chr1 01 2").mended()), ["# dropped: add\tchr1\t01\t2"])
+        self.assertEqual(list(self.of("chr1 1 2", "add chr1 01 2", copies=True).mended()), ["add\tchr1\t01\t2"])
 
     def test_a_chain_over_a_conflict(self):
         """What would come of a line that isn't settled isn't settled either."""
@@ -314,35 +301,6 @@ class Particular(Replays):
         replayed = self.of("chr1 10 40 a", script)
         self.assertEqual([(one.kind, one.by and one.by.number) for one in replayed.findings], [("conflict", None), ("conflict", 1), ("conflict", 2)])
         self.assertEqual([line for line in replayed.mended() if not line.startswith("#")], [])
-
-    def test_a_line_that_follows(self):
-        script = "replace chr1 10 30 a 1 chr1 10 30 b 2\nreplace chr1 10 30 b 2 chr1 12 30 b 2"
-        self.assertEqual(self.listed("chr1 10 30 a 2", script), ["changed", "follows"])
-
-    def test_a_mended_record_that_has_no_length(self):
-        finding = self.of("chr1 25 30 a", "replace chr1 10 30 a chr1 10 20 a").findings[0]
-        self.assertEqual((finding.kind, finding.mended, finding.note),
-                         ("conflict", "", "start and end of the mended record don't fit"))
-
-    def test_ignore_takes_one_alone(self):
-        script = "replace chr1 10 30 a 1 chr1 11 30 a 1\nremove chr1 11 30 a 1"
-        self.assertEqual(self.listed("chr1 10 30 a 2", script, ignore="score"), ["fits but for", "fits but for"])
-        self.assertEqual(self.listed("chr1 10 30 a 2\nchr1 10 30 a 3", script, ignore="score")[0], "conflict")
-        self.assertEqual(self.listed("chr1 10 30 b 2", script, ignore=["score", "name"]), ["fits but for", "fits but for"])
-        self.assertEqual(self.listed("chr1 11 30 b 1", "remove chr1 11 30 a 1", ignore="name"), ["already so"])
-        self.assertEqual(self.listed("chr1 11 30 a 2", "remove chr1 11 30 a 1", ignore="score"), ["fits but for"])
-
-    def test_copies(self):
-        script = "remove chr1 10 30 a\nremove chr1 10 31 a"
-        self.assertEqual(self.listed("chr1 10 30 a\nchr1 10 30 a", script), ["fits", "already so"])
-        script = "remove chr1 10 31 a\nremove chr1 10 30 a"
-        self.assertEqual(self.listed("chr1 10 30 a", script), ["already so", "fits"])
-        self.assertEqual(list(self.of("chr1 1 2", "add chr1 01 2").mended()), ["# dropped: add\tchr1\t01\t2"])
-        self.assertEqual(list(self.of("chr1 1 2", "add chr1 01 2", copies=True).mended()), ["add\tchr1\t01\t2"])
-
-    def test_a_record_that_a_line_took(self):
-        taken = self.of("chr1 10 30", "remove chr1 10 30\nremove chr1 10 30").findings[1]
-        self.assertEqual((taken.kind, taken.by.number), ("taken out", 1))
 
     def test_bad_lines(self):
         script = ("replace chr1 10 30 chr1 3O 40\nadd chr1 5 1001\nresize chr1 2000\nadd chr1 5 1001\nadd chr7 1 2\naddb chr1 1 2\n"
@@ -359,16 +317,6 @@ class Particular(Replays):
                          ["bad name: 'n\\x00' (name, field 5)", "bad strand: 'x' (strand, field 7)",
                           "bad strand: '?' (new strand, field 13)"])
 
-    def test_two_records_fit_as_well(self):
-        finding = self.of("chr1 12 30 a\nchr1 8 30 a", "replace chr1 10 30 a chr1 10 31 a").findings[0]
-        self.assertEqual((finding.kind, finding.mended, finding.note), ("conflict", "", "2 records fit equally"))
-
-    def test_a_name_that_many_records_have(self):
-        release = "\n".join(f"chr1 {n * 10} {n * 10 + 8} gene" for n in range(90))
-        replayed = self.of(release, "remove chr1 13 18 gene\nremove chr1 8 9 gene")
-        self.assertEqual([(one.kind, one.mended) for one in replayed.findings],
-                         [("moved", "remove\tchr1\t10\t18\tgene"), ("already so", "")])
-
     def test_the_second_file_has_its_own_width(self):
         replayed = self.of("chr1 1 2 a", "removeb chr1 5 9 x\nresize chr1 2000\naddb chr1 1 1500 y", "chr1 5 10 x")
         self.assertEqual([(one.kind, one.mended) for one in replayed.findings],
@@ -376,7 +324,7 @@ class Particular(Replays):
 
     def test_lines_of_views_and_comments_stay(self):
         script = self.file("corrections", "# why\nopen\tv\tmerge\n\nadd\tchr1\t1\t2\tx\nshowall\tchr1\t1\t2\nadd\tchr1\t3\t4\tx\r")
-        replayed = replay(self.sizes, self.genes, [script, self.file("more", "# more\n# of it\nadd\tchr1\t5\t6\ty\n")])
+        replayed = bedkeep.replay(self.sizes, self.genes, [script, self.file("more", "# more\n# of it\nadd\tchr1\t5\t6\ty\n")])
         self.assertEqual([(one.line.number, one.line.place, one.line.comments) for one in replayed.findings],
                          [(4, 4, ()), (6, 6, ()), (9, 3, ("more", "of it"))])
         self.assertEqual("\n".join([*replayed.mended(), ""]),

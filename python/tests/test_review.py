@@ -61,25 +61,18 @@ class Written(Case):
     def card(self, number):
         return re.search(rf"<article id=L{number} .*?</article>", self.text, re.DOTALL)[0]
 
-    def test_status_and_message(self):
-        self.assertEqual(self.outcome.status, 1)
-        self.assertEqual(self.outcome.err, f"{self.path}: 5 done, 10 refused, 1 already there\n")
-
-    def test_page_is_well_formed(self):
+    def test_verdicts_and_reasons(self):
+        self.assertEqual((self.outcome.status, self.outcome.err), (1, f"{self.path}: 5 done, 10 refused, 1 already there\n"))
         self.assertEqual(self.page.faults, [])
-
-    def test_page_needs_no_network(self):
-        self.assertEqual(re.findall(r'\bsrc=|@import|url\(|href=(?!"#)|https?:', self.text), [])
-
-    def test_verdict_of_each_line(self):
+        self.assertEqual(re.findall(r'\bsrc=|@import|url\(|href=(?!"#)|https?:', self.text), [])  # It needs no network.
         self.assertEqual({int(name[1:]): named["class"] for name, named in self.page.articles.items()}, STATES)
         for number, groups in GROUPS.items():
             self.assertEqual(self.page.articles[f"L{number}"]["data-groups"], groups, number)
-
-    def test_reasons_are_the_comments_above(self):
         self.assertIn("<p class=reason>5_bases_later</p>", self.card(2))
         self.assertIn("<p class=reason>renamed_upstream</p>", self.card(5))
         self.assertIn("no such record", self.page.texts["L4"])
+        for path in self.sizes, self.genes, self.mask, self.corrections:
+            self.assertTrue(hashlib.sha256(path.read_bytes()).hexdigest() in self.text)
 
     def test_counts_before_and_after(self):
         # Blocks by distance 10, and bases. Before: [100,200) [300,400) [550,560) [700,800) [850,900).
@@ -91,20 +84,12 @@ class Written(Case):
         columns = re.sub(r"<svg.*?</svg>", "", row, flags=re.DOTALL)
         self.assertEqual(re.findall(r">([^<>\n]*)</t[dh]>", columns), ["chr1", "", "4", "7", "5", "", "4", "-1", "365", "+5"])
 
-    def test_what_differs_and_the_line_that_fits(self):
-        self.assertIn("<mark>200</mark>", self.card(2))
-        self.assertIn("End 5 bases later.", self.card(2))
-        self.assertIn("Name geneX → geneB.", self.card(4))
-        self.assertIn("Start 3 bases earlier.", self.card(5))
-
-    def test_links_to_other_lines(self):
-        self.assertIn('<a href="#L8">line 8</a>', self.card(9))
-
-    def test_bad_lines(self):
-        self.assertIn("chr2 ends at 500, 100 bases before.", self.card(12))
-        self.assertIn('data-text="add\tchr2\t100\t200\tshort"', self.card(13))
-        self.assertIn('data-text="add\tchr1\t100\t200\twrong"', self.card(14))
-        self.assertIn("Correct these records first.", self.card(17))
+    def test_what_is_said_of_lines(self):
+        for number, said in ((2, "<mark>200</mark>"), (2, "End 5 bases later."), (4, "Name geneX → geneB."), (5, "Start 3 bases earlier."),
+                             (9, '<a href="#L8">line 8</a>'), (12, "chr2 ends at 500, 100 bases before."),
+                             (13, 'data-text="add\tchr2\t100\t200\tshort"'), (14, 'data-text="add\tchr1\t100\t200\twrong"'),
+                             (17, "Correct these records first.")):
+            self.assertIn(said, self.card(number))
 
     def test_pictures(self):
         # Line 6 shows 390 to 500 with 82 bases on either side, in 830 units from 62: 82 are 248.4, and 110 are 333.2.
@@ -120,18 +105,12 @@ class Written(Case):
         self.assertIn("past the end", self.card(12))
         self.assertNotIn("<svg", self.card(13) + self.card(14) + self.card(18))
 
-    def test_sums_of_all_inputs(self):
-        for path in self.sizes, self.genes, self.mask, self.corrections:
-            self.assertTrue(hashlib.sha256(path.read_bytes()).hexdigest() in self.text)
-
-    def test_track_of_the_corrections(self):
+    def test_what_igv_gets(self):
         rows = (self.folder / "page.corrections.bed").read_text().split("\n")
         self.assertRegex(rows[0], '^track .*itemRgb="On"$')
         self.assertIn("chr1\t100\t205\tline 2: replace\t0\t.\t100\t205\t26,127,75", rows)
         self.assertIn("chr1\t853\t900\tline 5: remove, no such record\t0\t.\t853\t900\t179,38,30", rows)
         self.assertTrue(all(row.count("\t") == 8 for row in rows[1:-1]))
-
-    def test_session_for_igv(self):
         session = ElementTree.parse(self.folder / "page.session.xml").getroot()
         self.assertEqual([one.get("path") for one in session.iter("Resource")], ["genes.bed", "mask.bed", "page.corrections.bed"])
         regions = [one.attrib for one in session.iter("Region")]
@@ -143,70 +122,68 @@ class Written(Case):
 class Files(Case):
     """What is read and written."""
 
-    def review(self, *words):
-        return Outcome("review", *words, "-o", self.folder / "page.html")
+    def review(self, *words, status=0):
+        """The page of a review, which ends with this status."""
+        self.outcome = Outcome("review", *words, "-o", self.folder / "page.html")
+        self.assertEqual(self.outcome.status, status)
+        page = Page((self.folder / "page.html").read_text() if status < 2 else "")
+        self.assertEqual(page.faults if status < 2 else [], [])
+        return page
 
     def test_several_scripts_are_one(self):
         one = self.file("one", tabs("add chr1 1 2 a"))
         other = self.file("other", tabs("remove chr1 1 2 a\nremove chr1 1 2 a"))
-        self.assertEqual(self.review(self.sizes, self.genes, one, other).status, 1)
-        page = Page((self.folder / "page.html").read_text())
+        page = self.review(self.sizes, self.genes, one, other, status=1)
         self.assertEqual(list(page.articles), ["L1", "L2", "L3"])
         self.assertIn(f"{other}: line 2", page.texts["L3"])
 
     def test_nothing_to_correct(self):
-        self.assertEqual(self.review(self.sizes, self.genes, self.file("empty", "")).status, 0)
-        self.assertEqual(Page((self.folder / "page.html").read_text()).faults, [])
+        self.review(self.sizes, self.genes, self.file("empty", ""))
 
     def test_bases_between_the_records_of_a_block_are_not_covered(self):
         script = self.file("corrections", tabs("add chr1 205 300 geneC"))
-        self.assertEqual(self.review(self.sizes, self.genes, script, "-d", "10").status, 0)
+        self.review(self.sizes, self.genes, script, "-d", "10")
         text = (self.folder / "page.html").read_text()
         self.assertTrue("blocks<b>2 → 1 <small>-1</small></b>" in text)
         self.assertTrue("bases covered<b>200 → 295 <small>+95</small></b>" in text)
 
     def test_an_input_is_never_written_over(self):
         corrections = self.file("page.corrections.bed", tabs("add chr1 1 2 a"))
-        self.assertEqual(self.review(self.sizes, self.genes, corrections).status, 2)
+        self.review(self.sizes, self.genes, corrections, status=2)
         self.assertEqual(corrections.read_text(), "add\tchr1\t1\t2\ta\n")
         self.assertFalse((self.folder / "page.html").exists())
 
     def test_damaged_file(self):
-        outcome = self.review(self.sizes, self.file("bad.bed", "chr1\t5\t4\n"), self.file("corrections", ""))
-        self.assertEqual((outcome.status, (self.folder / "page.html").exists()), (2, False))
-        self.assertIn("bad.bed: line 1: start not below end", outcome.err)
+        self.review(self.sizes, self.file("bad.bed", "chr1\t5\t4\n"), self.file("corrections", ""), status=2)
+        self.assertFalse((self.folder / "page.html").exists())
+        self.assertIn("bad.bed: line 1: start not below end", self.outcome.err)
 
     def test_script_from_standard_input(self):
         typed = io.TextIOWrapper(io.BytesIO(b"add\tchr1\t1\t2\ta\n"))
         with mock.patch("sys.stdin", typed):
-            self.assertEqual(self.review(self.sizes, self.genes, "-").status, 0)
+            self.review(self.sizes, self.genes, "-")
         self.assertIn("standard input over genes.bed", (self.folder / "page.html").read_text())
 
     def test_wide_file(self):
         wide = self.file("wide.bed", tabs("chr1 100 200 a 0 + 100 200 1,2,3\nchr1 300 400 b 0 + 300 400 0"))
         script = self.file("corrections", tabs("""replace chr1 100 200 a 0 + chr1 100 150 a 0 +
 replace chr1 300 400 b 0 + chr1 300 450 b 0 + 300 450 9,9,9"""))
-        self.assertEqual(self.review(self.sizes, wide, script).status, 0)
-        page = Page((self.folder / "page.html").read_text())
-        self.assertEqual(page.faults, [])
+        page = self.review(self.sizes, wide, script)
         self.assertIn("End 50 bases later.", page.texts["L2"])
 
     def test_second_file_has_its_own_lines(self):
         script = self.file("corrections", tabs("addb chr1 1 2\nreplaceb chr1 1 2 chr1 5 9\nremoveb chr1 1 2"))
-        self.assertEqual(self.review(self.sizes, self.genes, script, "-b", self.mask).status, 1)
-        page = Page((self.folder / "page.html").read_text())
+        page = self.review(self.sizes, self.genes, script, "-b", self.mask, status=1)
         self.assertEqual([named["class"] for named in page.articles.values()], ["done", "done", "refused"])
         self.assertIn("The record was put in by line 1.", page.texts["L2"])
-        self.assertEqual(self.review(self.sizes, self.genes, script).status, 1)
+        self.review(self.sizes, self.genes, script, status=1)
 
     def test_names_that_are_no_text(self):
         sizes = self.file("odd", b"<b>\xff&\t1000\n\x01c\t50\n")
         genes = self.file("odd.bed", b"<b>\xff&\t1\t9\t\xfe\"'\n")
         script = self.file("corrections", b"# <i>\xfd\x02\nremove\t<b>\xff&\t1\t8\t\xfe\"'\n"
                                           b"remove\t<b>\xff&\t1\t9\t\xfe\"'\nadd\t\x01c\t1\t2\t]]>\n")
-        self.assertEqual(self.review(sizes, genes, script).status, 1)
-        page = Page((self.folder / "page.html").read_text())
-        self.assertEqual(page.faults, [])
+        page = self.review(sizes, genes, script, status=1)
         self.assertIn("<i>\ufffd\u2402", page.texts["L2"])
         self.assertNotIn("copy", page.texts["L2"])
         ElementTree.parse(self.folder / "page.session.xml")
@@ -363,23 +340,15 @@ class Arrival(Case):
         before.near_blocks = [Interval("chr1", 100, 200)]
         return windows, before, Reviewer(before, None, {"chr1": 1000}, 10)
 
-    def test_sound_track(self):
+    def test_a_missing_record_and_another_block(self):
         windows, before, reviewer = self.sides()
         reviewer.check(windows, before, None)
-
-    def test_a_missing_record(self):
-        windows, before, reviewer = self.sides()
-        after = Side(windows)
-        after.near, after.near_blocks = before.near[:1], before.near_blocks
-        with self.assertRaisesRegex(Differs, "the pictures of chr1 from 89 to 311"):
-            reviewer.check(windows, after, None)
-
-    def test_another_block(self):
-        windows, before, reviewer = self.sides()
-        after = Side(windows)
-        after.near, after.near_blocks = before.near, [Interval("chr1", 100, 150), Interval("chr1", 155, 200)]
-        with self.assertRaisesRegex(Differs, "the blocks of chr1 from 100 to 300"):
-            reviewer.check(windows, after, None)
+        for near, blocks, said in ((before.near[:1], before.near_blocks, "the pictures of chr1 from 89 to 311"),
+                                   (before.near, before.near[:2], "the blocks of chr1 from 100 to 300")):
+            after = Side(windows)
+            after.near, after.near_blocks = near, blocks
+            with self.assertRaisesRegex(Differs, said):
+                reviewer.check(windows, after, None)
 
 
 class Pieces(unittest.TestCase):
@@ -468,7 +437,3 @@ class Pieces(unittest.TestCase):
         self.assertEqual(escaped("<\x00\x7f\udcff\t>"), "&lt;\u2400\u2421\ufffd\t&gt;")
         self.assertEqual((is_whole("a\tb"), is_whole("a\rb")), (True, False))
         self.assertEqual(shortened("x" * 30), "x" * 22 + "…")
-
-
-if __name__ == "__main__":
-    unittest.main()

@@ -1,23 +1,19 @@
+import importlib
 import os
-import pathlib
 import pkgutil
+import re
 import subprocess
 import sys
 import time
 
 import bedkeep
-from helpers import EXAMPLES, Case, children, many, printed, texts
+from helpers import EXAMPLES, PROGRAM, Case, children, many, printed, texts
 
 GENOME, GENES, MASK = EXAMPLES / "human.genome", EXAMPLES / "genes.bed", EXAMPLES / "mask.bed"
 CONTIGS, CODING, BASES = EXAMPLES / "contigs.genome", EXAMPLES / "coding.bed", EXAMPLES / "contigs.fa"
 
 
 class Runs(Case):
-    def test_no_module_has_the_name_of_a_function(self):
-        """The import of a module would hide the function."""
-        modules = {module.name for module in pkgutil.iter_modules(bedkeep.__path__)}
-        self.assertEqual(modules.intersection(bedkeep.__all__), set())
-
     def test_each_run_gives_the_rows_of_the_program(self):
         one, coding = ("-g", GENOME, "-i", GENES), ("-g", CONTIGS, "-i", CODING)
         two = ("-g", GENOME, "-a", GENES, "-b", MASK)
@@ -76,9 +72,8 @@ class Runs(Case):
         os.write(writer, self.genes.read_bytes())
         os.close(writer)
         code = "import bedkeep, sys; print(*bedkeep.intersect(sys.argv[1], '/dev/stdin', sys.argv[2], wb=True), sep='\\n')"
-        package = pathlib.Path(bedkeep.__file__).parent.parent
         said = subprocess.run([sys.executable, "-S", "-c", code, self.sizes, self.mask], stdin=reader, stdout=subprocess.PIPE,
-                              env={**os.environ, "PYTHONPATH": str(package)}, check=True).stdout.decode().splitlines()
+                              check=True).stdout.decode().splitlines()
         os.close(reader)
         self.assertEqual(said[0], "Row(chromosome='chr1', start=150, end=200, column_4='geneA', column_5='chr1', "
                                   "column_6='150', column_7='350')")
@@ -157,6 +152,22 @@ class Failures(Case):
 
 
 class Package(Case):
+    def test_no_module_hides_what_is_public(self):
+        """The import of a module of its name would."""
+        public = {name: getattr(bedkeep, name) for name in bedkeep.__all__}
+        for module in pkgutil.walk_packages(bedkeep.__path__, "bedkeep."):
+            if module.name != "bedkeep.__main__":
+                importlib.import_module(module.name)
+        self.assertEqual({name: getattr(bedkeep, name) for name in bedkeep.__all__}, public)
+        self.assertEqual({name for name in dir(bedkeep) if not name.startswith("__")}, set(public))
+        for name in "Session", *self.subcommands(), "apply", "diff", "replay", "edits", "to_frame":
+            self.assertTrue(callable(public[name]))
+
+    def subcommands(self):
+        """Those that the program has."""
+        usage = subprocess.run([PROGRAM, "--help"], stdout=subprocess.PIPE, check=True).stdout.decode()
+        return re.findall("^       bedkeep (?!session)([a-z]+) ", usage, re.M)
+
     def test_the_version_is_that_of_the_program(self):
         self.assertEqual(printed("--version")[0], [f"bedkeep {bedkeep.__version__}"])
 

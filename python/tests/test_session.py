@@ -7,15 +7,13 @@ import subprocess
 import sys
 import threading
 import time
-from collections import Counter
-from pathlib import Path
 from unittest import mock
 
 import bedkeep
 from bedkeep.conversation import Exchange
 from bedkeep.files import whole
 from bedkeep.interrupts import ending_in_order
-from bedkeep.rows import Reader
+from bedkeep.printed_rows import Reader
 from bedkeep.script import Script
 from helpers import EXAMPLES, Case, children, many
 
@@ -38,7 +36,7 @@ class Edits(Case):
             bed = self.file("width.bed", f"# a comment\n{line}\n")
             with bedkeep.Session(self.sizes, bed) as session:
                 self.assertEqual(session.width, width)
-                self.assertEqual(session.records()[0]._fields, bedkeep.rows.RECORD[:width])
+                self.assertEqual(session.records()[0]._fields, bedkeep.printed_rows.RECORD[:width])
             with bedkeep.Session(self.sizes, os.devnull, width=width) as session:
                 self.assertEqual(session.width, width)
                 self.assertEqual(session.records(), [])
@@ -63,7 +61,8 @@ class Edits(Case):
             self.assertRegex(" ".join(refused[0].hint), "geneA.*replay")
             self.assertRegex(" ".join(refused[1].hint), "3 columns.*4")
             with self.assertRaises(bedkeep.Refused) as caught:
-                session.view("mrege")
+                session.view("mrege -d 5")
+            self.assertEqual(caught.exception.line, "mrege -d 5")
             self.assertRegex(caught.exception.hint[0], "merge")
 
     def test_a_refused_edit_changes_nothing(self):
@@ -381,18 +380,9 @@ class Views(Case):
         a, b, c = ("chr1", 10, 20, "a"), ("chr1", 15, 30, "b"), ("chr1", 40, 50, "c")
         with bedkeep.Session(self.sizes, bed, second=mask, fasta=self.bases) as session:
             for words, start, end, rows in (
-                ("records", 0, 10, []), ("records", 19, 20, [a, b]), ("records", 20, 41, [b, c]),
-                ("merge", 29, 30, [("chr1", 10, 30)]), ("merge", 30, 40, []), ("merge -d 10", 30, 40, [("chr1", 10, 50)]),
-                ("merge -c 4 -o collapse", 5, 11, [("chr1", 10, 30, "a,b")]),
-                ("cluster", 41, 42, [(*c, 2)]), ("complement", 30, 31, [("chr1", 30, 40)]),
-                ("complement", 9, 51, [("chr1", 0, 10), ("chr1", 30, 40), ("chr1", 50, 1000)]),
-                ("genomecov -bg", 14, 21, [("chr1", 10, 15, 1), ("chr1", 15, 20, 2), ("chr1", 20, 30, 1)]),
-                ("genomecov -bga", 9, 10, [("chr1", 0, 10, 0)]),
-                ("genomecov -d", 14, 16, [("chr1", 15, 1), ("chr1", 16, 2)]),
-                ("intersect", 18, 19, [("chr1", 12, 14, "a")]), ("intersect -c", 18, 21, [(*a, 1), (*b, 0)]),
-                ("intersect -wb", 49, 50, [("chr1", 45, 46, "c", "chr1", 45, 46)]), ("intersect -v", 0, 1000, [b]),
-                ("subtract", 19, 20, [("chr1", 10, 12, "a"), ("chr1", 14, 20, "a"), b]), ("subtract -A", 0, 15, []),
-                ("getfasta", 49, 1000, [("chr1", 40, 50, "ACGTTACGTT")]),
+                ("records", 0, 10, []), ("records", 19, 20, [a, b]), ("merge -c 4 -o collapse", 5, 11, [("chr1", 10, 30, "a,b")]),
+                ("cluster", 41, 42, [(*c, 2)]), ("genomecov -d", 14, 16, [("chr1", 15, 1), ("chr1", 16, 2)]),
+                ("intersect -wb", 49, 50, [("chr1", 45, 46, "c", "chr1", 45, 46)]), ("getfasta", 49, 1000, [("chr1", 40, 50, "ACGTTACGTT")]),
             ):
                 with self.subTest(words, start=start, end=end):
                     found = session.show(words, "chr1", start, end)
@@ -450,17 +440,6 @@ class Saving(Case):
             session.save(str(self.folder / "new.bed"))
         with bedkeep.Session(self.sizes, target) as again:
             self.assertEqual(again.records(), session_records(session, self))
-
-    def test_a_save_that_fails_leaves_both_as_they_were(self):
-        with self.session() as session:
-            before = sorted(os.listdir(self.folder))
-            with self.assertRaisesRegex(FileNotFoundError, f"no such folder: '{self.folder}/absent'$"):
-                session.save(self.folder / "absent" / "x.bed")
-            with mock.patch("os.fsync", side_effect=OSError("no space")), self.assertRaises(OSError):
-                session.save(self.folder / "x.bed")
-            self.assertEqual(sorted(os.listdir(self.folder)), before)
-            session.add("chr1", 1, 2, "x")
-            self.assertEqual(len(session.records()), 3)
 
 
 def session_records(session, case):
@@ -666,16 +645,6 @@ class Interrupted(Case):
         self.assertGreater(interrupts, 50)
         self.assertEqual(session_records(session, self), session.records())
 
-    def test_while_the_program_is_silent(self):
-        program = self.script("slow", 'sleep 0.4\nexec "$BEDKEEP" "$@"')
-        alarm = threading.Timer(0.1, self.interrupt)
-        alarm.start()
-        begun = time.monotonic()
-        with self.assertRaises(KeyboardInterrupt):
-            self.session(program=program)
-        self.assertLess(time.monotonic() - begun, 10)
-        alarm.join()
-
     def test_while_it_loads(self):
         """The first interrupt ends the program, which has answered nothing yet."""
         alarm = threading.Timer(0.3, self.interrupt)
@@ -714,8 +683,7 @@ class Stopped(Case):
 
     def run_until(self, is_begun, number, *words, **environment):
         """The status of Python with these words, which gets a signal once it has begun."""
-        package = Path(bedkeep.__file__).parent.parent
-        process = subprocess.Popen([sys.executable, *map(str, words)], env={**os.environ, "PYTHONPATH": str(package), **environment})
+        process = subprocess.Popen([sys.executable, *map(str, words)], env={**os.environ, **environment})
         while not is_begun():
             self.assertIsNone(process.poll())
             time.sleep(0.01)
@@ -821,6 +789,16 @@ class Large(Case):
             session.edit(f"add\tchr1\t5\t6\tx{number}" for number in range(50_000))
             self.assertEqual(len(session.view("merge -c 4 -o distinct")[0].distinct_4.split(",")), 50_002)
 
+    def test_the_limit(self):
+        self.genes = self.file("many.bed", "".join(f"chr1\t{start}\t{start + 5}\tg\n" for start in range(40)))
+        with self.assertRaisesRegex(bedkeep.Damaged, "too many"):
+            self.session(limit=39)
+        for limit in 40, 41:
+            with self.session(limit=limit) as session, self.refused("track is full"):
+                for start in range(limit - 39):
+                    session.add("chr1", start, 900, "more")
+            self.assertEqual(session.script().count("add"), limit - 40)
+
     def test_small_pieces(self):
         """The message that ends an answer can be read before the last rows are."""
         with self.session() as session, mock.patch("bedkeep.conversation.PIECE", 7):
@@ -834,61 +812,3 @@ class Large(Case):
             self.assertEqual([one.number for one in refused], list(range(1, 100_000, 2)))
             self.assertEqual({one.reason for one in refused}, {"no such record"})
             self.assertEqual(len(session.records()), 50_002)
-
-
-class Model(Case):
-    """The records beside a model of them in Python."""
-
-    def setUp(self):
-        super().setUp()
-        self.random = random.Random(5)
-        self.records = Counter({("chr1", 100, 200, "geneA"): 1, ("chr1", 300, 400, "geneB"): 1})
-
-    def record(self):
-        start = self.random.randrange(990)
-        end = start + self.random.randrange(1, 9)
-        return self.random.choice(["chr1", "chr2"]), start, end, f"n{self.random.randrange(3)}"
-
-    def present(self):
-        return self.random.choice(list(self.records)) if self.records and self.random.random() < 0.8 else self.record()
-
-    def edit(self):
-        """A random edit: its line, and the records that it takes out and puts in, or None if it is refused."""
-        kind = self.random.choice(["add", "add", "remove", "replace"])
-        out = [] if kind == "add" else [self.present()]
-        new = [] if kind == "remove" else [self.record()]
-        fits = all(end <= (1000 if chromosome == "chr1" else 500) for chromosome, _, end, _ in out + new)
-        change = (out, new) if fits and all(self.records[one] for one in out) else None
-        self.records += Counter()
-        return "\t".join(map(str, [kind, *(column for one in out + new for column in one)])), change
-
-    def change(self, out, new):
-        self.records.subtract(out)
-        self.records.update(new)
-        self.records += Counter()
-
-    def test_ten_thousand_edits(self):
-        history = []
-        with self.session() as session:
-            session.open("depth", "genomecov -bg")
-            for _ in range(2_000):
-                lines, wanted = [], []
-                for _ in range(self.random.choice([1, 1, 1, 17])):
-                    line, change = self.edit()
-                    lines.append(line)
-                    if change:
-                        self.change(*change)
-                        history.append(change)
-                    else:
-                        wanted.append(len(lines))
-                self.assertEqual([one.number for one in session.edit(lines)], wanted)
-                for _ in range(self.random.choice([0, 0, 0, 2])):
-                    if history:
-                        out, new = history.pop()
-                        session.undo()
-                        self.change(new, out)
-            self.assertEqual([tuple(one) for one in session.records()], sorted(self.records.elements()))
-            covered = sum((row.end - row.start) * row.depth for row in session.rows("depth"))
-            self.assertEqual(covered, sum(end - start for _, start, end, _ in self.records.elements()))
-            self.assertEqual(session.script().count("\n"), len(history))
-            self.assertEqual(session_records(session, self), session.records())

@@ -1,15 +1,11 @@
 import gzip
 import os
-import random
 import threading
 from unittest import mock
 
 import bedkeep
-from bedkeep.replay import replay
-from bedkeep.wide import Joiner, Tails, cut
-from helpers import Case, Outcome, tabs
-from test_desk import started
-from test_replay import LENGTHS, some_record, some_script
+from bedkeep.wide import cut
+from helpers import Case, Corrected, Outcome, tabs
 
 BED12 = """chr1 100 200 geneA 0 + 110 190 255,0,0 2 20,30, 0,70,
 chr1 300 400 geneB 7 - 300 400 0 1 100 0
@@ -19,62 +15,35 @@ PEAKS = """chr1 100 200 peak1 0 . 5.5 -1 2.25 99
 chr1 300 400 peak2 7 . 1e3 -1 -1 -1"""
 
 
-class Wide(Case):
-    def desk(self, command, bed, script, *words):
-        self.bed = self.file("wide.bed", tabs(bed))
-        self.corrections = self.file("corrections", tabs(script))
-        outcome = Outcome(command, self.sizes, self.bed, self.corrections, *words)
-        outcome.rows = [row.replace("\t", " ") for row in outcome.out.split("\n")[:-1]]
-        outcome.messages = [line.replace(f"{self.corrections}: ", "") for line in outcome.err.split("\n")[:-1]]
-        return outcome
-
-
-class Applied(Wide):
+class Applied(Corrected):
     def test_an_untouched_line_comes_as_it_is(self):
         for bed in BED12, PEAKS:
-            outcome = self.desk("apply", bed, "add chr1 1 2 x 0 +\nremove chr1 1 2 x 0 +")
+            outcome = self.corrected("apply", bed, "add chr1 1 2 x 0 +\nremove chr1 1 2 x 0 +")
             self.assertEqual((outcome.status, outcome.rows), (0, bed.split("\n")))
 
     def test_headers_of_a_wide_file(self):
-        outcome = self.desk("apply", f"#one\n\n{PEAKS}\ntrack", "")
+        outcome = self.corrected("apply", f"#one\n\n{PEAKS}\ntrack", "")
         self.assertEqual((outcome.status, outcome.rows), (0, ["#one", "", *PEAKS.split("\n"), "track"]))
 
-    def test_tails_follow_their_records(self):
-        outcome = self.desk("apply", BED12, """replace chr1 300 400 geneB 7 - chr1 300 400 geneB 8 +
-remove chr2 5 50 geneC 0 .
-add chr2 7 9 new 0 +
-add chr2 8 9 own 0 + 8 9 0,0,9 1 1 0
-replace chr1 100 200 geneA 0 + chr1 100 200 nameA 0 +
-replace chr1 100 200 nameA 0 + chr2 1 101 nameA 0 + 1 101 0 1 100 0""", "--sorted")
-        self.assertEqual((outcome.status, outcome.messages, outcome.rows), (0, [], """\
-chr1 300 400 geneB 7 - 300 300 0 3 10,10,10 0,40,90
-chr1 300 400 geneB 8 + 300 400 0 1 100 0
-chr2 1 101 nameA 0 + 1 101 0 1 100 0
-chr2 7 9 new 0 + 7 9 0 1 2 0
-chr2 8 9 own 0 + 8 9 0,0,9 1 1 0""".split("\n")))
-
-    def test_a_tail_says_which_copy_is_meant(self):
-        second = "chr1 300 400 geneB 7 - 300 300 0 3 10,10,10 0,40,90"
-        left = [row for row in BED12.split("\n") if row != second]
-        self.assertEqual(self.desk("apply", BED12, f"remove {second}").rows, left)
-        renamed = second.replace("geneB", "geneD")
-        self.assertEqual(self.desk("apply", BED12, f"replace {second} {renamed}").rows, [*left[:2], renamed, left[2]])
     def test_lines_of_another_number_of_columns(self):
-        outcome = self.desk("apply", BED12, "add chr1 1 2 x 0 + 1\nremove chr1 1 2\nreplace chr1 1 2 chr1 1 3")
+        outcome = self.corrected("apply", BED12, "add chr1 1 2 x 0 + 1\nremove chr1 1 2\nreplace chr1 1 2 chr1 1 3")
         self.assertEqual(outcome.messages, ["line 1: wrong number of columns: 7 fields; 6 or 12 are needed",
                                             "line 2: wrong number of columns: 3 fields; 6 or 12 are needed",
                                             "line 3: wrong number of columns: 6 fields; 12, 18 or 24 are needed"])
-        outcome = self.desk("apply", BED12, "replace chr2 5 50 geneC 0 . chr9 5 50 geneC 0 . 1 2 3 4 5 6\n"
-                            "replace chr2 5 50 geneC 0 . 10 20 0,0,0 1 45, 0, chr2 5 5 geneC 0 . 1 2 3 4 5 6")
+        outcome = self.corrected("apply", BED12, "replace chr2 5 50 geneC 0 . chr9 5 50 geneC 0 . 1 2 3 4 5 6\n"
+                            "replace chr2 5 50 geneC 0 . 10 20 0,0,0 1 45, 0, chr2 5 5 geneC 0 . 1 2 3 4 5 6\n"
+                            "replace chr2 5 50 geneC 0 . 10 20 0,0,0 1 45, 0, chr2 5 5 geneC 0 .")
         self.assertEqual(outcome.messages, ["line 1: unknown sequence: 'chr9' (new chromosome, field 8)",
-                                            "line 2: start not below end: '5' (new start, field 15)"])
-        outcome = self.desk("apply", f"{BED12}\nchr1 1 2 x 0 +", "")
+                                            "line 2: start not below end: '5' (new start, field 15)",
+                                            "line 3: start not below end: '5' (new start, field 15)"])
+        outcome = self.corrected("apply", f"{BED12}\nchr1 1 2 x 0 +", "")
         self.assertEqual((outcome.status, outcome.err), (2, f"{self.bed}: line 5: wrong number of columns\n"))
-        outcome = self.desk("apply", f"{BED12}\nchr1 9 2 x 0 + 1 2 0 1 1 0", "")
+        outcome = self.corrected("apply", f"{BED12}\nchr1 9 2 x 0 + 1 2 0 1 1 0", "")
         self.assertEqual(outcome.status, 2)
         self.assertRegex(outcome.err, f"^{self.bed}: line 5: start not below end \\(status 3\\)\n  line 5, field 2: ")
 
-class Diffs(Wide):
+
+class Diffs(Case):
     def test_tails_are_compared_too(self):
         old = self.file("old.bed", tabs(BED12))
         new = self.file("new.bed", tabs(BED12.replace("300 300 0 3", "300 305 9 3").replace("geneC 0 . 10", "geneC 0 - 11")))
@@ -82,18 +51,6 @@ class Diffs(Wide):
         self.assertEqual([line.split("\t")[0] for line in script.read_text().split("\n")], ["", "replace", "replace", ""])
         outcome = Outcome("apply", self.sizes, old, script, "--strict", "--copies")
         self.assertEqual((outcome.status, outcome.err, outcome.out), (0, "", new.read_text()))
-
-    def test_random_files_with_copies_of_several_tails(self):
-        for seed in range(30):
-            with self.subTest(seed=seed):
-                pick = random.Random(seed)
-                records = [some_record(pick) for _ in range(5)]
-                rows = ["\t".join([*pick.choice(records), pick.choice("xy")]) + "\n" for _ in range(24)]
-                old, new = (self.file(name, "".join(part)) for name, part in (("old", rows[:15]), ("new", rows[8:])))
-                script = self.file("script", Outcome("diff", old, new).out)
-                outcome = Outcome("apply", self.sizes, old, script, "--strict", "--copies")
-                self.assertEqual((outcome.status, outcome.err), (0, ""))
-                self.assertEqual(sorted(outcome.out.split("\n")), sorted(new.read_text().split("\n")))
 
 
 class Sessions(Case):
@@ -134,19 +91,6 @@ class Sessions(Case):
         with bedkeep.Session(self.sizes, self.bed, second, wide=True) as again:
             self.assertEqual((again.edit(script), self.lines(again)), ([], looks[-1]))
 
-    def test_an_inverse_line_has_all_columns(self):
-        rows = BED12.split("\n")
-        with self.wide(tabs(BED12)) as session:
-            for line, inverse in (
-                ("remove chr1 100 200 geneA 0 +", f"add {rows[0]}"),
-                ("add chr2 1 2 x 0 +", "remove chr2 1 2 x 0 + 1 2 0 1 1 0"),
-                ("replace chr1 300 400 geneB 7 - chr1 300 410 geneB 7 -", f"replace chr1 300 410 geneB 7 - 300 410 0 1 110 0 {rows[1]}"),
-            ):
-                self.assertEqual(session.edit(tabs(line)), [])
-                self.assertEqual(session.inverse(), tabs(inverse))
-                self.assertEqual(session.edit(session.inverse()), [])
-                self.assertEqual(self.lines(session), rows)
-
     def test_a_line_of_all_columns_names_a_record_by_all(self):
         first, second, third = "chr1 100 200 g 0 + 120 180 0 2 10,20, 0,80,", "chr1 100 200 g 0 + 110 190 0 3 10,30,20, 0,40,80,", "chr2 1 2 x 0 + 1 2 0 1 1, 0,"
         with self.wide(tabs(f"{second}\n{third}")) as session:
@@ -159,30 +103,6 @@ class Sessions(Case):
             self.assertNotIn(first.split(), session)
             self.assertIn(second.split(), session)
             self.assertIn(second.split()[:6], session)
-
-    def test_forms_of_a_replace(self):
-        old, new = "chr1 100 200 geneA 0 + 110 190 255,0,0 2 20,30, 0,70,", "chr1 100 210 geneA 0 + 110 190 255,0,0 2 20,40, 0,70,"
-        own = "chr1 100 210 geneA 0 + 100 210 0 1 110 0"
-        six, other = (" ".join(row.split()[:6]) for row in (old, new))
-        for line, expected in (f"{six} {other}", new), (f"{old} {other}", new), (f"{six} {own}", own), (f"{old} {own}", own):
-            with self.wide(tabs(BED12)) as session:
-                self.assertEqual(session.edit(tabs(f"replace {line}")), [])
-                self.assertEqual(self.lines(session)[0], expected)
-
-    def test_copies(self):
-        """Of copies with other columns a line of six takes the first in the file, and who puts it in again has the file's order."""
-        rows = [f"chr1 1 5 x 0 + {text}" for text in "bacab"]
-        with self.wide(tabs("\n".join(rows))) as session:
-            self.assertEqual(session.tails(("chr1", 1, 5, "x", 0, "+")), [f"\t{text}" for text in "bacab"])
-            for line, left in (("remove chr1 1 5 x 0 +", "acab"), ("add chr1 1 5 x 0 + a", "acaba"), ("remove chr1 1 5 x 0 + b", "acaa"),
-                               ("add chr1 1 5 x 0 + b", "acaba"), ("add chr1 1 5 x 0 + b", "bacaba"), ("add chr1 1 5 x 0 +", "bacab.a"),
-                               ("replace chr1 1 5 x 0 + c chr1 1 5 x 0 + z", "baab.az"), ("remove chr1 1 5 x 0 +", "aab.az")):
-                self.assertEqual(session.edit(tabs(line)), [])
-                self.assertEqual("".join(tail[1:] for tail in session.tails(("chr1", "01", "5", "x", "0", "+"))), left, line)
-            for _ in range(8):
-                session.undo()
-            self.assertEqual(self.lines(session), rows)
-            self.assertEqual((session.columns(), session.columns(True), session.tails(("chr1", 1, 5, "y", 0, "+"))), (7, 0, []))
 
     def test_what_no_rule_keeps_valid_is_refused_with_a_line_that_would_fit(self):
         lines = """replace chr1 100 200 geneA 0 + chr1 100 185 geneA 0 +
@@ -263,34 +183,6 @@ add chr2 1 2 x 0 ."""), [(1, "the summit at base 199 is outside of the record", 
                              [(3, "wrong number of columns", ["3 columns, and the track has 12: all are written, or the first 6"])])
             self.assertEqual(self.lines(session), ["chr1 1 5 x 0 + 1 5 0 1 4 0", "chr1 6 9 y 0 + 6 9 0 1 3 0"])
 
-    def test_random_scripts_and_a_list_of_lines(self):
-        """Each copy has a tail of its own. What is refused is none of the tails' business here: nothing follows them."""
-        sizes = self.file("sizes", "".join(f"{name}\t{length}\n" for name, length in LENGTHS.items()))
-        for seed in range(40):
-            with self.subTest(seed=seed):
-                pick = random.Random(seed)
-                records = [some_record(pick) for _ in range(6)]
-                now = [[pick.choice(records), f"t{number}"] for number in range(12)]
-                bed = self.file("bed", "".join("\t".join([*one, tail]) + "\n" for one, tail in now))
-                lines = some_script(pick, records)
-                with bedkeep.Session(sizes, bed, wide=True) as session:
-                    refused = {one.number for one in session.edit(["\t".join(line) for line in lines])}
-                    self.follow(now, [line for number, line in enumerate(lines, 1) if number not in refused])
-                    self.assertEqual(sorted(self.lines(session)), sorted(" ".join([*one, tail]) for one, tail in now))
-
-    def follow(self, now, lines):
-        """Of equal records that of the file goes first, and of those the first one."""
-        for command, *fields in lines:
-            old = None if command == "add" else tuple(fields[:6])
-            new = None if command == "remove" else tuple(fields[-6:])
-            entry = [new, "."]
-            if old:
-                at = min((not tail.startswith("t"), tail if tail == "." else "", place)
-                         for place, (one, tail) in enumerate(now) if one == old)[2]
-                entry[1] = now.pop(at)[1]
-            if new:
-                now.append(entry)
-
     def test_lines_that_the_program_refuses_where_that_wasnt_expected(self):
         """The genome is a pipe, so nobody but the program knows its lengths: the same as line by line."""
         rows = "chr1 100 200 g 0 + 100 200 0 2 10,20, 0,80,\nchr1 100 200 g 0 + 100 200 0 1 100 0"
@@ -369,6 +261,7 @@ add chr1 1 2 x 0 +""").replace("#\tafter\tit", "# after it")
             session.end()
         self.assertEqual([name[:8] for name in begun - set(os.listdir(self.folder))], ["bedkeep-"])
 
+
 class Parts(Case):
     def test_cut(self):
         six, nine = "c 1 2 n 0 +".split(), "c 1 3 n 0 + g h i".split()
@@ -380,18 +273,5 @@ class Parts(Case):
             ("replace", nine, 9, (nine, None, None)), ("add", nine, 12, (nine, None, None)), ("add", nine, 6, (nine, None, None)),
         ):
             self.assertEqual(tuple(cut(command, fields, width)), expected)
+        self.assertEqual(cut("replace", "c 1 3 n 0 + g h i c 1 x n 0 +".split(), 9).old_tail, tail)  # neither is well
         self.assertEqual(cut("replace", "1 100 200 x . + c 1 5 6 n . +".split(), 7).old_tail, "\tc")  # or chromosome c, from 1 to 5
-
-    def test_a_step_is_taken_back(self):
-        tails = Tails(7, ["c\t1\t2\tn\t0\t+\ta", "c\t1\t2\tn\t0\t+\tb"])
-        record, other = tuple("c\t1\t2\tn\t0\t+".split("\t")), tuple("c\t1\t3\tn\t0\t+".split("\t"))
-        rows = ["\t".join(record)] * 2
-        steps = []
-        for step in (record, other, "\tb", None), (record, None, None, None), (None, record, None, "\tz"):
-            steps.append(tails.plan(*step))
-            tails.do(steps[-1])
-        self.assertEqual(list(map(Joiner(tails).join, [rows[0], "\t".join(other)])), [f"{rows[0]}\tz", "\t".join(other) + "\tb"])
-        self.assertIsNone(tails.plan(("c", "1", "4", "n", "0", "+"), None, None, None))
-        for step in reversed(steps):
-            tails.undo(step)
-        self.assertEqual(list(map(Joiner(tails).join, rows)), [f"{rows[0]}\ta", f"{rows[0]}\tb"])

@@ -13,7 +13,7 @@ class Windows(Case):
     def setUp(self):
         super().setUp()
         pick = random.Random(3)
-        self.sizes = self.file("sizes", "chr1\t2000\nchr2\t900\nempty\t0\nchr3\t50\n")
+        self.sizes = self.file("sizes", "# of a release\nchrom\tsize\nchr1\t2000\nchr2\t900\nempty\t0\nchr3\t50\n")
         self.first, self.second = self.indexed("first", pick, 120), self.indexed("second", pick, 40)
 
     def indexed(self, name, pick, count):

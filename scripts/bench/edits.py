@@ -22,17 +22,14 @@ beside one another in the first sequence, and are added in no order; with
 `--at ascending` they are there too, and are added from the first to the last.
 """
 
-import argparse
 import os
-import platform
 import random
 import statistics
 import subprocess
 import sys
-import tempfile
 import time
 
-from views import CHROMOSOMES, TOP, VIEWS, places, stop_unless_done, write_data
+from views import CHROMOSOMES, MACHINE, VIEWS, begin, folder_of, parser_of, places, stop_unless_done, write_data
 
 SEED = 21
 MOST_RECORDS = 4_000_000
@@ -40,34 +37,27 @@ MOST_RECORDS = 4_000_000
 
 def main():
     wanted = read_words()
-    if not os.access(wanted.program, os.X_OK):
-        sys.exit(f"{wanted.program} is not there: run `make build` first")
     if wanted.records + wanted.edits > MOST_RECORDS:
         sys.exit(f"a track takes at most {MOST_RECORDS:,} records, and the adds are {wanted.edits:,} of them")
     print(f"{wanted.records:,} records, {2 * wanted.edits:,} edits of the {wanted.of} ({wanted.at}), {wanted.runs} runs each, "
-          f"{os.cpu_count()} processors, {platform.machine()}")
+          f"{MACHINE}")
     print(f"Open views: {', '.join(wanted.view)}")
     print("| columns | without edits | with edits | edits a second |")
     print("|---|---|---|---|")
-    with tempfile.TemporaryDirectory() as temporary:
-        folder = wanted.folder or temporary
-        os.makedirs(folder, exist_ok=True)
+    with folder_of(wanted) as folder:
         for columns in wanted.columns:
             run_case(wanted, folder, columns)
 
 
 def read_words():
-    words = argparse.ArgumentParser(description=__doc__.splitlines()[0])
-    words.add_argument("folder", nargs="?", help="where the data is written (default: a temporary folder)")
+    words = parser_of(__doc__, runs=5)
     words.add_argument("--of", choices=["track", "second", "lengths", "shows"], default="track", help="what is edited")
     words.add_argument("--view", nargs="+", choices=VIEWS, default=["merge"], help="the views that are open")
     words.add_argument("--records", type=int, default=1_000_000)
     words.add_argument("--columns", type=int, nargs="+", choices=[3, 4, 5, 6], default=[3, 6])
     words.add_argument("--edits", type=int, default=200_000, help="how many adds, and how many removes")
     words.add_argument("--at", choices=["all-over", "one-place", "ascending"], default="all-over", help="where the added records lie, and in which order they come")
-    words.add_argument("--runs", type=int, default=5, help="runs of each script")
-    words.add_argument("--program", default=os.path.join(TOP, "build", "bedkeep"))
-    return words.parse_args()
+    return begin(words)
 
 
 def run_case(wanted, folder, columns):

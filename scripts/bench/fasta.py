@@ -17,18 +17,13 @@ Standard output is thrown away. For each program the least and the median time,
 the ratio of bedkeep's median to its own, and the most memory that it held.
 """
 
-import argparse
 import itertools
 import os
-import platform
 import random
-import shutil
 import statistics
 import subprocess
-import sys
-import tempfile
 
-from views import TOP, digest_of, in_own_process, measure, milliseconds
+from views import MACHINE, begin, compare, folder_of, in_own_process, measure, milliseconds, parser_of
 
 SEED = 22
 VIEWS = ["getfasta", "getfasta -s", "getfasta -tab", "getfasta -s -tab"]
@@ -41,18 +36,11 @@ LETTERS = (b"ACGT" * 47 + b"acgt" * 16).ljust(256, b"N")
 
 def main():
     wanted = read_words()
-    if not os.access(wanted.program, os.X_OK):
-        sys.exit(f"{wanted.program} is not there: run `make build` first")
-    for program in ("bedtools", "samtools"):
-        if shutil.which(program) is None:
-            sys.exit(f"{program} is not installed")
-    with tempfile.TemporaryDirectory() as temporary:
-        folder = wanted.folder or temporary
-        os.makedirs(folder, exist_ok=True)
+    with folder_of(wanted) as folder:
         in_own_process(write_data, folder, wanted.bases, wanted.records)
         size = os.path.getsize(os.path.join(folder, "indexed.fa"))
         print(f"{wanted.records:,} records, a FASTA file of {size:,} bytes, {wanted.runs} runs each, "
-              f"{version('bedtools')}, {version('samtools')}, {os.cpu_count()} processors, {platform.machine()}")
+              f"{version('bedtools')}, {version('samtools')}, {MACHINE}")
         print("| view | program | least and median | bedkeep's median to its own | most memory | bytes a byte of FASTA |")
         print("|---|---|---|---|---|---|")
         for view in wanted.view:
@@ -60,15 +48,12 @@ def main():
 
 
 def read_words():
-    words = argparse.ArgumentParser(description=__doc__.splitlines()[0])
-    words.add_argument("folder", nargs="?", help="where the data is written (default: a temporary folder)")
+    words = parser_of(__doc__, runs=7)
     words.add_argument("--alone", action="store_true", help="runs of the one subcommand, without a session")
     words.add_argument("--view", nargs="+", choices=VIEWS, default=VIEWS[:3])
     words.add_argument("--bases", type=int, default=200_000_000)
     words.add_argument("--records", type=int, default=70_000)
-    words.add_argument("--runs", type=int, default=7, help="runs of each program")
-    words.add_argument("--program", default=os.path.join(TOP, "build", "bedkeep"))
-    return words.parse_args()
+    return begin(words, "bedtools", "samtools")
 
 
 def version(program):
@@ -148,14 +133,7 @@ def places(count, chromosomes, chance):
         yield rank, start, start + bases, f"gene_{number}", "+-"[number % 2]
 
 
-# ------------------------------------------------------------------ the runs
-
-
-def compare(programs):
-    """Stops if the outputs differ. Also brings the files into the page cache."""
-    found = {name: digest_of(*program) for name, program in programs.items()}
-    if len(set(found.values())) > 1:
-        sys.exit(f"the outputs differ (digest, bytes): {found}")
+# ------------------------------------------------------------------ the report
 
 
 def report(view, size, seconds, most):

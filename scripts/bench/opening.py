@@ -16,26 +16,18 @@ added and removed again under `merge -c 4 -o collapse` and under `merge`, whose
 results are made again at each edit.
 """
 
-import argparse
 import os
-import platform
 import statistics
-import sys
-import tempfile
 
-from views import TOP, VIEWS, measure, write_data
+from views import MACHINE, VIEWS, begin, folder_of, measure, parser_of, write_data
 
 EDITS = 100
 
 
 def main():
     wanted = read_words()
-    if not os.access(wanted.program, os.X_OK):
-        sys.exit(f"{wanted.program} is not there: run `make build` first")
-    with tempfile.TemporaryDirectory() as temporary:
-        folder = wanted.folder or temporary
-        os.makedirs(folder, exist_ok=True)
-        print(f"{wanted.records:,} records of {wanted.columns} columns, {wanted.runs} runs each, {os.cpu_count()} processors, {platform.machine()}")
+    with folder_of(wanted) as folder:
+        print(f"{wanted.records:,} records of {wanted.columns} columns, {wanted.runs} runs each, {MACHINE}")
         print("| view | opening | bytes a record |")
         print("|---|---|---|")
         time_openings(wanted, folder)
@@ -48,15 +40,12 @@ def main():
 
 
 def read_words():
-    words = argparse.ArgumentParser(description=__doc__.splitlines()[0])
-    words.add_argument("folder", nargs="?", help="where the data is written (default: a temporary folder)")
+    words = parser_of(__doc__, runs=3)
     words.add_argument("--view", nargs="+", choices=VIEWS, default=["merge", "merge -d 100", "complement", "cluster", "genomecov -bg"])
     words.add_argument("--records", type=int, default=4_000_000)
     words.add_argument("--columns", type=int, choices=[3, 4, 5, 6], default=3)
     words.add_argument("--block", type=int, default=100_000, help="how many records the one block has")
-    words.add_argument("--runs", type=int, default=3, help="runs of each script")
-    words.add_argument("--program", default=os.path.join(TOP, "build", "bedkeep"))
-    return words.parse_args()
+    return begin(words)
 
 
 def time_openings(wanted, folder):

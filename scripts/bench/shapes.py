@@ -15,18 +15,15 @@ A ratio of bedkeep above 5 is listed at the end, and the script stops with statu
 SLOW has the shape and the view.
 """
 
-import argparse
 import os
-import platform
 import random
 import shutil
 import subprocess
 import sys
-import tempfile
 import threading
 import time
 
-from views import CHROMOSOMES, SEED, TOP, TWO_FILES, places
+from views import CHROMOSOMES, MACHINE, SEED, TWO_FILES, begin, folder_of, parser_of, places
 
 VIEWS = ["merge", "merge -s", "merge -c 4 -o collapse", "cluster", "complement", "genomecov -bg",
          "intersect", "intersect -u", "intersect -v", "intersect -c", "intersect -wa", "intersect -wb", "intersect -wa -wb",
@@ -46,14 +43,12 @@ SLOW = {
 
 def main():
     wanted = read_words()
-    if not os.access(wanted.program, os.X_OK):
-        sys.exit(f"{wanted.program} is not there: run `make build` first")
     beside = shutil.which("bedtools") is not None and not wanted.without_bedtools
     print(f"{wanted.records:,} records beside {wanted.second:,}, six columns, the least of {wanted.runs} runs, "
-          f"{os.cpu_count()} processors, {platform.machine()}\n")
+          f"{MACHINE}\n")
     print("| shape | view | run | session | bedtools |\n|---|---|---|---|---|")
-    with tempfile.TemporaryDirectory() as temporary:
-        slow = run_all(wanted, wanted.folder or temporary, beside)
+    with folder_of(wanted) as folder:
+        slow = run_all(wanted, folder, beside)
     unnamed = [f"{shape}, {view}: {ratio:.1f}" for shape, view, ratio in slow if view not in SLOW.get(shape, [])]
     if unnamed:
         sys.exit("above 5 and not known to be slow:\n" + "\n".join(unnamed))
@@ -61,7 +56,6 @@ def main():
 
 def run_all(wanted, folder, beside):
     """Prints a row for each shape and view. The shape, view and greatest ratio of those that are slow."""
-    os.makedirs(folder, exist_ok=True)
     spread, slow = {}, []
     for shape in ["spread", *wanted.shape]:
         files = write_files(folder, shape, wanted.records, wanted.second)
@@ -82,17 +76,14 @@ def run_all(wanted, folder, beside):
 
 
 def read_words():
-    words = argparse.ArgumentParser(description=__doc__.splitlines()[0])
-    words.add_argument("folder", nargs="?", help="where the data is written (default: a temporary folder)")
+    words = parser_of(__doc__, runs=3)
     words.add_argument("--records", type=int, default=400_000)
     words.add_argument("--second", type=int, default=200_000, help="records of the second file")
-    words.add_argument("--runs", type=int, default=3, help="runs of each program")
     words.add_argument("--most", type=int, default=60, help="seconds after which a run is stopped")
     words.add_argument("--shape", nargs="+", choices=list(SHAPES), default=list(SHAPES)[1:])
     words.add_argument("--view", nargs="+", choices=VIEWS, default=VIEWS)
     words.add_argument("--without-bedtools", action="store_true")
-    words.add_argument("--program", default=os.path.join(TOP, "build", "bedkeep"))
-    return words.parse_args()
+    return begin(words)
 
 
 def views_of(shape):

@@ -22,6 +22,7 @@ be that promises nothing, except that it prints no row before the last byte was 
 """
 
 import argparse
+import contextlib
 import hashlib
 import itertools
 import multiprocessing
@@ -38,6 +39,7 @@ import time
 
 TOP = os.path.dirname(os.path.dirname(os.path.dirname(os.path.abspath(__file__))))
 SEED = 20
+MACHINE = f"{os.cpu_count()} processors, {platform.machine()}"
 LIMIT = os.path.join(TOP, "scripts", "bench", "limit.rs")
 LIMIT_VIEWS = ("merge", "cluster", "intersect", "subtract")
 VIEWS = ["merge", "merge -d 100", "complement", "cluster", "merge -c 4 -o collapse", "merge -c 5 -o sum", "merge -c 1,2 -o count,max", "genomecov -bg", "genomecov -bga", "genomecov -d",
@@ -55,17 +57,11 @@ CHROMOSOMES = [
 
 def main():
     wanted = read_words()
-    if not os.access(wanted.program, os.X_OK):
-        sys.exit(f"{wanted.program} is not there: run `make build` first")
-    if shutil.which("bedtools") is None:
-        sys.exit("bedtools is not installed")
     version = subprocess.run(["bedtools", "--version"], capture_output=True, text=True).stdout.strip()
-    print(f"{wanted.runs} runs each, {version}, {os.cpu_count()} processors, {platform.machine()}")
+    print(f"{wanted.runs} runs each, {version}, {MACHINE}")
     print("| view | records | columns | order | bedkeep | bedtools | ratio of medians | bedkeep's bytes a record | bedtools' | limit | its ratio |")
     print("|---|---|---|---|---|---|---|---|---|---|---|")
-    with tempfile.TemporaryDirectory() as temporary:
-        folder = wanted.folder or temporary
-        os.makedirs(folder, exist_ok=True)
+    with folder_of(wanted) as folder:
         if wanted.limit:
             compile_limit(os.path.join(folder, "limit"))
         for case in itertools.product(wanted.view, wanted.records, wanted.columns, wanted.order):
@@ -126,8 +122,7 @@ def bedtools_line(view, genome, track, second, order):
 
 
 def read_words():
-    words = argparse.ArgumentParser(description=__doc__.splitlines()[0])
-    words.add_argument("folder", nargs="?", help="where the data is written (default: a temporary folder)")
+    words = parser_of(__doc__, runs=7)
     words.add_argument("--view", nargs="+", choices=VIEWS, default=["merge"])
     words.add_argument("--records", type=int, nargs="+", default=[1_000_000])
     words.add_argument("--columns", type=int, nargs="+", choices=[3, 4, 5, 6], default=[3])
@@ -137,9 +132,39 @@ def read_words():
     words.add_argument("--alone", action="store_true", help="a run of the one subcommand instead of a session")
     words.add_argument("--limit", action="store_true", help="the limit program beside them")
     words.add_argument("--order", nargs="+", choices=["sorted", "shuffled"], default=["sorted"])
-    words.add_argument("--runs", type=int, default=7, help="runs of each program")
+    return begin(words, "bedtools")
+
+
+# ------------------------------------------------------------------ what the other benchmarks begin with too
+
+
+def parser_of(text, runs):
+    """The arguments that each benchmark has, after its description."""
+    words = argparse.ArgumentParser(description=text.splitlines()[0])
+    words.add_argument("folder", nargs="?", help="where the data is written (default: a temporary folder)")
+    words.add_argument("--runs", type=int, default=runs, help="runs of each program")
     words.add_argument("--program", default=os.path.join(TOP, "build", "bedkeep"))
-    return words.parse_args()
+    return words
+
+
+def begin(words, *others):
+    """The arguments that were given, if the program and those beside it are there."""
+    wanted = words.parse_args()
+    if not os.access(wanted.program, os.X_OK):
+        sys.exit(f"{wanted.program} is not there: run `make build` first")
+    for other in others:
+        if shutil.which(other) is None:
+            sys.exit(f"{other} is not installed")
+    return wanted
+
+
+@contextlib.contextmanager
+def folder_of(wanted):
+    """The folder for the data: the one that was given, or a temporary one."""
+    with tempfile.TemporaryDirectory() as temporary:
+        folder = wanted.folder or temporary
+        os.makedirs(folder, exist_ok=True)
+        yield folder
 
 
 # ------------------------------------------------------------------ the data

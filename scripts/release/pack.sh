@@ -104,6 +104,10 @@ scripts/test/examples.sh "$stage/unpacked/$name/bin/bedkeep" "$documents/example
 scripts/test/python.sh "$stage/unpacked/$name/bin/bedkeep" "$stage/unpacked/$name/share/bedkeep/python"
 printf 'chr1\t100\n' > "$stage/sizes"
 printf 'open\tm\tmerge\nadd\tchr1\t10\t20\nadd\tchr1\t15\t30\nprint\tm\n' > "$stage/script"
+if [ "$(env --ignore-environment "PATH=$PATH" PYTHONDONTWRITEBYTECODE=1 "$stage/unpacked/$name/bin/bedkeep-desk" --version)" != "bedkeep $version" ]; then
+    echo 'the unpacked archive has no bedkeep-desk that runs' >&2
+    exit 1
+fi
 said=$(env --ignore-environment "$stage/unpacked/$name/bin/bedkeep" session -g "$stage/sizes" -i /dev/null < "$stage/script")
 if [ "$said" != $'chr1\t10\t30' ]; then
     echo "the unpacked program printed: $said" >&2
@@ -119,7 +123,9 @@ made+=("$wheel")
 
 if command -v dpkg-deb > /dev/null; then
     root=$stage/deb
-    install_to "$root" PREFIX=/usr zshdir=/usr/share/zsh/vendor-completions
+    install_to "$root" PREFIX=/usr zshdir=/usr/share/zsh/vendor-completions pythondir=/usr/lib/python3/dist-packages
+    rm "$root"/usr/lib/python3/dist-packages/{pyproject.toml,README.md}
+    sed -i '1s|/usr/bin/env python3|/usr/bin/python3|' "$root/usr/bin/bedkeep-desk"
     gzip --no-name --best "$root/usr/share/man/man1/bedkeep.1"
     noted "$root/usr/share/doc/bedkeep/NOTICE"
     echo 'On Debian these licenses are /usr/share/common-licenses/LGPL-2.1 and /usr/share/common-licenses/GPL-3.' >> "$root/usr/share/doc/bedkeep/NOTICE"
@@ -134,6 +140,7 @@ Version: $version
 Architecture: amd64
 Maintainer: the bedkeep authors <bedkeep@example.invalid>
 Installed-Size: $(find "$root/usr" -type f -printf '%s\n' | awk '{ sum += int(($1 + 1023) / 1024) } END { print sum }')
+Recommends: python3 (>= 3.9)
 Section: science
 Priority: optional
 Description: keeps a track of genome intervals correct while you edit it

@@ -4,11 +4,11 @@ from __future__ import annotations
 from collections import Counter
 from typing import Hashable, Iterator, NamedTuple, Sequence
 
-from ..classes import Finding
-from ..corrections import Line
+from ..commands.causes import Finding
+from ..commands.corrections import Line
 from ..formats import follow
-from ..records import Record
-from ..rows import RECORD
+from ..printed_rows import RECORD
+from ..record import Record
 from .markup import number
 
 SAME = 20  # more lines that make the same change are one card

@@ -4,10 +4,11 @@ from __future__ import annotations
 from itertools import groupby, zip_longest
 from typing import Iterable, NamedTuple, Sequence
 
-from ..corrections import Line
+from ..commands.corrections import Line
 from .alike import Unit
 from .intervals import sequence_of
-from .markup import escaped, number, with_tabs
+from .markup import escaped, is_whole, number, with_tabs
+from .parts import BOLD, CODE, LINE, LINK, RECORDS, Note, Part, columns_of
 from .reviewer import Reviewed
 
 THERE = "already there"
@@ -125,8 +126,34 @@ def _line(reviewed: Reviewed, several: bool) -> str:
 def _body(reviewed: Reviewed) -> str:
     """A line with what is to be said of it and its pictures."""
     warning = f"<p class=warning>{escaped(reviewed.line.warning)}</p>" if reviewed.line.warning else ""
-    notes = "".join(f"<li>{note}</li>" for note in reviewed.notes)
+    notes = "".join(f"<li>{html_of_note(note)}</li>" for note in reviewed.notes)
     return f"<pre>{_written(reviewed.line)}</pre>{warning}{f'<ul>{notes}</ul>' if notes else ''}{reviewed.figures}"
+
+
+def html_of_note(note: Note) -> str:
+    return "".join(map(_html_of_part, note))
+
+
+def _html_of_part(part: Part) -> str:
+    if part.kind == RECORDS:
+        return _beside(part)
+    if part.kind == LINE:
+        button = f'<button class=copy data-text="{escaped(part.text)}">copy</button> ' if is_whole(part.text) else ""
+        return f"{button}<code>{with_tabs(part.text)}</code>"
+    text = escaped(part.text)
+    if part.kind == LINK:
+        return f'<a href="#L{part.number}">{text}</a>'
+    return {BOLD: f"<b>{text}</b>", CODE: f"<code>{text}</code>"}.get(part.kind, text)
+
+
+def _beside(part: Part) -> str:
+    """Records below each other, each after its title, columns marked that differ."""
+    lines = []
+    for title, record in part.rows:
+        cells = [(f"<mark>{escaped(text)}</mark>" if column.differs else escaped(text)) + " " * (column.width - len(text))
+                 for text, column in zip(record, columns_of(part.rows))]
+        lines.append("  ".join([title.ljust(7), *cells]).rstrip())
+    return f"<pre>{chr(10).join(lines)}</pre>"
 
 
 def _all(card: Card, several: bool) -> str:

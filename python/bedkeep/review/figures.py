@@ -4,8 +4,8 @@ from __future__ import annotations
 from collections import Counter
 from typing import Callable, Iterator, Mapping, NamedTuple, Optional
 
-from ..classes import Finding
-from ..corrections import Line
+from ..commands.causes import Finding
+from ..commands.corrections import Line
 from .drawing import Picture
 from .intervals import Interval, Stretch, asked, blocks_of, interval_of, of_record, stretches_of
 from .markup import counted, number

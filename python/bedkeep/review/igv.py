@@ -6,7 +6,7 @@ import re
 from typing import Iterator, Sequence
 from xml.sax.saxutils import quoteattr
 
-from ..corrections import Line
+from ..commands.corrections import Line
 from .intervals import asked
 from .markup import CONTROL
 

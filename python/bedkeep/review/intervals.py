@@ -4,8 +4,9 @@ from __future__ import annotations
 import re
 from typing import Iterable, Iterator, NamedTuple, Optional, Sequence
 
-from ..corrections import EDITS, Line
-from ..records import Record
+from ..commands.corrections import Line
+from ..record import Record
+from ..script import EDITS
 
 LEAST = 40  # bases on either side of what a picture is about
 FAR = 4  # places that are further apart than so many times their own length have a picture each

@@ -3,7 +3,7 @@ from __future__ import annotations
 
 from typing import Iterable, Mapping, Sequence
 
-from ..corrections import Line
+from ..commands.corrections import Line
 from .intervals import asked, sequence_of
 from .markup import counted, escaped, number
 from .printed import BINS, Side

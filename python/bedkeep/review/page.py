@@ -6,7 +6,7 @@ from collections import Counter
 from importlib import resources
 from typing import Iterable, Mapping, NamedTuple, Sequence
 
-from ..corrections import Line
+from ..commands.corrections import Line
 from .cards import THERE, Card, html_of
 from .intervals import sequence_of
 from .markup import counted, escaped, number

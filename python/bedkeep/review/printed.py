@@ -7,7 +7,7 @@ from collections import Counter
 from contextlib import contextmanager
 from typing import Any, Callable, Iterator, Optional, Union
 
-from ..program import decoded
+from ..encoding import decoded
 from .intervals import Interval, Stretch, Windows
 
 BINS = 240  # of the overview of a sequence

@@ -3,14 +3,15 @@ from __future__ import annotations
 
 from typing import Collection, Iterable, Mapping, NamedTuple, Optional, Sequence
 
-from ..classes import Finding
-from ..corrections import Line
+from ..commands.causes import Finding
+from ..commands.corrections import Line
 from ..errors import Error
 from .figures import Scene, figures, pictured
 from .intervals import FAR, Interval, Stretch, Windows, asked, blocks_of
-from .markup import counted, escaped, number
+from .markup import counted, number
 from .neighbours import Neighbours
-from .notes import difference, link, of_refused, of_there
+from .notes import difference, of_refused, of_there
+from .parts import Note, link, plain, said
 from .printed import Side
 from .shapes import Tails
 
@@ -20,11 +21,11 @@ class Differs(Error):
 
 
 class Reviewed(NamedTuple):
-    """What the page shows of a line. notes and figures are HTML."""
+    """What the page shows of a line. figures: HTML"""
 
     line: Line
     finding: Finding
-    notes: list[str]
+    notes: list[Note]
     figures: str
     is_copy: bool
 
@@ -75,11 +76,11 @@ class Reviewer:
         elif line.there:
             notes = list(of_there(line))
         elif line.command == "resize":
-            notes = [self._resized(line)]
+            notes = [plain(self._resized(line))]
         else:
             notes = self._carry_out(line, track, is_shown)
         if is_copy:
-            notes.append("<b>A copy</b>: the track has this record already.")
+            notes.append(said("*A copy*: the track has this record already."))
         return Reviewed(line, finding, notes, pictures, is_copy)
 
     def _scene(self, line: Line, track: Neighbours, other: Optional[Neighbours]) -> Scene:
@@ -90,19 +91,19 @@ class Reviewer:
         resize(line, self._lengths)
         new = self._lengths[line.fields[0]]
         change = f"{counted(abs(new - old), 'base')} {'more' if new > old else 'fewer'}"
-        return f"{escaped(line.fields[0])}: {number(old)} → {number(new)}, {change}."
+        return f"{line.fields[0]}: {number(old)} → {number(new)}, {change}."
 
-    def _carry_out(self, line: Line, track: Optional[Neighbours], is_shown: bool) -> list[str]:
+    def _carry_out(self, line: Line, track: Optional[Neighbours], is_shown: bool) -> list[Note]:
         """Changes the track, and says what came of it."""
         old, new = asked(line)
         if track is None or not (old or new):
             raise Differs(f"line {line.number} was done, but names no record")
-        notes = []
+        notes: list[Note] = []
         before = self._blocks(line, track) if is_shown else 0
         if old:
             maker = self._makers.get((line.is_second, old))
             if maker:
-                notes.append(f"The record was put in by {link(maker)}.")
+                notes.append((*plain("The record was put in by "), link(maker), *plain(".")))
             if not track.remove(old) and is_shown:
                 raise Differs(f"line {line.number} was done, but its record isn't there")
         if new:
@@ -110,9 +111,9 @@ class Reviewer:
             self._makers[line.is_second, new] = line
         after = self._blocks(line, track) if is_shown else 0
         if old and new:
-            notes.append(difference(old, new))
+            notes.append(plain(difference(old, new)))
         if before and after and before != after and not line.is_second:
-            notes.append(f"{counted(before, 'block')} {'becomes' if before == 1 else 'become'} {number(after)}.")
+            notes.append(plain(f"{counted(before, 'block')} {'becomes' if before == 1 else 'become'} {number(after)}."))
         return notes
 
     def _blocks(self, line: Line, track: Neighbours) -> int:

@@ -5,12 +5,12 @@ import os
 import subprocess
 from typing import NamedTuple, Optional, Sequence
 
-from ..corrections import Line
-from ..files import Bed
-from ..inputs import Inputs
-from ..program import find
-from ..records import WIDEST, split_row
-from ..replay import replay_inputs
+from ..bed import Bed
+from ..commands.corrections import Line
+from ..commands.input_files import Inputs
+from ..commands.replay import replay_inputs
+from ..program import MOST, find
+from ..record import WIDEST, split_row
 from ..script import line_of
 from ..session import Session
 from .alike import units_of
@@ -58,7 +58,8 @@ def review(inputs: Inputs, distance: int, sums: Sequence[tuple[str, str]], copie
     pictured = {finding.line.number for unit in units for finding in unit.shown}
     windows = windows_of(findings, lengths, distance, pictured)
     shown = shown_lengths(lines, lengths)
-    session = Printing(inputs.genome, inputs.bed.narrow, inputs.second.narrow if inputs.second else None, width=inputs.width)
+    session = Printing(inputs.genome, inputs.bed.narrow, inputs.second.narrow if inputs.second else None, width=inputs.width,
+                       limit=MOST)
     known: Known = {}
     with session:
         before, after = [_side(printed, windows, shown, known) for printed in _prints(inputs, session, lines, distance)]
@@ -86,7 +87,7 @@ def _second(inputs: Inputs, lines: Sequence[Line], windows: Windows) -> tuple[Op
     if not inputs.second:
         return None, None
     own = [_of_track(line) for line in lines if line.is_second or line.command == "resize"]
-    session = Printing(inputs.genome, inputs.second.narrow, width=inputs.second.option)
+    session = Printing(inputs.genome, inputs.second.narrow, width=inputs.second.option, limit=MOST)
     with session:
         before, after = [_side(printed, windows, {}, {}) for printed in _prints(inputs, session, own, 0)]
     return before, after

@@ -3,9 +3,9 @@ from __future__ import annotations
 
 from typing import Iterator, NamedTuple, Optional
 
-from ..corrections import Line
-from ..formats import BED8, BED9, BED12, default_tail, faults, follow, format_of
-from ..records import WIDEST, Record
+from ..commands.corrections import Line
+from ..formats import BED12, BED8, BED9, default_tail, faults, follow, format_of
+from ..record import WIDEST, Record
 from .intervals import Interval, asked
 
 

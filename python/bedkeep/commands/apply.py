@@ -1,0 +1,70 @@
+"""The corrected track: python3 -m bedkeep apply GENOME BED CORRECTIONS.. -o FILE"""
+from __future__ import annotations
+
+import argparse
+import sys
+from typing import NamedTuple, Optional, Sequence, Union
+
+from ..encoding import Path
+from ..errors import Refused
+from .input_files import Inputs
+from .options import add_options, messages, write_refused
+
+DESCRIPTION = """Writes the corrected track. Each line of BED that no correction is about stays where it is, byte for byte; a
+replacement comes where the old record was, and an addition after the record that it follows in the order of GENOME."""
+
+
+class Applied(NamedTuple):
+    """What came of corrections.
+
+    refused:    the lines that were refused, each with its number in its file
+    messages:   of these lines, and of those that are there already or were done with a warning, as the command prints them
+    is_written: whether the track was written
+    """
+
+    refused: list[Refused]
+    messages: list[str]
+    is_written: bool
+
+
+def apply(genome: Path, bed: Path, corrections: Union[Path, Sequence[Path]], output: Path, second: Optional[Path] = None,
+          sorted: bool = False, strict: bool = False, copies: bool = False, leave_blocks: bool = False,
+          refused: Optional[Path] = None) -> Applied:
+    """Writes the track that scripts of corrections make of a BED file, which isn't changed.
+
+    Each line that no correction is about stays where it is, byte for byte. Raises an Error, an OSError or a ValueError if a file
+    can't be used, and writes nothing then; a line that is refused raises nothing.
+
+    sorted: the headers, then all records in the order of the genome; strict: writes nothing if there is a message;
+    copies: whether an `add` of a record that is there puts a copy in; leave_blocks: whether a line is done after which columns
+    from the seventh on can't hold; refused: a file for the messages of the refused lines
+    """
+    with Inputs(genome, bed, corrections, second) as inputs, inputs.session(leave_blocks) as session:
+        lines = inputs.carry(session, copies)
+        said = list(messages(inputs.lines))
+        is_written = not (strict and said)
+        if is_written:
+            inputs.save(session, output, sorted)
+        write_refused(refused, inputs)
+    return Applied([Refused(line.refusal, line.place, line.text, line.hints) for line in lines], said, is_written)
+
+
+def options(parser: argparse.ArgumentParser) -> None:
+    """What the command takes."""
+    parser.description = DESCRIPTION
+    add_options(parser)
+    parser.add_argument("-o", dest="output", metavar="FILE", default="-",
+                        help="where to; it is written whole or not at all, and never over an input")
+    parser.add_argument("--sorted", action="store_true", help="writes the headers, then all records in the order of GENOME")
+    parser.add_argument("--strict", action="store_true", help="writes nothing if a line is refused, or done with a warning")
+
+
+def run(given: argparse.Namespace) -> int:
+    """Writes the corrected track, and returns the status: 1 if lines were refused."""
+    applied = apply(given.genome, given.bed, given.corrections, given.output, given.second, given.sorted, given.strict,
+                    given.copies, given.leave_blocks, given.refused)
+    for message in applied.messages:
+        print(message, file=sys.stderr)
+    if not applied.is_written:
+        print("nothing is written", file=sys.stderr)
+    return 1 if applied.refused or not applied.is_written else 0

@@ -1,0 +1,238 @@
+"""Scripts of corrections, several read as one: each line with its file, its number there, its reason and its group.
+
+`read_lines` reads them. `carry.Carrier` has a session carry them out, after which each line has its verdict: a line that is well
+formed has its records, and one that was refused a message that names the field.
+
+A reason is the block of comments directly above a paragraph: the lines down to the next comment or empty line. A comment that
+begins with `together:` makes the paragraph a group, whose lines are done whole or not at all. Markers, such as `# was: ..`, are
+comments that a program wrote about one line: they are no reason, and no paragraph begins or ends with them.
+"""
+from __future__ import annotations
+
+import os
+import re
+from typing import Iterable, Optional, Sequence
+
+from ..encoding import Path, decoded
+from ..errors import field_of
+from ..files import read_bytes
+from ..printed_rows import RECORD
+from ..record import NARROWEST, WIDEST, Record, record_of
+from ..script import EDITS, TOGETHER, VIEWS, is_reason, is_together
+from ..wide import cut
+
+ABSENT = "no such record"
+UNLIKE = "the record is there with"  # how a session says that the columns after the sixth differ
+PLACE = re.compile(r"[^:]+:[0-9,]+-[0-9,]+")
+ABOUT_COMMANDS = {"no such command or wrong fields", "no second file"}
+WRONG_NUMBER = "wrong number of columns"
+
+
+class Group:
+    """The lines of a paragraph that are done whole or not at all."""
+
+    def __init__(self) -> None:
+        self.lines: list[Line] = []
+
+
+class Line:
+    """A line of the corrections, and once it is carried out its verdict.
+
+    number:   through all files, from 1; place: in its file
+    text:     without its end; command, fields: its parts
+    heading:  the comments that are its reason, as they are in the file
+    group:    the lines that are done with it or not at all, itself among them; or None
+    refusal:  why the program, or the package, refused it; empty if it was done or isn't run
+    message:  the same with the field that it is about, and its value
+    hints:    what else is to be said of the refusal
+    offers:   lines that would fit instead
+    warning:  what no longer holds of the columns after the sixth, though it was done
+    there:    the record that an `add` isn't done for, since it is there already; it differs if the line is refused
+    width:    the number of columns of the file that it edits, once that is known
+    old, new: the record that it takes out and the one that it puts in, if it is well formed
+    old_tail, new_tail: their columns from the seventh on, if the line has them
+    """
+
+    def __init__(self, number: int, file: str, place: int, text: str, heading: Sequence[str] = (),
+                 group: Optional[Group] = None) -> None:
+        self.number, self.file, self.place, self.text = number, file, place, text
+        self.heading, self.group = tuple(heading), group
+        self.command, *self.fields = text.split("\t")
+        self.refusal = self.message = self.warning = ""
+        self.hints: tuple[str, ...] = ()
+        self.offers: tuple[str, ...] = ()
+        self.there: Optional[Record] = None
+        self.old: Optional[Record] = None
+        self.new: Optional[Record] = None
+        self.old_tail: Optional[str] = None
+        self.new_tail: Optional[str] = None
+        self.width = 0
+        self._narrow = self.fields
+        self._asked: Optional[tuple[Optional[Record], Optional[Record]]] = None
+        if group and self.is_run:
+            group.lines.append(self)
+
+    @property
+    def comments(self) -> tuple[str, ...]:
+        """The reason, line by line, without `#` and `together:`."""
+        texts = [comment[1:].strip() for comment in self.heading]
+        return tuple(text[len(TOGETHER):].strip() if text.startswith(TOGETHER) else text for text in texts if text != TOGETHER)
+
+    @property
+    def is_run(self) -> bool:
+        """Whether it is a correction, and no comment, no empty line and no line of a view."""
+        return bool(self.text) and not self.text.startswith("#") and self.command not in VIEWS
+
+    @property
+    def is_edit(self) -> bool:
+        """Whether it takes or puts a record, and is well formed."""
+        return self.old is not None or self.new is not None
+
+    @property
+    def is_done(self) -> bool:
+        return self.is_run and not self.refusal and not self.there
+
+    @property
+    def is_second(self) -> bool:
+        """Whether it is an edit of the second file."""
+        return self.command in EDITS and self.command.endswith("b")
+
+    @property
+    def sent(self) -> str:
+        """What a session is given: an empty line for what isn't run."""
+        if not self.is_run:
+            return ""
+        # Of two more one is dropped by `Session.edit`, and one by the program.
+        return f"{self.text}\r\r" if self.text.endswith("\r") else self.text
+
+    @property
+    def narrow(self) -> str:
+        """What the program is given over the first six columns of the files."""
+        if not self.is_run:
+            return ""
+        text = "\t".join([self.command, *self._narrow])
+        return f"{text}\r\r" if text.endswith("\r") else text
+
+    def cut(self, width: int) -> None:
+        """Takes the columns from the seventh on apart, if the file has so many. width: of the file, or 0 if it isn't known."""
+        if width == self.width:
+            return
+        self.width, self._asked = width, None
+        if self.command in EDITS:
+            self._narrow, self.old_tail, self.new_tail = cut(self.command, self.fields, width)
+
+    def again(self, text: str) -> Line:
+        """Another line in its place."""
+        line = Line(self.number, self.file, self.place, text, self.heading)
+        line.cut(self.width)
+        return line
+
+    def judge(self, refusal: str, hints: Iterable[str] = ()) -> None:
+        """Takes the verdict of a session: why it was refused, or nothing."""
+        self.hints = tuple(hint for hint in hints if not _is_offer(hint))
+        self.offers = tuple(hint for hint in hints if _is_offer(hint))
+        self.refusal = refusal
+        self.message = self._fault() if refusal else ""
+        self.warning, self.there = "", None
+        is_malformed = refusal in {*ABOUT_COMMANDS, WRONG_NUMBER} or field_of(self.hints) is not None
+        self.old, self.new = (None, None) if is_malformed else self.asked()
+
+    def refuse(self, refusal: str, message: str = "") -> None:
+        """Takes the verdict of the package over that of the session, about records that are well formed."""
+        self.refusal, self.message, self.warning = refusal, message or refusal, ""
+
+    def asked(self) -> tuple[Optional[Record], Optional[Record]]:
+        """The record that it takes out and the one that it puts in, whatever becomes of it; none if they can't be records."""
+        if self._asked is None:
+            halves = self._halves() if self.command in EDITS else []
+            sound = bool(halves) and all(map(_is_record, halves))
+            old = record_of(halves[0]) if sound and not self.command.startswith("add") else None
+            new = record_of(halves[-1]) if sound and not self.command.startswith("remove") else None
+            self._asked = old, new
+        return self._asked
+
+    def records(self) -> list[Record]:
+        """Those of `asked` that there are."""
+        return [record for record in self.asked() if record]
+
+    def _needed(self) -> str:
+        """How many fields the edit of a file of that width has."""
+        widths = sorted({min(self.width, WIDEST), self.width})
+        if self.command not in EDITS or not self.width:
+            return ""
+        counts = widths
+        if self.command.startswith("replace"):
+            counts = sorted({old + new for old in widths for new in widths if old <= new})
+        last = f"{' or ' * (len(counts) > 1)}{counts[-1]}"
+        return f"; {', '.join(map(str, counts[:-1]))}{last} are needed"
+
+    def _halves(self) -> list[list[str]]:
+        """The columns of its one record, or of its two."""
+        half = len(self._narrow) // 2 if self.command.startswith("replace") else len(self._narrow)
+        return [self._narrow[:half], self._narrow[half:]] if half < len(self._narrow) else [self._narrow]
+
+    def _fault(self) -> str:
+        """The refusal with the field that it is about and its value."""
+        if self.refusal == WRONG_NUMBER:
+            places = "".join(f"; {field} is three fields" for field in self.fields if PLACE.fullmatch(field))
+            return f"{self.refusal}: {len(self.fields)} fields{self._needed()}{places}"
+        if self.refusal == ABSENT:
+            unlike = [hint for hint in self.hints if hint.startswith(UNLIKE)]
+            return ": ".join([ABSENT, " ".join(self._halves()[0]), *unlike])
+        if self.refusal in ABOUT_COMMANDS:
+            return f"{self.refusal}: {self.command}"
+        field = field_of(self.hints)
+        return f"{self.refusal}: {self.fields[field - 2]!r} ({self._name_of(field)})" if field else self.refusal
+
+    def _name_of(self, field: int) -> str:
+        """What a field is called, by its number in the line."""
+        if self.command == "resize":
+            return ("sequence", "length")[field - 2]
+        if not self.command.startswith("replace"):
+            return f"{RECORD[field - 2]}, field {field}"
+        half = self.width if self.old_tail is not None else WIDEST if self.new_tail is not None else len(self.fields) // 2
+        return f"{'old' if field - 2 < half else 'new'} {RECORD[(field - 2) % half]}, field {field}"
+
+
+def _is_record(columns: Sequence[str]) -> bool:
+    if len(columns) < NARROWEST:
+        return False
+    start, end = columns[1:NARROWEST]
+    return _is_number(start) and _is_number(end) and int(start) < int(end)
+
+
+def _is_number(text: str) -> bool:
+    return 0 < len(text) <= 10 and text.isascii() and text.isdigit()
+
+
+def _is_offer(hint: str) -> bool:
+    """Whether a hint is a line of a script."""
+    return "\t" in hint and hint.split("\t")[0] in EDITS
+
+
+def read_lines(files: Iterable[Path]) -> list[Line]:
+    """All lines of some scripts, comments and empty ones too."""
+    lines: list[Line] = []
+    for file in files:
+        lines += read_text(decoded(read_bytes(file)), os.fspath(file), len(lines))
+    return lines
+
+
+def read_text(text: str, file: str = "-", before: int = 0) -> list[Line]:
+    """All lines of the text of a script. file: its name; before: how many lines of other scripts are above it."""
+    lines: list[Line] = []
+    heading: list[str] = []
+    group: Optional[Group] = None
+    begun = False  # a reason, by the line directly above
+    texts = text.split("\n")
+    for place, row in enumerate(texts if texts[-1] else texts[:-1], 1):
+        row = row[:-1] if row.endswith("\r") else row
+        if is_reason(row):
+            heading = [*heading, row] if begun else [row]
+            group = Group() if is_together(row) else group if begun else None
+        elif not row:
+            heading, group = [], None
+        begun = is_reason(row)
+        is_line = not row.startswith("#")
+        lines.append(Line(before + place, file, place, row, heading if is_line else (), group if is_line else None))
+    return lines

@@ -1,0 +1,147 @@
+"""The records that one BED file has and another hasn't, found without holding either file: two passes over both.
+
+Lines are compared in order, over what was put in or taken out, so that two versions of a file cost little more than their reading.
+Of lines that aren't found so the first pass keeps hashes of 8 bytes, and the second takes those whose hash one file has more often.
+"""
+from __future__ import annotations
+
+import os
+from array import array
+from collections import Counter
+from itertools import islice, repeat
+from operator import itemgetter
+from typing import Iterable, Iterator
+
+from ..bed import is_header
+from ..encoding import decoded, encoded
+from ..errors import Error
+from ..files import opened, plain
+from ..pairs import beyond
+from ..record import NARROWEST, WIDEST, split_row
+
+AT_ONCE = 4096  # lines
+AHEAD = 64  # lines in which the place is looked for where two files go on alike
+ALIKE = 3  # lines that have to be alike there
+PARTS = 64  # of the hashes, which are counted one part after another
+NO_RECORD = frozenset(b"#tb\r\n")  # with what a line begins that may be none
+Lines = list[bytes]
+
+
+class Rows:
+    """The lines of a BED file that have a record, which can be read several times.
+
+    path: as it was given; width: of the first record, or 0
+    """
+
+    def __init__(self, path: str, folder: str) -> None:
+        self.path, self._file = path, path if os.path.isfile(path) else plain(path, folder)
+        self.width = 0
+        first = _text(next((chunk[0] for chunk in self._chunks() if chunk), b""))
+        self.width = first.count(b"\t") + 1 if first else 0
+        if self.width == 1 and len(first.split()) >= NARROWEST:
+            raise Error(f"{path}: record 1 has spaces instead of TABs: `sed 's/  */\\t/g' {path}` prints TABs, if no name has a space")
+
+    def chunks(self) -> Iterator[Lines]:
+        """The lines with their ends, many at a time. Error if one has another number of columns than the first one."""
+        number = 0
+        for chunk in self._chunks():
+            counts = list(map(bytes.count, chunk, repeat(b"\t")))
+            if counts and (self.width < NARROWEST or counts.count(self.width - 1) < len(counts)):
+                wrong = next((at for at, count in enumerate(counts) if count != self.width - 1), 0)
+                raise Error(f"{self.path}: record {number + wrong + 1}: wrong number of columns")
+            number += len(chunk)
+            if chunk:
+                yield chunk
+
+    def named(self, names: set[str]) -> Iterator[str]:
+        """The rows whose record has one of these names, as the program prints their numbers; all rows if records have no name."""
+        wanted = {encoded(name) for name in names}
+        for line in (line for chunk in self._chunks() for line in chunk):
+            columns = line.split(b"\t", WIDEST)
+            if len(columns) == NARROWEST or columns[NARROWEST].rstrip(b"\r\n") in wanted:
+                yield _row(_text(line))
+
+    def _chunks(self) -> Iterator[Lines]:
+        with opened(self._file) as file:
+            for chunk in iter(lambda: list(islice(file, AT_ONCE)), []):
+                if not NO_RECORD.isdisjoint(map(itemgetter(0), chunk)):
+                    chunk = [line for line in chunk if not is_header(decoded(_text(line)))]
+                yield chunk
+
+
+def differences(old: Rows, new: Rows) -> tuple[list[str], list[str]]:
+    """The lines that the first file has more often, and those that the second one has, with numbers as the program prints them."""
+    less, more = _counted(_unlike(old.chunks(), new.chunks()))
+    gone: list[str] = []
+    come: list[str] = []
+    for mine, theirs in _unlike(old.chunks(), new.chunks()) if less or more else ():
+        gone += _taken(mine, less)
+        come += _taken(theirs, more)
+    return beyond(gone, come), beyond(come, gone)  # Lines may differ by leading zeros alone.
+
+
+def _unlike(old: Iterator[Lines], new: Iterator[Lines]) -> Iterator[tuple[Lines, Lines]]:
+    """The lines of both files, without those that were found in both."""
+    mine: Lines = next(old, [])
+    theirs: Lines = next(new, [])
+    while mine or theirs:
+        both = min(len(mine), len(theirs))
+        if mine[:both] != theirs[:both]:
+            both = next(at for at in range(both) if mine[at] != theirs[at])
+        del mine[:both], theirs[:both]
+        if len(mine) <= AHEAD:
+            mine += next(old, [])
+        if len(theirs) <= AHEAD:
+            theirs += next(new, [])
+        if mine[:1] != theirs[:1]:
+            first, second = _until_alike(mine, theirs)
+            yield [_text(line) for line in mine[:first]], [_text(line) for line in theirs[:second]]
+            del mine[:first], theirs[:second]
+
+
+def _until_alike(mine: Lines, theirs: Lines) -> tuple[int, int]:
+    """How many lines of each are before the first place where both go on alike; else so many as were looked at."""
+    places = {line: at for at, line in reversed(list(enumerate(theirs[:AHEAD])))}
+    for at, line in enumerate(mine[:AHEAD]):
+        other = places.get(line, -1)
+        if other >= 0 and mine[at:at + ALIKE] == theirs[other:other + ALIKE]:
+            return at, other
+    return AHEAD, AHEAD
+
+
+def _text(line: bytes) -> bytes:
+    """A line without its end."""
+    line = line[:-1] if line.endswith(b"\n") else line
+    return line[:-1] if line.endswith(b"\r") else line
+
+
+def _counted(pairs: Iterable[tuple[Lines, Lines]]) -> tuple[Counter[int], Counter[int]]:
+    """How much more often the first of all pairs have a hash, and how much more often the second ones."""
+    parts = [(array("q"), array("q")) for _ in range(PARTS)]
+    for pair in pairs:
+        for side, lines in enumerate(pair):
+            for value in map(hash, lines):
+                parts[value % PARTS][side].append(value)
+    less: Counter[int] = Counter()
+    more: Counter[int] = Counter()
+    for first, second in parts:
+        counts = Counter(first)
+        counts.subtract(second)
+        less.update({value: count for value, count in counts.items() if count > 0})
+        more.update({value: -count for value, count in counts.items() if count < 0})
+    return less, more
+
+
+def _taken(lines: Lines, counts: Counter[int]) -> Iterator[str]:
+    """The lines whose hash is counted, as many as it says."""
+    for line in lines:
+        value = hash(line)
+        if counts.get(value, 0) > 0:
+            counts[value] -= 1
+            yield _row(line)
+
+
+def _row(line: bytes) -> str:
+    """A line with its numbers as the program prints them."""
+    record, tail = split_row(decoded(line))
+    return "\t".join(record) + tail

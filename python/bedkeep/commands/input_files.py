@@ -1,0 +1,119 @@
+"""What the commands of the desk are given, read once: a genome file, a BED file, a second file, and scripts of corrections.
+
+    with Inputs(genome, bed, corrections, second) as inputs, inputs.session() as session:
+        inputs.carry(session)  # has the program carry out all lines; then each line has its verdict, and its records
+        inputs.save(session, path)
+"""
+from __future__ import annotations
+
+import os
+import tempfile
+from types import TracebackType
+from typing import Optional, Sequence, Union
+
+from ..bed import Bed, lengths_of
+from ..encoding import Path
+from ..errors import Ended, Error
+from ..files import plain, refuse_inputs
+from ..program import MOST
+from ..session import Session
+from .carry import Carrier
+from .corrections import Line, read_lines
+
+
+class Inputs:
+    """The files, as the program can read them until `close`, and the lines of all scripts.
+
+    genome:  the path of the genome file; lengths: its sequences and their lengths, in its order
+    bed, second: the BED files
+    lines:   of the corrections, with comments, empty lines and lines of views
+    given:   the names of all files, as they were given
+    """
+
+    def __init__(self, genome: Path, bed: Path, corrections: Union[Path, Sequence[Path]], second: Optional[Path] = None) -> None:
+        scripts = [corrections] if isinstance(corrections, (str, os.PathLike)) else corrections
+        self.given = given = [os.fspath(path) for path in (genome, bed, *scripts, *([second] if second else []))]
+        if given.count("-") > 1:
+            raise Error("only one file can be standard input")
+        self._folder = tempfile.TemporaryDirectory(prefix="bedkeep-")
+        self._named: list[tuple[str, str]] = []  # the paths that the program reads, and the names as they were given
+        try:
+            self.lines: list[Line] = read_lines(given[2:2 + len(scripts)])
+            self.genome = self._plain(given[0])
+            self._bed = self._plain(given[1])
+            self._second = self._plain(given[-1]) if second else None
+            self.bed = self._opened(self._bed, given[1])
+            self.second = self._opened(self._second, given[-1]) if self._second else None
+        except BaseException:
+            self.close()
+            raise
+        for line in self.lines:
+            file = self.second if line.is_second else self.bed
+            if file and line.command in ("add", "addb"):
+                file.widen(len(line.fields))
+            line.cut(file.width if file else 0)
+
+    def __enter__(self) -> Inputs:
+        return self
+
+    def __exit__(self, kind: Optional[type[BaseException]], failure: Optional[BaseException], _: Optional[TracebackType]) -> None:
+        self.close()
+        if isinstance(failure, Ended):
+            failure.message = self.named(failure.message)
+
+    def close(self) -> None:
+        """Removes the copies that the program read."""
+        self._folder.cleanup()
+
+    @property
+    def folder(self) -> str:
+        """A folder for files that aren't needed after `close`."""
+        return self._folder.name
+
+    @property
+    def lengths(self) -> dict[str, int]:
+        return lengths_of(self.genome)
+
+    @property
+    def width(self) -> Optional[int]:
+        """What `-width` of a session over the first six columns of these files is, if one has no record."""
+        return self.bed.option or (self.second.option if self.second else None)
+
+    def named(self, message: str) -> str:
+        """A message of the program with the names of the files as they were given."""
+        message = self.bed.named(message)
+        message = self.second.named(message) if self.second else message
+        for path, name in self._named:
+            message = message.replace(f"{path}: ", f"{name}: ")
+        return message
+
+    def session(self, leave_blocks: bool = False) -> Session:
+        """A session over the files, with all their columns. leave_blocks: as for a Session."""
+        empty = next((file.width for file in (self.bed, self.second) if file and file.option), None)
+        return Session(self.genome, self._bed, self._second, width=empty, wide=True, leave_blocks=leave_blocks,
+                       limit=MOST)
+
+    def second_session(self) -> Session:
+        """A session over the second file alone, as its track."""
+        assert self.second and self._second
+        return Session(self.genome, self._second, width=self.second.width if self.second.option else None, wide=True, limit=MOST)
+
+    def carry(self, session: Session, copies: bool = False) -> list[Line]:
+        """Has a session carry out all lines, and returns those that are refused. copies: as for a Carrier."""
+        Carrier(session, copies).carry(self.lines)
+        return [line for line in self.lines if line.refusal]
+
+    def save(self, session: Session, path: Path, sorted: bool = False) -> None:
+        """Writes the corrected track, whole or not at all, in the order of its file, or if `sorted` in the track's order."""
+        refuse_inputs(path, self.given)
+        session.save(path, sorted)
+
+    def _plain(self, name: str) -> str:
+        path = plain(name, self._folder.name)
+        self._named.append((path, name))
+        return path
+
+    def _opened(self, path: str, name: str) -> Bed:
+        bed = Bed(path, self._folder.name)
+        bed.path = name
+        return bed

@@ -1,0 +1,71 @@
+"""The script again, with lines that fit: what `replay --mend` writes.
+
+A line that is mended comes below `# was: LINE`. One that is already so, or there, is left as `# dropped: LINE`. One in conflict
+is commented out below `# conflict: ..`, and so are all lines of its group. Reasons stay where they are, and none becomes that of
+another line.
+"""
+from __future__ import annotations
+
+from typing import Iterable, Iterator, Optional, Sequence
+
+from ..formats import fields
+from ..record import Record
+from ..script import is_marker
+from .causes import BAD, CONFLICT, DOABLE, GONE, SO, TAKEN, THERE, Finding
+from .corrections import Line
+
+
+def mended(lines: Sequence[Line], findings: Iterable[Finding]) -> Iterator[str]:
+    """The lines of the scripts again. findings: of those that are run."""
+    found = {finding.line.number: finding for finding in findings}
+    out = {id(finding.line.group) for finding in found.values() if finding.line.group and finding.kind not in DOABLE}
+    is_left = False  # whether a line was left out last, whose reason is above
+    before: Optional[Line] = None
+    for line in lines:
+        finding = found.get(line.number)
+        is_comment = line.text.startswith("#")
+        ends = is_comment and not is_marker(line.text)
+        begins = before and before.file != line.file and not ends and bool(before.heading or is_left)
+        if line.text and (is_left and (ends or begins) or begins):
+            yield ""
+        if finding:
+            text, is_left = written(finding, bool(line.group) and id(line.group) in out)
+            yield from text
+        else:
+            yield line.text
+            is_left = is_left and is_comment and not ends
+        before = line
+
+
+def written(finding: Finding, is_out: bool) -> tuple[list[str], bool]:
+    """What is written for a line, and whether the line is left out. is_out: whether its group stays out."""
+    text = finding.line.text
+    if finding.kind in (SO, THERE):
+        return [f"# dropped: {text}"], True
+    if finding.kind == CONFLICT or is_out:
+        return [*(f"# conflict: {row}" for row in of_conflict(finding)), f"# {text}"], True
+    return ([f"# was: {text}", finding.mended] if finding.mended else [text]), False
+
+
+def of_conflict(finding: Finding) -> Iterator[str]:
+    """The three records of a conflict, with the fields that differ; or why else the line is left out."""
+    line = finding.line
+    if finding.kind in (GONE, BAD, TAKEN) or finding.by:
+        yield finding.note or finding.kind
+        return
+    if finding.note:
+        yield finding.note
+    if line.old:
+        yield _row("base", line.old, line.old_tail, finding.unlike)
+    if line.new:
+        yield _row("mine", line.new, line.new_tail, finding.unlike)
+    if finding.found:
+        is_wide = line.old_tail is not None or line.new_tail is not None
+        yield _row("theirs", finding.found, finding.tail if is_wide else None, finding.unlike)
+
+
+def _row(title: str, record: Record, tail: Optional[str], unlike: Sequence[str]) -> str:
+    named = fields(record, tail or "")
+    said = ", ".join(f"{name} {named[name]}" for name in unlike if name in named)
+    columns = " ".join([*record, *(tail or "").split("\t")[1:]])
+    return f"{title} {columns}" + (f" ({said})" if said else "")

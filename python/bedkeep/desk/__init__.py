@@ -1,0 +1,1 @@
+"""The desk: a page in the browser to correct a track by, in the folder page, and its server."""
