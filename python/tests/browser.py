@@ -141,8 +141,13 @@ class Tab:
         self.send("Input.dispatchMouseEvent", type=kind, x=x, y=y, button="left" if kind != "mouseMoved" or buttons else "none",
                   buttons=buttons, clickCount=1, modifiers=8 if shift else 0)
 
+    def drawn(self):
+        """Waits until what the page was asked to draw is drawn: frames come in the order in which they are asked for, and a hidden tab has none."""
+        self.run("document.hidden || new Promise(done => requestAnimationFrame(() => requestAnimationFrame(() => done(true))))")
+
     def middle(self, element):
-        """The middle of an element, on the screen."""
+        """The middle of an element, on the screen, once all is drawn."""
+        self.drawn()
         return self.run(f"(() => {{ const r = ({element}).getBoundingClientRect(); return [r.x + r.width / 2, r.y + r.height / 2]; }})()")
 
     def click(self, element, shift=False):

@@ -61,7 +61,8 @@ class Page(Case):
         tab.key("g")
         tab.type(f"chr1:{start + 1}-{end}")
         tab.key("Enter")
-        tab.wait(f"Math.round(desk.view.end) === {end} && desk.region.mode === 'rows'")
+        tab.wait(f"Math.round(desk.view.end) === {end} && desk.region.mode === 'rows' && !document.querySelector('#drawing.stale')")
+        tab.drawn()
         return tab.run("document.getElementById('drawing').clientWidth") / (end - start)
 
     def box(self, name):
@@ -556,8 +557,8 @@ class Page(Case):
         tab.type("chr1:1491-1560")
         tab.key("Enter")
         tab.wait("desk.region.bases && document.querySelector('.base')")
-        start = tab.run("desk.region.start")
-        self.assertEqual(tab.run("desk.region.bases").upper(), ("ACGTT" * 2000)[start:tab.run("desk.region.end")])
+        bases, start, end = tab.run("[desk.region.bases, desk.region.start, desk.region.end]")
+        self.assertEqual(bases.upper(), ("ACGTT" * 2000)[start:end])
         self.assertIn("gap", tab.run("document.querySelector('.second').getAttribute('aria-label')"))
         tab.key(":")
         tab.wait("document.activeElement.id === 'raw'")
