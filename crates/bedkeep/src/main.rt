@@ -56,18 +56,17 @@ impl SeesRefusals for Observer<'_> {
 }
 
 /// Runs what the arguments ask for.
-fn run(rt: &HostRuntime, seen: &RefCell<Seen>) -> Result<u8, ExitReason> {
+fn run(rt: &HostRuntime) -> Result<u8, ExitReason> {
     let words: Vec<String> = env::args(rt)?.collect(rt.alloc())?;
     let after_program = words.iter().skip(1).map(|word| word.as_bytes());
     let names: Vec<&[u8]> = after_program.collect(rt.alloc())?;
-    let hints = Hints::new(rt, names.as_slice(), seen);
+    let seen = RefCell::new(Seen::new(rt));
+    let hints = Hints::new(rt, names.as_slice(), &seen);
+    let failed = false;
     let ended = run_program(
         rt.alloc(),
         names.as_slice(),
-        &mut StdFiles {
-            hints,
-            failed: false,
-        },
+        &mut StdFiles { hints, failed },
         &mut StdSource::new(rt.stdin()),
         &mut StdSink::new(rt.stdout()),
         &mut StdSink::new(rt.stderr()),
@@ -77,17 +76,9 @@ fn run(rt: &HostRuntime, seen: &RefCell<Seen>) -> Result<u8, ExitReason> {
     Ok(ended.status())
 }
 
-/// Ends a run whose arguments the system doesn't give.
-fn end(rt: &HostRuntime, seen: &RefCell<Seen>, exit_reason: ExitReason) -> u8 {
-    let status = report(exit_reason, b"", &mut StdSink::new(rt.stderr()));
-    Hints::new(rt, &[], seen).end_without_words(exit_reason);
-    status
-}
-
 fn main(rt: HostRuntime) -> ExitCode {
-    let seen = RefCell::new(Seen::new(&rt));
-    ExitCode::from(match run(&rt, &seen) {
+    ExitCode::from(match run(&rt) {
         Ok(status) => status,
-        Err(exit_reason) => end(&rt, &seen, exit_reason),
+        Err(exit_reason) => report(exit_reason, b"", &mut StdSink::new(rt.stderr())),
     })
 }

@@ -1,5 +1,5 @@
 //! The hint on how a run has ended.
-use crate::facts::{Facts, flag};
+use crate::facts::Facts;
 use crate::field::{column_of, place_of};
 use crate::files::RunFiles;
 use crate::hint::Hint;
@@ -49,8 +49,6 @@ fn put_other(
         &[
             (b"name", files.name(slot)),
             (b"kind", files.kind(slot)),
-            (b"front", files.front(slot)),
-            (b"of_script", flag(files.have_script())),
             (b"item", value_after(words, b"-c")),
         ],
     )?;
@@ -62,16 +60,13 @@ fn put_other(
 /// How the table calls an ending.
 fn ending_name(exit_reason: ExitReason) -> &'static [u8] {
     match exit_reason {
-        ExitReason::InputUnreadable => b"input",
-        ExitReason::InputTooLong => b"long_input",
         ExitReason::Output => b"output",
-        ExitReason::Memory => b"memory",
-        ExitReason::TooLong(_) => b"too_long",
-        ExitReason::Unreadable(_) => b"unreadable",
-        ExitReason::Damaged(Slot::Sizes, _) => b"many_sequences",
+        ExitReason::Memory | ExitReason::TooLong(_) => b"large",
+        ExitReason::Damaged(Slot::Sizes, _) => b"large",
         ExitReason::Damaged(..) => b"many_records",
+        ExitReason::Unreadable(_) => b"unreadable",
         ExitReason::Words(fault) => fault_name(fault),
-        ExitReason::Done | ExitReason::Refused => b"",
+        _ => b"",
     }
 }
 
@@ -91,15 +86,6 @@ fn cause_name(cause: LoadCause) -> &'static [u8] {
     }
 }
 
-/// How a file is called in the table.
-fn kind_of(slot: Slot) -> &'static [u8] {
-    match slot {
-        Slot::Sizes => b"genome",
-        Slot::First | Slot::Other => b"bed",
-        Slot::Bases => b"fasta",
-    }
-}
-
 /// Puts the damaged line, what it looks like and what to do.
 fn put_damage(
     files: &RunFiles<'_>,
@@ -107,19 +93,17 @@ fn put_damage(
     fault: LoadFault,
     hint: &mut Hint,
 ) -> Result<(), AllocError> {
+    let on: &'static [u8] = match slot {
+        Slot::Sizes => b"genome",
+        Slot::First | Slot::Other => b"bed",
+        Slot::Bases => b"fasta",
+    };
     let bytes = files.line(slot, fault.line)?;
     let text = bytes.as_slice();
     let text = text.strip_suffix(b"\r").unwrap_or(text);
     let name = cause_name(fault.cause);
     let column = column_of(name, b"");
-    let mut facts = line_facts(
-        hint.alloc,
-        kind_of(slot),
-        name,
-        text,
-        0,
-        column.unwrap_or(0),
-    )?;
+    let mut facts = line_facts(hint.alloc, on, name, text, 0, column)?;
     facts.add(&[
         (b"name", files.name(slot)),
         (b"front", files.front(slot)),

@@ -2,12 +2,11 @@
 use crate::hint::{Escaped, Hint};
 use crate::rows::{ROWS, TESTS};
 use crate::text::{
-    BYTE_ORDER_MARK, after_chr, alike_in, count_columns, field, first_record, first_word, is_comma,
-    is_digits, length_in,
+    after_chr, alike_in, count_columns, field, first_record, first_word, is_digits, length_in,
 };
-use crate::vocabulary::{FIELDS, OPTIONS, OTHERS, TOOLS};
+use crate::vocabulary::{FIELDS, OPTIONS, OTHERS};
 use iv_args::RUNS;
-use iv_lines::{lines_of, read_number};
+use iv_lines::read_number;
 use std::alloc::{AllocError, Global};
 use std::fmt;
 
@@ -34,14 +33,6 @@ impl<'a> Value<'a> {
             Value::Count(count) => Some(count as u64),
         }
     }
-
-    /// Whether it is this text, or this number.
-    fn is(self, wanted: &[u8]) -> bool {
-        match self {
-            Value::Text(text) => text == wanted,
-            Value::Count(count) => read_number(wanted) == Some(count as u64),
-        }
-    }
 }
 
 impl fmt::Display for Value<'_> {
@@ -62,11 +53,6 @@ pub(crate) fn flag(is_so: bool) -> &'static [u8] {
 /// Whether a byte is between two words of a list.
 pub(crate) fn is_between(byte: &u8) -> bool {
     *byte == b' '
-}
-
-/// Whether a byte is between two texts of a test.
-fn is_bar(byte: &u8) -> bool {
-    *byte == b'|'
 }
 
 /// The text that a table has for a word; empty if it has none. Each line of a table has a list of words, a colon and their text.
@@ -93,24 +79,18 @@ fn is_of(text: &[u8], kind: &[u8]) -> bool {
     match kind {
         b"digits" => is_digits(text),
         b"decimal" => is_decimal(text),
-        b"negative" => text.strip_prefix(b"-").is_some_and(is_digits),
         b"word" => matches!(text, [first, ..] if first.is_ascii_alphabetic()),
         b"run" => RUNS.iter().any(|run| run.name == text),
         b"spaced" => matches!(text, [b' ', ..] | [.., b' ']),
         b"has_space" => text.contains(&b' '),
         b"begins_spaced" => matches!(text, [b' ' | b'\t', ..]),
-        b"tabs" => text.iter().all(|byte| *byte == b'\t'),
-        b"ends_in_tab" => text.ends_with(b"\t"),
         b"has_return" => text.contains(&b'\r'),
         b"binary" => text
             .iter()
             .any(|byte| *byte < 9 || (*byte > 13 && *byte < 32)),
         b"named_bam" => text.ends_with(b".bam"),
-        b"marked" => text.starts_with(BYTE_ORDER_MARK),
+        b"marked" => text.starts_with(b"\xef\xbb\xbf"),
         b"gzip" => text.starts_with(b"\x1f\x8b"),
-        b"blocks" => text.starts_with(b"\x1f\x8b\x08\x04"),
-        b"utf16" => text.starts_with(b"\xff\xfe") || text.starts_with(b"\xfe\xff"),
-        b"dash" => text.starts_with(b"\xe2\x80") || text.starts_with(b"\xe2\x88\x92"),
         _ => false,
     }
 }
@@ -129,10 +109,8 @@ impl<'a> Facts<'a> {
         on: &'static [u8],
         texts: &[(&'static [u8], &'a [u8])],
     ) -> Result<Facts<'a>, AllocError> {
-        let mut facts = Facts {
-            on,
-            values: Vec::new(alloc),
-        };
+        let values = Vec::new(alloc);
+        let mut facts = Facts { on, values };
         facts.add(texts)?;
         Ok(facts)
     }
@@ -165,15 +143,13 @@ impl<'a> Facts<'a> {
         let mut value = match steps.next().unwrap_or(b"") {
             b"on" => Value::Text(self.on),
             [b'f', digit @ b'0'..=b'9'] => {
-                let record = self.known(b"record").text();
-                Value::Text(field(record, digit.saturating_sub(b'0') as usize))
+                Value::Text(self.follow(self.known(b"record").text(), &[*digit]))
             }
             name => self.known(name),
         };
         for step in steps {
             value = match step {
                 b"columns" => Value::Count(count_columns(value.text())),
-                b"items" => Value::Count(value.text().split(is_comma).count()),
                 _ => Value::Text(self.follow(value.text(), step)),
             };
         }
@@ -185,21 +161,13 @@ impl<'a> Facts<'a> {
         match step {
             [digit @ b'0'..=b'9'] => field(text, digit.saturating_sub(b'0') as usize),
             b"first" => first_record(text),
-            b"body" => lines_of(text)
-                .find(|line| !line.starts_with(b"@"))
-                .unwrap_or(b""),
-            b"noun" if count_columns(text) == 1 => b"column",
-            b"noun" => b"columns",
-            b"word" => first_word(text).0,
-            b"mark" => first_word(text).1,
-            b"letters" => text.get(3..).unwrap_or(b""),
+            b"word" => first_word(text),
             b"known" => alike_in(self.known(b"genome").text(), text),
             b"length" => length_in(self.known(b"genome").text(), text),
             b"chr" => after_chr(text).0,
             b"rest" => after_chr(text).1,
             b"takes" => text_for(FIELDS, text),
             b"instead" => text_for(OTHERS, text),
-            b"tool" => text_for(TOOLS, text),
             b"bedtools" => text_for(OPTIONS, text),
             _ => b"",
         }
@@ -208,30 +176,23 @@ impl<'a> Facts<'a> {
     /// Whether a row is about the mistake: it names that, its fault, or both.
     fn is_on(&self, words: &[u8]) -> bool {
         let (on, fault) = (self.on, self.known(b"fault").text());
-        for word in words.split(is_between) {
+        words.split(is_between).any(|word| {
             let rest = word.strip_prefix(on);
             let is_both = rest.is_some_and(|rest| rest.strip_prefix(b".") == Some(fault));
-            if rest == Some(b"") || word == fault || is_both {
-                return true;
-            }
-        }
-        false
+            word == on || word == fault || is_both
+        })
     }
 
     /// Whether all tests of a list hold: those that have a name of their own, and those of values. `!TEST` holds if TEST doesn't.
     fn hold_all(&self, tests: &[u8]) -> bool {
-        for test in tests.split(is_between) {
+        tests.split(is_between).all(|test| {
             let bare = test.strip_prefix(b"!").unwrap_or(test);
             let parts = match text_for(TESTS, bare) {
                 b"" => bare,
                 parts => parts,
             };
-            let hold = parts.split(is_between).all(|part| self.holds(part));
-            if hold == test.starts_with(b"!") {
-                return false;
-            }
-        }
-        true
+            parts.split(is_between).all(|part| self.holds(part)) != test.starts_with(b"!")
+        })
     }
 
     /// Whether a test of a value holds. `NAME` holds if its text isn't empty or its number isn't 0. `NAME=ONE|OTHER` holds if it is one of
@@ -242,13 +203,13 @@ impl<'a> Facts<'a> {
             [b'!', test @ ..] => (test, false),
             _ => (test, true),
         };
+        let is_bar = |byte: &u8| *byte == b'|';
         let is_sign = |byte: &u8| matches!(*byte, b'=' | b'^' | b'*' | b'~' | b':' | b'<' | b'>');
         let at = test.iter().position(is_sign).unwrap_or(test.len());
-        let name = test.get(..at).unwrap_or(b"");
-        let value = self.value(name);
+        let value = self.value(test.get(..at).unwrap_or(b""));
         let text = value.text();
         let holds = match test.get(at..).unwrap_or(b"") {
-            [b'=', list @ ..] => list.split(is_bar).any(|one| value.is(one)),
+            [b'=', list @ ..] => list.split(is_bar).any(|one| text == one),
             [b'^', list @ ..] => list.split(is_bar).any(|one| text.starts_with(one)),
             [b'*', bytes @ ..] => bytes.iter().any(|byte| text.contains(byte)),
             [b':', kind @ ..] => is_of(text, kind),

@@ -34,11 +34,7 @@ impl KeptFile {
         opened: &io::Result<File>,
     ) -> Result<KeptFile, AllocError> {
         let kind: &'static [u8] = match (opened, metadata(rt, name)) {
-            (Err(error), _) => match error.kind() {
-                ErrorKind::NotFound | ErrorKind::NotADirectory => b"missing",
-                ErrorKind::PermissionDenied => b"forbidden",
-                _ => b"",
-            },
+            (Err(error), _) if error.kind() == ErrorKind::NotFound => b"missing",
             (_, Ok(known)) if known.is_file() => b"file",
             (_, Ok(known)) if known.is_dir() => b"directory",
             _ => b"pipe",
@@ -56,11 +52,6 @@ impl KeptFile {
         let _ = self
             .bytes
             .extend_from_slice(piece.get(..room).unwrap_or(piece));
-    }
-
-    /// Whether all of it was kept.
-    fn is_whole(&self) -> bool {
-        self.bytes.len() < MOST_BYTES
     }
 }
 
@@ -110,10 +101,8 @@ impl<'a> RunFiles<'a> {
 
     /// The name of a file, empty if the run has none.
     pub(crate) fn name(&self, slot: Slot) -> &'a [u8] {
-        match &self.plan {
-            Some(plan) => plan.file(slot).unwrap_or(b""),
-            None => b"",
-        }
+        let plan = self.plan.as_ref();
+        plan.and_then(|plan| plan.file(slot)).unwrap_or(b"")
     }
 
     /// What was kept of a file.
@@ -134,7 +123,7 @@ impl<'a> RunFiles<'a> {
 
     /// Whether the front of a file is all of it.
     pub(crate) fn is_whole(&self, slot: Slot) -> bool {
-        self.kept(slot).is_some_and(|file| file.is_whole())
+        self.front(slot).len() < MOST_BYTES
     }
 
     /// The width of the records of a file.

@@ -150,13 +150,6 @@ impl<'a> Hints<'a> {
             self.show(hint_of_ending(&files, self.words, exit_reason, line));
         }
     }
-
-    /// Shows the hint if the system doesn't give the arguments.
-    pub fn end_without_words(self, exit_reason: ExitReason) {
-        if self.are_wanted && matches!(exit_reason, ExitReason::Words(_)) {
-            self.show(hint_on(self.rt.alloc(), b"no_words", b""));
-        }
-    }
 }
 
 /// A hint that is the same for each mistake of its kind, but for a name.

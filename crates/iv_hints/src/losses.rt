@@ -16,23 +16,22 @@ const SLOTS: &[Slot] = &[Slot::Sizes, Slot::First, Slot::Other, Slot::Bases];
 /// Puts a loss of a run that ended well, if the fronts of its files show one.
 pub(crate) fn put_loss(files: &RunFiles<'_>, hint: &mut Hint) -> Result<(), AllocError> {
     for slot in SLOTS {
-        put_pipe(files, *slot, hint)?;
-        if !hint.is_empty() {
-            return Ok(());
+        if hint.is_empty() {
+            put_pipe(files, *slot, hint)?;
         }
     }
-    let records = files.front(Slot::First);
+    if !hint.is_empty() {
+        return Ok(());
+    }
     let fasta = files.front(Slot::Bases);
     let header = lines_of(fasta).find_map(header_name).unwrap_or(b"none");
     Facts::new(
         hint.alloc,
         b"loss",
         &[
-            (b"name", files.name(Slot::First)),
-            (b"front", records),
             (b"genome", files.front(Slot::Sizes)),
             (b"header", header),
-            (b"missing", missing_in(files, records, fasta, header)),
+            (b"missing", missing_in(files, fasta, header)),
         ],
     )?
     .put(hint)
@@ -45,17 +44,14 @@ fn put_pipe(files: &RunFiles<'_>, slot: Slot, hint: &mut Hint) -> Result<(), All
         return Ok(());
     }
     let is_same = |other: &&Slot| files.name(**other) == name;
-    let count = SLOTS.iter().filter(is_same).count();
+    let is_script = files.have_script() && name == b"/dev/stdin".as_slice();
+    let is_given_twice = is_script || SLOTS.iter().filter(is_same).count() > 1;
     Facts::new(
         hint.alloc,
         b"pipe",
         &[
             (b"name", name),
-            (
-                b"is_script",
-                flag(files.have_script() && name == b"/dev/stdin".as_slice()),
-            ),
-            (b"is_given_twice", flag(count > 1)),
+            (b"is_given_twice", flag(is_given_twice)),
             (b"is_empty", flag(files.front(slot).is_empty())),
         ],
     )?
@@ -70,27 +66,17 @@ fn header_name(line: &[u8]) -> Option<&[u8]> {
 
 /// A sequence of the first records that a FASTA file has not; empty if none is known. Of a long file only the front is known: then its
 /// first name decides.
-fn missing_in<'a>(
-    files: &RunFiles<'_>,
-    records: &'a [u8],
-    fasta: &[u8],
-    header: &[u8],
-) -> &'a [u8] {
+fn missing_in<'a>(files: &RunFiles<'a>, fasta: &[u8], header: &[u8]) -> &'a [u8] {
     let genome = files.front(Slot::Sizes);
     let is_other = length_in(genome, header).is_empty() && !alike_in(genome, header).is_empty();
     if fasta.is_empty() || !files.is_whole(Slot::Bases) && !is_other {
         return b"";
     }
-    let mut last: &[u8] = b"";
-    for line in lines_of(records)
+    let is_there = |name: &[u8]| lines_of(fasta).any(|line| header_name(line) == Some(name));
+    lines_of(files.front(Slot::First))
         .filter(|line| is_record(line))
         .take(MOST_RECORDS)
-    {
-        let name = field(line, 0);
-        if name != last && !lines_of(fasta).any(|line| header_name(line) == Some(name)) {
-            return name;
-        }
-        last = name;
-    }
-    b""
+        .map(|line| field(line, 0))
+        .find(|name| !is_there(name))
+        .unwrap_or(b"")
 }

@@ -31,10 +31,11 @@ pub(crate) fn line_facts<'a>(
     fault: &'static [u8],
     line: &'a [u8],
     before: usize,
-    column: usize,
+    column: Option<usize>,
 ) -> Result<Facts<'a>, AllocError> {
-    let is_length = on == b"genome".as_slice() || field(line, 0) == b"resize".as_slice();
+    let column = column.unwrap_or(0);
     let record = after_columns(line, before);
+    let is_length = on == b"genome".as_slice() || field(line, 0) == b"resize".as_slice();
     let mut facts = Facts::new(
         alloc,
         on,
@@ -44,7 +45,6 @@ pub(crate) fn line_facts<'a>(
             (b"record", record),
             (b"value", field(record, column)),
             (b"subject", subject_of(column, is_length)),
-            (b"of_length", flag(is_length)),
         ],
     )?;
     facts.count(b"column", column.saturating_add(1))?;
@@ -52,64 +52,62 @@ pub(crate) fn line_facts<'a>(
 }
 
 /// The hint on a refused line, of which so many columns after the command are a sound record. If the fault is about one field, it names
-/// that. Of a line that isn't one of the first of its kind it has the value of the field alone.
-pub(crate) fn hint_of_refusal(
-    files: &RunFiles<'_>,
-    line: &[u8],
+/// that, and has its value if the table has nothing on it, or if the line isn't one of the first of its kind.
+pub(crate) fn hint_of_refusal<'a>(
+    files: &RunFiles<'a>,
+    line: &'a [u8],
     fault: Fault,
     sound: u8,
     is_few: bool,
 ) -> Result<Hint, AllocError> {
     let (command, name) = (field(line, 0), fault_name(fault));
-    let (before, column) = (
-        fields_before(name, command, sound),
-        column_of(name, command),
-    );
+    let before = fields_before(name, command, sound);
+    let column = column_of(name, command);
     let mut hint = Hint::new(files.rt.alloc());
     hint.place = (0, place_of(before, column));
-    let mut facts = line_facts(
-        hint.alloc,
-        b"script",
-        name,
-        line,
-        before,
-        column.unwrap_or(0),
-    )?;
-    if !is_few {
-        if column.is_some() {
-            facts.put_text("`value`", &mut hint)?;
-        }
-        return Ok(hint);
+    let mut facts = line_facts(hint.alloc, b"script", name, line, before, column)?;
+    if is_few {
+        put_refusal(files, line, fault, &mut facts, &mut hint)?;
     }
+    if hint.is_empty() && column.is_some() {
+        facts.put_text("`value`", &mut hint)?;
+    }
+    Ok(hint)
+}
+
+/// Puts what the table has on a refused line, of which some facts are known.
+fn put_refusal<'a>(
+    files: &RunFiles<'a>,
+    line: &'a [u8],
+    fault: Fault,
+    facts: &mut Facts<'a>,
+    hint: &mut Hint,
+) -> Result<(), AllocError> {
     let words = field(line, 2).split(is_between);
-    let words: Vec<&[u8]> = words.filter(|word| !word.is_empty()).collect(hint.alloc)?;
+    let words: Vec<&'a [u8]> = words.filter(|word| !word.is_empty()).collect(hint.alloc)?;
     if fault == Fault::Words {
-        put_words(words.as_slice(), true, &mut hint)?;
-        return Ok(hint);
+        return put_words(words.as_slice(), true, hint);
     }
-    let slot = match command {
+    let slot = match field(line, 0) {
         b"addb" | b"removeb" | b"replaceb" => Slot::Other,
         _ => Slot::First,
     };
-    let fields = after_columns(line, 1);
+    let (fields, width) = (after_columns(line, 1), files.width(slot));
     let commands: Vec<&'static [u8]> = COMMANDS.split(is_between).collect(hint.alloc)?;
-    let (nearest, equal) = nearest_in(files.front(slot), fields, files.width(slot));
+    let near = near_in(hint.alloc, commands.as_slice(), first_word(line))?;
+    let (nearest, equal) = nearest_in(files.front(slot), fields, width);
     facts.add(&[
         (b"name", files.name(slot)),
         (b"front", files.front(slot)),
         (b"genome", files.front(Slot::Sizes)),
         (b"fields", fields),
-        (
-            b"near",
-            near_in(hint.alloc, commands.as_slice(), first_word(line).0)?,
-        ),
+        (b"near", near),
         (b"item", value_after(words.as_slice(), b"-c")),
         (b"nearest", nearest),
-        (b"is_there", flag(equal == files.width(slot))),
+        (b"is_there", flag(equal == width)),
     ])?;
-    facts.count(b"width", files.width(slot))?;
-    facts.put(&mut hint)?;
-    Ok(hint)
+    facts.count(b"width", width)?;
+    facts.put(hint)
 }
 
 /// The line of a file that has most columns of a record, at least two of them, and how many; empty if there is none.

@@ -1,9 +1,6 @@
 //! Words and columns of lines, and what a genome file says of a name.
 use iv_lines::{lines_of, split_first_column};
 
-/// What some editors put at the front of a file.
-pub(crate) const BYTE_ORDER_MARK: &[u8] = b"\xef\xbb\xbf";
-
 /// A column of a line, counted from 0; nothing if it isn't there.
 pub(crate) fn field(line: &[u8], number: usize) -> &[u8] {
     line.split(|byte| *byte == b'\t').nth(number).unwrap_or(b"")
@@ -26,11 +23,6 @@ pub(crate) fn count_columns(line: &[u8]) -> usize {
     line.split(|byte| *byte == b'\t').count()
 }
 
-/// Whether a byte is between two items of a list.
-pub(crate) fn is_comma(byte: &u8) -> bool {
-    *byte == b','
-}
-
 /// Whether a text is digits.
 pub(crate) fn is_digits(text: &[u8]) -> bool {
     !text.is_empty() && text.iter().all(|byte| byte.is_ascii_digit())
@@ -49,12 +41,10 @@ pub(crate) fn first_record(text: &[u8]) -> &[u8] {
     lines_of(text).find(|line| is_record(line)).unwrap_or(b"")
 }
 
-/// The first word of a text without its byte order mark, if spaces, commas or semicolons separate words, and what follows it.
-pub(crate) fn first_word(text: &[u8]) -> (&[u8], &[u8]) {
-    let text = text.strip_prefix(BYTE_ORDER_MARK).unwrap_or(text);
-    let is_end = |byte: &u8| matches!(*byte, b' ' | b'\t' | b'\n' | b',' | b';');
-    let word = text.split(is_end).next().unwrap_or(text);
-    (word, text.get(word.len()..).unwrap_or(b""))
+/// The first word of a text, if spaces and TABs separate words.
+pub(crate) fn first_word(text: &[u8]) -> &[u8] {
+    let is_end = |byte: &u8| matches!(*byte, b' ' | b'\t');
+    text.split(is_end).next().unwrap_or(text)
 }
 
 /// The length that a genome file has for a name.

@@ -2,8 +2,7 @@
 use crate::facts::{Facts, flag, is_between};
 use crate::hint::Hint;
 use crate::nearest::near_in;
-use crate::text::is_comma;
-use crate::vocabulary::{SUBJECTS, VIEWS};
+use crate::vocabulary::{OPERATIONS, SUBJECTS};
 use iv_args::{OptionUsage, OptionValue, RUNS, RunUsage, Subcommand};
 use iv_lines::read_number;
 use std::alloc::AllocError;
@@ -26,14 +25,7 @@ struct Mistake {
 /// What comes after an option, in a few words, and whether a word is that.
 fn needs(option: &OptionUsage, word: &[u8]) -> (&'static [u8], bool) {
     let number = read_number(word);
-    let operations = [
-        b"count".as_slice(),
-        b"sum",
-        b"min",
-        b"max",
-        b"collapse",
-        b"distinct",
-    ];
+    let mut items = word.split(|byte| *byte == b',');
     match option.value {
         OptionValue::Nothing => (b"nothing", false),
         OptionValue::Genome => (b"GENOME", true),
@@ -50,11 +42,11 @@ fn needs(option: &OptionUsage, word: &[u8]) -> (&'static [u8], bool) {
         ),
         OptionValue::Columns => (
             b"numbers of columns, as in 4,5",
-            word.split(is_comma).all(|item| read_number(item).is_some()),
+            items.all(|item| read_number(item).is_some()),
         ),
         OptionValue::Operations => (
             b"count, sum, min, max, collapse or distinct",
-            word.split(is_comma).all(|item| operations.contains(&item)),
+            items.all(|item| OPERATIONS.split(is_between).any(|known| known == item)),
         ),
     }
 }
@@ -96,13 +88,13 @@ impl Options {
         let mut is_open = false;
         for (at, word) in words.iter().enumerate() {
             let known = self.find(word);
-            let is_value = is_open && option.is_some_and(|option| needs(option, word).1);
+            let is_value = option.is_some_and(|option| needs(option, word).1);
             let on: &'static [u8] = match (is_open, known) {
-                (true, Some(_)) => b"no_value",
-                (true, None) if !is_value => b"bad_value",
+                (true, None) if is_value => b"",
+                (true, _) => b"bad_value",
+                (false, Some(_)) => b"",
                 (false, None) if matches!(*word, [b'-', _, ..]) => b"option",
                 (false, None) => b"stray",
-                _ => b"",
             };
             if !on.is_empty() {
                 return Some(Mistake { on, at, option });
@@ -110,8 +102,7 @@ impl Options {
             option = known.or(option);
             is_open = known.is_some_and(|option| option.value != OptionValue::Nothing);
         }
-        let on = b"no_value";
-        let at = words.len();
+        let (on, at) = (b"bad_value", words.len());
         Some(Mistake { on, at, option }).filter(|_| is_open)
     }
 
@@ -144,33 +135,22 @@ impl Options {
                 names.push(option.name)?;
             }
         }
-        let records = self
-            .run
-            .needed
-            .get(1)
-            .map_or(b"-i".as_slice(), |option| option.name);
-        let has_records = self.is_view || words.contains(&records);
+        let name_of = |option: &OptionUsage| option.name;
+        let needs_of = |option: &OptionUsage| needs(option, b"").0;
         Facts::new(
             hint.alloc,
             found.on,
             &[
                 (b"word", word),
-                (b"next", word_at(words, found.at.saturating_add(1))),
                 (b"value", word_at(words, found.at.saturating_sub(1))),
-                (b"option", found.option.map_or(b"", |option| option.name)),
-                (
-                    b"needs",
-                    found.option.map_or(b"", |option| needs(option, b"").0),
-                ),
+                (b"option", found.option.map_or(b"", name_of)),
+                (b"needs", found.option.map_or(b"", needs_of)),
                 (b"near", near_in(hint.alloc, names.as_slice(), word)?),
                 (b"run", self.run.name),
                 (b"rule", self.run.rule),
-                (b"usage", self.run.view_usage),
-                (b"records", records),
+                (b"records", self.run.needed.get(1).map_or(b"-i", name_of)),
                 (b"list", value_after(words, b"-c")),
-                (b"operations", value_after(words, b"-o")),
                 (b"of_view", flag(self.is_view)),
-                (b"has_records", flag(has_records)),
             ],
         )?
         .put(hint)
@@ -179,19 +159,13 @@ impl Options {
 
 /// Puts the first mistake in the arguments, or in the words of a view.
 pub(crate) fn put_words(words: &[&[u8]], is_view: bool, hint: &mut Hint) -> Result<(), AllocError> {
-    let word = match words {
-        [b"--help" | b"-h" | b"help", subject, ..] if !is_view => subject,
-        [word, ..] => word,
-        [] => b"".as_slice(),
-    };
-    let is_run = |run: &&RunUsage| word_at(words, 0) == run.name
-        && !(is_view && run.run == Subcommand::Session);
+    let word = word_at(words, 0);
+    let is_run = |run: &&RunUsage| word == run.name && !(is_view && run.run == Subcommand::Session);
     let run = RUNS.iter().find(is_run);
     match run {
         Some(run) => Options { run, is_view }.put(words.get(1..).unwrap_or(&[]), hint)?,
         None => {
-            let list = if is_view { VIEWS } else { SUBJECTS };
-            let known: Vec<&'static [u8]> = list.split(is_between).collect(hint.alloc)?;
+            let known: Vec<&'static [u8]> = SUBJECTS.split(is_between).collect(hint.alloc)?;
             let near = near_in(hint.alloc, known.as_slice(), word)?;
             let on: &'static [u8] = if is_view { b"view" } else { b"subject" };
             Facts::new(hint.alloc, on, &[(b"word", word), (b"near", near)])?.put(hint)?;
