@@ -17,33 +17,31 @@ cd "${2:-$(dirname "$0")/../../examples}" || exit 1
 # The package of the sources, or of a release.
 export PYTHONPATH=$PWD/../python:$PWD/../../../bedkeep/python
 
-# wanted NAME STATUS FOUND: compares what is in the files of this name with what is expected
+# wanted NAME STATUS: compares what is in the files of this name, and the status, with what is expected
 wanted() {
-    [ "$3" -eq "$2" ] || fails "example $1: status $3 instead of $2"
-    for stream in out err; do
-        diff "expected/$1.$stream" "$found/$1.$stream" >&2 || fails "example $1: the lines with < are wanted on its std$stream"
-    done
+    { cat "$found/$1.out" && echo "status $2, and on standard error:" && cat "$found/$1.err"; } > "$found/$1.all"
+    diff "expected/$1" "$found/$1.all" >&2 || fails "example $1: the lines with < are wanted"
 }
 
-# example NAME STATUS WORD ..: a session of these words over the script on standard input
+# example NAME WORD ..: a session of these words over the script on standard input
 example() {
-    local name=$1 status=$2
-    shift 2
+    local name=$1
+    shift
     if $show; then
         bedkeep session "$@"
         return
     fi
     bedkeep session "$@" > "$found/$name.out" 2> "$found/$name.err"
-    wanted "$name" "$status" $?
+    wanted "$name" $?
 }
 
 # The first example and the one of corrections have refused lines.
-example first 1 -g first/sizes -i first/genes.bed < <(cat first/corrections first/views)
-example corrections 1 -g human.genome -i genes.bed < corrections.script
-example mask 0 -g human.genome -i genes.bed -b mask.bed < mask.script
-example correct_mask 0 -g human.genome -i genes.bed -b mask.bed < correct_mask.script
-example write_out 0 -g human.genome -i genes.bed -b /dev/null < write_out.script
-example sequences 0 -g contigs.genome -i coding.bed -fi contigs.fa < sequences.script
+example first -g first/sizes -i first/genes.bed < <(cat first/corrections first/views)
+example corrections -g human.genome -i genes.bed < corrections.script
+example mask -g human.genome -i genes.bed -b mask.bed < mask.script
+example correct_mask -g human.genome -i genes.bed -b mask.bed < correct_mask.script
+example write_out -g human.genome -i genes.bed -b /dev/null < write_out.script
+example sequences -g contigs.genome -i coding.bed -fi contigs.fa < sequences.script
 $show && exit
 
 # silent_make WORD ..: make without its own lines, and then its status
@@ -67,7 +65,7 @@ in_git() {
         silent_make review.html
         grep -q '<svg' review.html && echo 'a page with pictures'
     ) > "$found/in_git.out" 2> "$found/in_git.err"
-    wanted in_git 0 $?
+    wanted in_git $?
 }
 
 # commits LINES: appends lines to the corrections, and commits them
@@ -110,7 +108,7 @@ two_curators() {
         silent_make
         [ -e corrected.bed ] || echo 'no corrected.bed'
     ) > "$found/two_curators.out" 2> "$found/two_curators.err"
-    wanted two_curators 0 $?
+    wanted two_curators $?
 }
 
 # round_trip BED EDITS VIEWS WORD ..: `records` is the track. It is written out beside the views, and loaded again it prints the same

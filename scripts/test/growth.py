@@ -22,6 +22,7 @@ import functools
 import math
 import os
 import resource
+import select
 import struct
 import subprocess
 import sys
@@ -556,7 +557,10 @@ def held(runs, arguments, folder, what):
     with open(reader, "rb", buffering=0) as rows, runs.start(arguments, folder, stdin=subprocess.PIPE, stdout=writer, bufsize=0) as process:
         os.close(writer)
         process.stdin.write((folder / "script").read_bytes())
-        require(rows.read(1), f"`{arguments}` prints nothing")
+        is_heard = select.select([rows], [], [], MOST_WAITING)[0] and rows.read(1)
+        if not is_heard:
+            process.kill()
+        require(is_heard, f"`{arguments}` prints nothing")
         with open(f"/proc/{process.pid}/status", encoding="ascii") as file:
             found = [line.split()[1] for line in file if line.startswith(f"{what}:")]
         process.kill()

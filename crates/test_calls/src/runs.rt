@@ -1,6 +1,5 @@
 //! The calls of a run over the bytes of its files: what a session begins with, and each subcommand over many records.
-ghost use Rattle.std.specs.Prelude.{◌<◌, ◌≤◌, ◌^◌, IfSome, IsTrue, length};
-ghost use Rattle.std.specs.Option.{option_copied};
+ghost use Rattle.std.specs.Prelude.{◌≤◌};
 
 use crate::fixtures::joined;
 use crate::patterns::{Case, GENOME, ROWS, Texts, cases, long_files};
@@ -11,34 +10,8 @@ use iv_cli::load;
 use iv_lines::{Fault, LoadCause, LoadFault, RecordFault};
 use iv_run::{CliFault, Inputs, IntervalsView, shot};
 use iv_workspace::Session;
-use std::alloc::{AllocError, Allocator};
 use std::test::Fail;
-
-/// Whether each BED file has fewer than 2^32 bytes, as it must have for a run.
-fn are_short(inputs: &Inputs<'_>) -> bool
-    ensures { IsTrue result → (length inputs.now.first.now < 2 ^ 32) × IfSome (option_copied inputs.now.other) (λ text. length text < 2 ^ 32) }
-{
-    let other = inputs.other.unwrap_or(b"");
-    is_short(inputs.first) && is_short(other)
-}
-
-/// Whether a text has fewer than 2^32 bytes.
-fn is_short(text: &[u8]) -> bool
-    ensures { IsTrue result → length text.now < 2 ^ 32 }
-{
-    text.len() <= u32::MAX as usize
-}
-
-/// The bytes of a FASTA file, if there is one.
-fn copied<A: Allocator + Copy>(
-    alloc: A,
-    bases: Option<&[u8]>,
-) -> Result<Option<Vec<u8, A>>, AllocError> {
-    match bases {
-        Some(text) => Ok(Some(text.to_vec(alloc)?)),
-        None => Ok(None),
-    }
-}
+use test_faults::{are_short, copied};
 
 /// The fault of a run of a plan, if it has one.
 fn fault_of(
@@ -48,7 +21,7 @@ fn fault_of(
     bases: Option<&[u8]>,
     sink: &mut MemSink,
 ) -> Result<Option<CliFault>, Fail> {
-    if !are_short(inputs) {
+    if !are_short(inputs.first, inputs.other) {
         return Err(Fail::new("a long text"));
     }
     let bases = copied(rt.alloc(), bases)?;

@@ -1,16 +1,18 @@
-//! For tests: an allocator that refuses one allocation, readers and writers that go wrong, and words of a line.
+//! For tests: an allocator that refuses one allocation, readers and writers that go wrong, texts of files and words of a line.
 #![tactic(auto)]
 
 ghost use Rattle.std.specs.Prelude.{IfSome, ◌≡◌, ◌<◌};
 
 mod harness;
 mod stream;
+mod texts;
 mod words;
 
 pub use harness::refused;
 use std::alloc::{AllocError, Allocator};
 use std::cell::Cell;
 pub use stream::{Bad, FAILURES, Manner, Stream};
+pub use texts::{are_short, copied};
 pub use words::words_of;
 
 /// Passes every call on to the allocator inside it, but refuses one allocation, that of the given number.

@@ -1,6 +1,4 @@
 //! Runs of the program, of one subcommand and of scripts, over devices that may go wrong.
-ghost use Rattle.std.specs.Prelude.{◌<◌, ◌^◌, IfSome, IsTrue, length};
-ghost use Rattle.std.specs.Option.{option_copied};
 
 use crate::run_files::bytes_of;
 use iv_args::{Plan, Slot};
@@ -13,7 +11,7 @@ use iv_workspace::Session;
 use std::alloc::{AllocError, Allocator};
 use std::io::BufWriter;
 use std::test::Fail;
-use test_faults::{Manner, Stream, words_of};
+use test_faults::{Manner, Stream, are_short, copied, words_of};
 
 /// How a run is begun.
 #[derive(Clone, Copy, PartialEq, Eq)]
@@ -75,32 +73,6 @@ fn at_no_line(exit_reason: ExitReason) -> Ended {
     }
 }
 
-/// Whether each BED file has fewer than 2^32 bytes, as it must have for `shot`.
-fn are_short(inputs: &Inputs<'_>) -> bool
-    ensures { IsTrue result → (length inputs.now.first.now < 2 ^ 32) × IfSome (option_copied inputs.now.other) (λ text. length text < 2 ^ 32) }
-{
-    let other = inputs.other.unwrap_or(b"");
-    is_short(inputs.first) && is_short(other)
-}
-
-/// Whether a text has fewer than 2^32 bytes.
-fn is_short(text: &[u8]) -> bool
-    ensures { IsTrue result → length text.now < 2 ^ 32 }
-{
-    text.len() <= u32::MAX as usize
-}
-
-/// The bytes of a FASTA file, if there is one.
-fn copied<A: Allocator + Copy>(
-    alloc: A,
-    bases: Option<&[u8]>,
-) -> Result<Option<Vec<u8, A>>, AllocError> {
-    match bases {
-        Some(text) => Ok(Some(text.to_vec(alloc)?)),
-        None => Ok(None),
-    }
-}
-
 /// The bytes of the files of a plan.
 fn inputs_of<'t, A: Allocator + Copy>(files: &[NamedBytes<'t>], plan: &Plan<'_, A>) -> Inputs<'t> {
     Inputs {
@@ -118,7 +90,7 @@ fn shoot<A: Allocator + Copy>(
     output: &mut Stream<'static>,
 ) -> Result<(), CliFault> {
     let inputs = inputs_of(run.files, plan);
-    if !are_short(&inputs) {
+    if !are_short(inputs.first, inputs.other) {
         return Err(CliFault::Output);
     }
     let bases = copied(alloc, bytes_of(run.files, plan.file(Slot::Bases)))?;
