@@ -6,10 +6,9 @@ from __future__ import annotations
 
 import os
 from collections.abc import Mapping
-from typing import Any, Optional, Union
+from typing import Any, Union
 
-from . import bed
-from .encoding import Path, encoded
+from .encoding import Path, decoded, encoded
 from .errors import Ended
 from .script import text_of
 from .tables import bed_text, is_table
@@ -19,11 +18,14 @@ Track = Any  # a path, or a table with the columns of a record
 
 
 class Sources:
-    """Paths that the program can open, and the descriptors that it needs for that. They are open until `close`."""
+    """Paths that the program can open, and the descriptors that it needs for that. They are open until `close`.
+
+    names: what messages call a path that isn't the one that was given
+    """
 
     def __init__(self) -> None:
         self.descriptors: list[int] = []
-        self._names: dict[str, str] = {}
+        self.names: dict[str, str] = {}
 
     def __enter__(self) -> Sources:
         return self
@@ -33,11 +35,20 @@ class Sources:
 
     def genome(self, given: Genome) -> str:
         """The path of a genome file, or of the lengths of a dict."""
-        return self.text(genome_text(given), "genome") if isinstance(given, Mapping) else path_of(given)
+        if not isinstance(given, Mapping):
+            return path_of(given)
+        return self.text("".join(f"{text_of(name)}\t{text_of(length)}\n" for name, length in given.items()), "genome")
 
     def track(self, given: Track) -> str:
         """The path of a BED file, or of the records of a table."""
         return self.text(bed_text(given), "table") if is_table(given) else path_of(given)
+
+    def kept(self, path: str) -> str:
+        """The path, or that of its text in memory if it is a pipe, which can't be read twice."""
+        if not os.path.exists(path) or os.path.isfile(path) or os.path.isdir(path):
+            return path
+        with open(path, "rb") as file:
+            return self.text(decoded(file.read()), path)
 
     def text(self, text: str, name: str) -> str:
         """The path of a text in memory; messages call it by the name."""
@@ -46,15 +57,13 @@ class Sources:
         with open(descriptor, "wb", closefd=False) as file:
             file.write(encoded(text))
         path = f"/dev/fd/{descriptor}"
-        self._names[path] = name
+        self.names[path] = name
         return path
 
     def renamed(self, failure: Ended) -> Ended:
-        """The failure, about a text in memory by its name."""
+        """The failure, about a file by its name."""
         path, separator, rest = failure.message.partition(": ")
-        if path not in self._names:
-            return failure
-        return type(failure)(failure.status, self._names[path] + separator + rest, failure.hint)
+        return type(failure)(failure.status, self.names.get(path, path) + separator + rest, failure.hint)
 
     def free(self) -> None:
         """Frees the memory of texts that were read."""
@@ -68,20 +77,7 @@ class Sources:
 
 
 def path_of(given: Path) -> str:
-    """A path as text."""
     path = os.fspath(given) if isinstance(given, (str, os.PathLike)) else given
     if not isinstance(path, str):
         raise TypeError(f"a path is text, and not {given!r}")
     return path
-
-
-def genome_text(lengths: Mapping[str, int]) -> str:
-    """A dict of lengths as a genome file."""
-    return "".join(f"{text_of(name)}\t{text_of(length)}\n" for name, length in lengths.items())
-
-
-def lengths_of(genome: Genome) -> Optional[dict[str, int]]:
-    """The sequences and lengths of a genome that the program took, in their order; None if it can't be read twice, as a pipe."""
-    if isinstance(genome, Mapping):
-        return {text_of(name): int(length) for name, length in genome.items()}
-    return bed.lengths_of(os.fspath(genome)) if os.path.isfile(genome) else None

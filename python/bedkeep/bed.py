@@ -5,12 +5,11 @@
 from __future__ import annotations
 
 import os
-from functools import cached_property
 from typing import Iterator, Optional
 
 from .encoding import Path, encoded
 from .errors import Error
-from .files import lines_of, plain
+from .files import line_text, lines_of, plain
 from .record import NARROWEST, WIDEST
 
 BEGINS = b"#tb"  # with what the header lines of a BED file begin
@@ -31,49 +30,26 @@ class Bed:
 
     path:    as it was given
     source:  the path of the same file, unpacked
-    width:   of its first record, or of the first one that is added to a file without a record; 0 if there is neither
-    option:  what `-width` has to be for it, if it has no record
+    narrow:  that of a file with its first six columns, which the program can read; or the same if it is no BED file, so that the
+             program says what it is
+    width:   of its first record; of a file without one what is given, such as that of a record that is added
     """
 
-    def __init__(self, path: Path, folder: str) -> None:
+    def __init__(self, path: Path, folder: str, width: int) -> None:
         self.path = os.fspath(path)
         self.source = plain(path, folder)
         first = next(self.rows(), "").split("\t")
-        self.width = len(first) if first != [""] else 0
-        self.option: Optional[int] = None
-        self._is_bed = all(text.isascii() and text.isdigit() for text in first[1:NARROWEST])
-        self._folder = folder
-
-    @cached_property
-    def narrow(self) -> str:
-        """The path of a file with its first six columns, which the program can read, written when it is asked for.
-
-        It is the same file if that is no BED file, so that the program says what it is.
-        """
-        return self._cut(self._folder) if self.width > WIDEST and self._is_bed else self.source
-
-    @property
-    def headers(self) -> list[str]:
-        """Its header and comment lines."""
-        return headers_of(self.source)
+        self.width = len(first) if first != [""] else width
+        is_bed = all(text.isascii() and text.isdigit() for text in first[1:NARROWEST])
+        self.narrow = self._cut(folder) if self.is_wide and is_bed else self.source
 
     @property
     def is_wide(self) -> bool:
         return self.width > WIDEST
 
-    def widen(self, width: int) -> None:
-        """Takes the width of a record that is added, if there is no other."""
-        if not self.width and width >= NARROWEST:
-            self.width = width
-            self.option = min(width, WIDEST)
-
     def rows(self) -> Iterator[str]:
         """The lines that have a record."""
         return (line for line in lines_of(self.source) if line and (line[0] not in "#tb" or not is_header(line)))
-
-    def named(self, message: str) -> str:
-        """A message of the program with the name of this file."""
-        return message.replace(f"{self.__dict__.get('narrow', self.source)}: ", f"{self.path}: ")
 
     def _cut(self, folder: str) -> str:
         target = os.path.join(folder, f"narrow-{len(os.listdir(folder))}")
@@ -87,6 +63,14 @@ class Bed:
                     raise Error(f"{self.path}: line {number}: wrong number of columns")
                 file.write(encoded("\t".join(columns[:WIDEST]) + "\n"))
         return target
+
+
+def width_of(bed: Path) -> Optional[int]:
+    """How many columns the records of a BED file have, or None if it has none or is no regular file."""
+    if not os.path.isfile(bed):
+        return None
+    with open(bed, "rb") as file:
+        return next((line.count(b"\t") + 1 for line in file if not is_header(line_text(line))), None)
 
 
 def lengths_of(genome: str) -> dict[str, int]:

@@ -28,7 +28,6 @@ class Blocks(io.RawIOBase):
         return len(data)
 
     def finish(self) -> None:
-        """Writes the last block."""
         if self._rest:
             self._pack(bytes(self._rest))
         self._file.write(LAST)

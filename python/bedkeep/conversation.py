@@ -172,7 +172,6 @@ class Conversation:
 
     @property
     def is_over(self) -> bool:
-        """Whether the program has ended."""
         return self._over is not None
 
     @property

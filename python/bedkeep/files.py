@@ -130,6 +130,14 @@ def _written(path: str, new: bool) -> Iterator[BinaryIO]:
         raise
 
 
+def stamp(path: Path) -> Optional[tuple[int, ...]]:
+    """What differs when a regular file was written again."""
+    if not os.path.isfile(path):
+        return None
+    state = os.stat(path)
+    return state.st_dev, state.st_ino, state.st_size, state.st_mtime_ns
+
+
 def same_file(one: Path, other: Path) -> bool:
     """Whether a file is there under both names."""
     return os.path.exists(one) and os.path.exists(other) and os.path.samefile(one, other)

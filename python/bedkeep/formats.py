@@ -82,13 +82,8 @@ def default_tail(record: Record, width: int, kind: Optional[str] = None) -> str:
     return _tail([*columns, *["."] * (count - len(columns))])
 
 
-def faults(record: Record, tail: str) -> list[str]:
-    """What can't hold of a record with this tail, in words."""
-    return [fault.text for fault in faults_of(record, tail)]
-
-
 def faults_of(record: Record, tail: str) -> list[Fault]:
-    """The same with the kinds of the faults."""
+    """What can't hold of a record with this tail."""
     return _faults_of(format_of(record, tail), record, _columns(tail))
 
 

@@ -3,9 +3,18 @@ from __future__ import annotations
 
 from bisect import bisect_left
 from collections import Counter, defaultdict
-from typing import Iterable, Iterator, Mapping, NamedTuple, Optional, Sequence
+from typing import Callable, Iterable, Iterator, Mapping, NamedTuple, Optional, Sequence
 
 from .record import COMMON, NAMELESS, Record, distance, name_of, overlap, split_row, strand_of
+
+
+KEYS: tuple[Callable[[Record], Record], ...] = (  # what two records share of which one became the other, the surest first
+    lambda record: record[:4],
+    lambda record: (name_of(record),) if name_of(record) not in NAMELESS else (),
+    lambda record: record[:3],
+    lambda record: (*record[:2], name_of(record)),
+    lambda record: (record[0], record[2], name_of(record)),
+)
 
 
 class Change(NamedTuple):
@@ -55,40 +64,18 @@ def _heirs(old: Sequence[Record], new: Sequence[Record]) -> dict[int, int]:
     """Which record became which, by their places: each the nearest of those that have the same name, place or end."""
     heirs: dict[int, int] = {}
     taken: set[int] = set()
-    for key in _place_and_name, _name, _place, _start, _end:
+    for key in KEYS:
         places: dict[Record, list[int]] = defaultdict(list)
         for at, record in enumerate(new):
-            same = key(record)
-            if same and at not in taken:
-                places[same].append(at)
+            if at not in taken:
+                places[key(record)].append(at)
         for at, record in enumerate(old):
-            left = places.get(key(record) or (), []) if at not in heirs else []
+            left = places.get(key(record), []) if at not in heirs and key(record) else []
             if 0 < len(left) <= COMMON:  # A key of more says nothing.
                 heirs[at] = min(left, key=lambda place: _far(record, new[place]))
                 taken.add(heirs[at])
                 left.remove(heirs[at])
     return heirs
-
-
-def _place_and_name(record: Record) -> Optional[Record]:
-    return record[:4]
-
-
-def _name(record: Record) -> Optional[Record]:
-    name = name_of(record)
-    return None if name in NAMELESS else (name,)
-
-
-def _place(record: Record) -> Optional[Record]:
-    return record[:3]
-
-
-def _start(record: Record) -> Optional[Record]:
-    return (*record[:2], name_of(record))
-
-
-def _end(record: Record) -> Optional[Record]:
-    return (record[0], record[2], name_of(record))
 
 
 def _far(one: Record, other: Record) -> tuple[bool, bool, int]:

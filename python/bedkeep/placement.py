@@ -9,6 +9,7 @@ So it depends on the file and on the lines that were done alone. Records are tex
 """
 from __future__ import annotations
 
+import io
 import os
 from bisect import bisect_right
 from collections import Counter, defaultdict
@@ -19,13 +20,13 @@ from .bed import is_header
 from .encoding import Path, decoded, encoded
 from .errors import Error
 from .files import line_text
-from .record import WIDEST, Record, split_row
+from .record import Record, split_row
 from .regions import Order, Region
 from .script import Move
 
 PIECE = 1 << 16  # bytes of lines that are looked through at once
 STRETCH = 1 << 20  # bytes that are copied at once
-SMALL = 1 << 22  # bytes of a file whose lines are all taken apart
+FEW = 12  # places that are looked for in the text of many lines
 REACH = 1 << 12  # how far before a record the one before it is looked for at first
 
 
@@ -89,10 +90,9 @@ class Plan:
 
 
 class Looks(NamedTuple):
-    """How a session is asked: for the copies around regions, and for those that the edits of a record put in; and its order."""
+    """How a session is asked for the copies around regions, and its order."""
 
     around: Callable[[Iterable[Region]], Counter[Record]]
-    net: Callable[[Record], int]
     order: Order
 
 
@@ -226,44 +226,26 @@ class Placement:
 
     def _find(self, wanted: set[Record]) -> dict[Record, list[Found]]:
         """The lines of each record, by its first six columns."""
-        is_narrow = not any(row.count("\t") >= WIDEST for row in (*self._plan.lines, *self._plan.added))
-        if is_narrow and os.path.getsize(self._path) > SMALL:
-            found = self._search(wanted)
-            there = self._looks.around((record[0], int(record[1]), int(record[2])) for record in wanted)
-            if all(len(found[record]) == there[record] - self._looks.net(record) for record in wanted):
-                return found  # Else a number has a leading zero.
-        return self._read(wanted)
-
-    def _search(self, wanted: set[Record]) -> dict[Record, list[Found]]:
-        """Looks for lines that have the text of the records and no other column."""
         found: dict[Record, list[Found]] = defaultdict(list)
-        texts = {encoded("\t".join(record)) + end: record for record in wanted for end in (b"", b"\r")}
+        for begin, line in self._lines({(encoded(record[0]), encoded(record[1])) for record in wanted}):
+            record, tail = split_row(line_text(line))
+            if record in wanted:
+                found[record].append(Found(begin, len(line), line[len(line.rstrip(b"\r\n")):], "\t".join(record) + tail))
+        return found
+
+    def _lines(self, places: set[tuple[bytes, bytes]]) -> Iterator[tuple[int, bytes]]:
+        """The lines that have one of some sequences and starts, and where they begin."""
         begin = 0
         with open(self._path, "rb") as file:
             while piece := file.read(PIECE) + file.readline():
-                lines = piece.split(b"\n")
-                if not texts.keys().isdisjoint(lines):
+                if len(places) > FEW or any(start + b"\t" in piece for _, start in places):
                     place = begin
-                    for number, line in enumerate(lines, 1):
-                        if line in texts:
-                            record = texts[line]
-                            end = (b"\r" if line.endswith(b"\r") else b"") + (b"\n" if number < len(lines) else b"")
-                            found[record].append(Found(place, len(line) + (number < len(lines)), end, "\t".join(record)))
-                        place += len(line) + 1
+                    for line in io.BytesIO(piece):
+                        columns = line.split(b"\t", 2)
+                        if len(columns) > 2 and (columns[0], columns[1].lstrip(b"0") or b"0") in places:
+                            yield place, line
+                        place += len(line)
                 begin += len(piece)
-        return found
-
-    def _read(self, wanted: set[Record]) -> dict[Record, list[Found]]:
-        """Takes each line apart."""
-        found: dict[Record, list[Found]] = defaultdict(list)
-        begin = 0
-        for line, row in _lines(self._path):
-            if not is_header(row):
-                record, tail = split_row(row)
-                if record in wanted:
-                    found[record].append(Found(begin, len(line), line[len(line.rstrip(b"\r\n")):], "\t".join(record) + tail))
-            begin += len(line)
-        return found
 
 
 def _keep_last(last: dict[Record, Found], record: Record, line: Found) -> None:

@@ -1,12 +1,12 @@
 """Rows as tuples with names and integers, made from what the program prints."""
 from __future__ import annotations
 
-import os
 from collections import namedtuple
 from functools import lru_cache
-from typing import TYPE_CHECKING, Any, Callable, Iterable, Iterator, NamedTuple, Optional, Sequence
+from itertools import groupby
+from typing import TYPE_CHECKING, Any, Callable, Iterable, Iterator, Optional, Sequence
 
-from .encoding import Path, decoded
+from .encoding import decoded, encoded
 
 RECORD = ("chromosome", "start", "end", "name", "score", "strand")
 INTEGERS = {"start", "end", "second_start", "second_end", "block", "position", "depth", "hits", "count"}
@@ -59,24 +59,6 @@ def is_integer(field: str) -> bool:
 def is_number(field: str) -> bool:
     """Whether a column holds whole numbers, and None if the program prints `.`."""
     return field.startswith(("sum_", "min_", "max_"))
-
-
-class Shape(NamedTuple):
-    """How a line becomes a row: its class, how the line is split, and the columns that become something else than text."""
-
-    row: type[Row]
-    split: Callable[[str], list[Any]]
-    converted: list[tuple[int, Callable[[str], Any]]]
-
-
-def _shape(words: Sequence[str], columns: int, width: Optional[int]) -> Shape:
-    """The shape of a view's rows that have so many columns, over a track of that width."""
-    fields = fields_of(words, columns, width)
-    if words[0] == "getfasta":
-        return Shape(_row_class(fields), lambda line: _bases(line, "-s" in words), [])
-    integers = [(place, int) for place, field in enumerate(fields) if is_integer(field)]
-    numbers = [(place, _number) for place, field in enumerate(fields) if is_number(field)]
-    return Shape(_row_class(fields), lambda line: line.split("\t"), [*integers, *numbers])
 
 
 def shows_second(words: Sequence[str]) -> bool:
@@ -161,31 +143,55 @@ class Reader:
     def __init__(self, words: Sequence[str], width: Optional[int]) -> None:
         self._words = words
         self._width = width
-        self._shape: Optional[Shape] = None
+        self._row: Optional[type[Row]] = None
+        self._split: Callable[[str], list[Any]] = lambda line: line.split("\t")
+        self._converted: list[tuple[int, Callable[[str], Any]]] = []  # the columns that become something else than text
 
     def rows(self, lines: bytes) -> Iterator[Row]:
         """The rows of whole lines."""
         if not lines:
             return
         listed = decoded(lines[:-1]).split("\n")
-        if self._shape is None:
-            self._shape = _shape(self._words, listed[0].count("\t") + 1, self._width)
-        row, split, converted = self._shape
+        row, split, converted = self._row or self._begin(listed[0]), self._split, self._converted
         for line in listed:
             columns = split(line)
             for place, convert in converted:
                 columns[place] = convert(columns[place])
             yield tuple.__new__(row, columns)
 
+    def _begin(self, line: str) -> type[Row]:
+        """Finds out how lines become rows, by the first one."""
+        fields = fields_of(self._words, line.count("\t") + 1, self._width)
+        if self._words[0] == "getfasta":
+            self._split = lambda line: _bases(line, "-s" in self._words)
+        else:
+            self._converted += [(place, int) for place, field in enumerate(fields) if is_integer(field)]
+            self._converted += [(place, _number) for place, field in enumerate(fields) if is_number(field)]
+        self._row = _row_class(fields)
+        return self._row
 
-def width_of(bed: Path) -> Optional[int]:
-    """How many columns the records of a BED file have, or None if it has none or is no regular file."""
-    if not os.path.isfile(bed):
-        return None
-    with open(bed, "rb") as file:
-        for line in file:
-            line = line.rstrip(b"\r\n")
-            header = line in (b"track", b"browser") or line.startswith((b"#", b"track ", b"browser "))
-            if line and not header:
-                return line.count(b"\t") + 1
-    return None
+
+def by_sequence(lines: bytes) -> Iterator[tuple[str, list[bytes]]]:
+    """The rows of whole lines of a view, those of one sequence after those of another."""
+    rows = lines.split(b"\n")[:-1]
+    if rows and _sequence(rows[0]) == _sequence(rows[-1]):
+        yield decoded(_sequence(rows[0])), rows
+    else:
+        yield from ((decoded(name), list(group)) for name, group in groupby(rows, _sequence))
+
+
+def _sequence(row: bytes) -> bytes:
+    return row.partition(b"\t")[0]
+
+
+def lines_with(lines: bytes, part: str) -> Iterator[str]:
+    """Those of whole lines that have a text in them, in any case. If it isn't ASCII, they are all lines."""
+    if not part.isascii():
+        yield from decoded(lines).split("\n")[:-1]
+        return
+    searched, sought = lines.lower(), encoded(part.lower())
+    place = searched.find(sought)
+    while 0 <= place < len(lines):
+        end = lines.find(b"\n", place) + 1
+        yield decoded(lines[lines.rfind(b"\n", 0, place) + 1:end - 1])
+        place = searched.find(sought, end)

@@ -11,16 +11,17 @@ from .encoding import encoded
 from .record import Record
 
 Region = tuple[str, int, int]
+MITOCHONDRION = {"m", "mt"}
 PLACE = re.compile(r"(.+):([\d,]+)-([\d,]+)")
 
 
 class Regions:
-    """Regions, those that touch joined, as far as they are on their sequences. lengths: of these, or None if not known."""
+    """Regions, those that touch joined, as far as they are on their sequences. lengths: of these"""
 
-    def __init__(self, regions: Iterable[Region], lengths: Optional[Mapping[str, int]]) -> None:
+    def __init__(self, regions: Iterable[Region], lengths: Mapping[str, int]) -> None:
         intervals: dict[str, list[tuple[int, int]]] = defaultdict(list)
         for sequence, start, end in regions:
-            first, last = max(start, 0), end if lengths is None else min(end, lengths.get(sequence, 0))
+            first, last = max(start, 0), min(end, lengths.get(sequence, 0))
             if first < last:
                 intervals[sequence].append((first, last))
         self._joined = {sequence: _joined(listed) for sequence, listed in intervals.items()}
@@ -31,9 +32,7 @@ class Regions:
                 yield sequence, start, end
 
     def overlapping(self, record: Record) -> int:
-        """How many of them a record overlaps."""
-        if record[0] not in self._joined:
-            return 0
+        """How many of them a record overlaps that is on one of their sequences."""
         starts, ends = self._joined[record[0]]
         return bisect_left(starts, int(record[2])) - bisect_right(ends, int(record[1]))
 
@@ -68,12 +67,17 @@ def _joined(intervals: list[tuple[int, int]]) -> tuple[list[int], list[int]]:
     return starts, ends
 
 
+def same_sequence(one: str, other: str) -> bool:
+    """Whether two names of sequences are hardly those of two: but for `chr` and case, and chrM is MT."""
+    cores = {name.lower().removeprefix("chr") for name in (one, other)}
+    return len(cores) == 1 or cores == MITOCHONDRION
+
+
 def absent(sequence: str, lengths: Mapping[str, int]) -> str:
     """What is said of a sequence that the genome lacks."""
     place = PLACE.fullmatch(sequence)
     if place and place[1] in lengths:
         start, end = (int(number.replace(",", "") or 0) for number in place.groups()[1:])
         return f"the genome has no {sequence}: a place is three arguments, {place[1]!r}, {start}, {end}"
-    stem = sequence.lower().removeprefix("chr")
-    alike = next((name for name in lengths if name.lower().removeprefix("chr") == stem), None)
+    alike = next((name for name in lengths if same_sequence(name, sequence)), None)
     return f"the genome has no {sequence}" + (f", and has {alike}" if alike else "")

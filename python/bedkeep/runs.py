@@ -13,9 +13,10 @@ import subprocess
 from typing import Any, Generator, Iterator, Optional, Sequence, SupportsIndex, Union
 
 from .arguments import Genome, Sources, Track, path_of
+from .bed import width_of
 from .encoding import Path, decoded
 from .errors import Ended, ended
-from .printed_rows import Lines, Reader, Row, count_of, fields_of, width_of
+from .printed_rows import Lines, Reader, Row
 from .program import environment, find
 from .script import text_of
 from .tables import frame_of_rows, frame_of_text
@@ -46,21 +47,15 @@ class Rows(Iterator[Row]):
         self.close()
 
     def close(self) -> None:
-        """Ends the run."""
         self._rows.close()
         self._pieces.close()
 
     def to_frame(self, names: str = "bedkeep") -> Any:
         """The rows that are left, as a DataFrame of pandas; `names` as in `to_frame` of the package."""
-        width, second = self._widths[:2]
-        fields = fields_of(self._words, count_of(self._words, width or 3, second or 3), width or 3)
-        if inspect.getgeneratorstate(self._rows) != inspect.GEN_CREATED:
-            rows = list(self._rows)
-            return frame_of_rows(rows, rows[0]._fields if rows else fields, names)
-        text = b"".join(self._pieces)
-        if text:
-            fields = fields_of(self._words, text[:text.index(b"\n")].count(b"\t") + 1, width)
-        return frame_of_text(text, self._words, fields, names)
+        rows = list(self._rows) if inspect.getgeneratorstate(self._rows) != inspect.GEN_CREATED else []
+        if rows:
+            return frame_of_rows(rows, rows[0]._fields, names)
+        return frame_of_text(b"".join(self._pieces), self._words, self._widths[0], self._widths[1], names)
 
 
 def _made(pieces: Generator[bytes, None, None], reader: Reader) -> Generator[Row, None, None]:

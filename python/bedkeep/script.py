@@ -10,7 +10,7 @@ from collections.abc import Mapping
 from itertools import islice
 from typing import Collection, Iterable, Iterator, Optional, Sequence, SupportsIndex, Union
 
-from .changes import Changes
+from .changes import Changes, halves
 from .interrupts import Interrupts
 from .record import record_of
 
@@ -90,10 +90,16 @@ def _refuse_other_types(lines: object) -> None:
 
 
 def inverse_of(line: str) -> str:
-    """The line that takes back an edit of a record, directly after it."""
+    """The line that takes back an edit of a record, directly after it; other lines as they are."""
     command, *fields = line.removesuffix("\r").split("\t")
-    half = len(fields) // 2 if command.startswith("replace") else 0
-    return "\t".join([INVERSE.get(command, command), *fields[half:], *fields[:half]])
+    old, new = halves(command, fields)
+    return "\t".join([INVERSE[command], *new, *old]) if command in INVERSE else line
+
+
+def of_track(line: str) -> str:
+    """An edit of the second file as one of a track; other lines as they are."""
+    command, separator, rest = line.partition("\t")
+    return command.removesuffix("b") + separator + rest if command in EDITS else line
 
 
 def is_edit(line: str) -> bool:
@@ -151,13 +157,13 @@ class Kind(enum.Enum):
 
 
 class Script:
-    """The accepted edits over a genome, whose lengths are None if they aren't known.
+    """The accepted edits over a genome of these lengths.
 
     The comments directly above a line are the reason for it, and for the lines below it up to the next comment or empty line.
     An empty line separates a line that comes without a reason from lines that have one.
     """
 
-    def __init__(self, lengths: Optional[Mapping[str, int]]) -> None:
+    def __init__(self, lengths: Mapping[str, int]) -> None:
         self._lines: list[str] = []
         self._kinds: list[Kind] = []  # of each line
         self._added: list[str] = []
@@ -197,10 +203,9 @@ class Script:
         """What each line of the track did, in their order: records with all their columns, numbers without leading zeros."""
         for line in self.lines():
             command, *fields = line.split("\t")
-            half = len(fields) // 2 if command == "replace" else len(fields)
             if command in ("add", "remove", "replace"):
-                yield (None if command == "add" else "\t".join(record_of(fields[:half])),
-                       None if command == "remove" else "\t".join(record_of(fields[-half:])))
+                old, new = ("\t".join(record_of(columns)) if columns else None for columns in halves(command, fields))
+                yield old, new
 
     def explain(self, reason: str) -> None:
         """Puts comments above the last edit, or above the first line of its group."""

@@ -13,20 +13,19 @@ from types import MappingProxyType
 from typing import Any, Callable, Iterable, Iterator, NamedTuple, Optional, Sequence, TypeVar, Union, cast
 
 from .arguments import Genome, Sources, Track, path_of
-from .bed import headers_of
+from .bed import headers_of, lengths_of, width_of
 from .changes import Copies
 from .conversation import Answer, Conversation, Take
 from .encoding import Path, decoded, encoded
-from .errors import Ended, Refused
-from .file_search import Lookup, stamp
-from .files import is_plain, same_file, whole
+from .errors import Ended, Error, Refused
+from .files import is_plain, same_file, stamp, whole
 from .interrupts import Interrupts
 from .placement import Looks, write_placed
-from .printed_rows import RECORD, Lines, Reader, Row, count_of, fields_of, row_of, shows_second, width_of
+from .printed_rows import RECORD, Lines, Reader, Row, lines_with, row_of, shows_second
 from .program import find
-from .record import WIDEST, Record, record_of
+from .record import NARROWEST, WIDEST, Record, record_of
 from .regions import Order, Region, Regions, absent
-from .script import TOGETHER, Script, accepted, edits_of, inverse_of, is_edit, line_of, pieces_of, text_of
+from .script import TOGETHER, Script, accepted, edits_of, is_edit, line_of, pieces_of, text_of
 from .tables import SCORE, frame_of_text, is_table, score_of
 from .wide_session import Wide, WideScript
 
@@ -94,6 +93,7 @@ class Session:
         self._wide = Wide(bed, second, width, leave_blocks) if wide else None
         self._named: dict[str, list[str]] = {}
         self._opened = 0
+        self._count: Optional[int] = None  # of the records before all edits, once it is asked for
         self._lock = threading.RLock()
         self._refused: list[Refused] = []  # of the last call of `edit`
         with Sources() as sources:
@@ -104,8 +104,10 @@ class Session:
                 self._files["-fi"] = path_of(fasta)
             if self._wide:
                 self._files.update(self._wide.narrow)
+                sources.names.update(zip(self._wide.narrow.values(), self._wide.given.values()))
             if STANDARD_INPUT.intersection(self._files.values()):
                 raise ValueError("standard input of a session is its script")
+            self._files["-g"] = sources.kept(self._files["-g"])
             words = [find(program), "session", *(word for option in self._files.items() for word in option)]
             if width is not None:
                 words += ["-width", str(min(width, WIDEST) if wide else width)]
@@ -115,20 +117,23 @@ class Session:
             self._source_read = stamp(self._source) if self._source else None
             if self._source_read is None:
                 self._source = None
-            self._lookup = Lookup(genome, self._files["-i"])
+            genome_read = stamp(self._files["-g"])
             self._talk = Conversation(words, sources.descriptors)
             try:
                 self.width = self._find_width("remove", loads=True)
+                if stamp(self._files["-g"]) != genome_read:
+                    raise Error(f"{self._files['-g']} was written while it was read")
+                lengths = lengths_of(self._files["-g"])
             except Ended as failure:
                 self.end()
                 if not wide and any(map(needs_wide, (bed, second))):
                     failure.hint = ("wide=True takes files of more than six columns, and those that gzip packed",)
-                raise sources.renamed(self._wide.named(failure) if self._wide else failure) from None
+                raise sources.renamed(failure) from None
             except BaseException:
                 self.end()
                 raise
             sources.free()
-        self._script = self._lookup.begin(self._wide.script if self._wide else Script)
+        self._script = self._wide.script(lengths) if self._wide else Script(lengths)
         if self._wide:
             self._files.update(self._wide.given)
 
@@ -150,11 +155,10 @@ class Session:
     @alone
     def __len__(self) -> int:
         """The number of records."""
-        if self._lookup.is_possible:
-            return self._lookup.count()
-        counted: list[int] = []
-        self._print_track(lambda lines: counted.append(lines.count(b"\n")))
-        return sum(counted)
+        added = self._copies(second=False).added
+        if self._count is None:
+            self._count = self._printed().count(b"\n") - added
+        return self._count + added
 
     def __bool__(self) -> bool:
         """True, also without a record."""
@@ -250,8 +254,8 @@ class Session:
     def edit_seen(self, lines: Union[str, Iterable[str]], region: Optional[Region] = None, keep: bool = True) -> Seen:
         """Carries out edits as `edit` does, and has the rows of all open views before and after them, as `show_all` has them.
 
-        That is one exchange with the program. keep: whether the edits stay; else all are taken back, so that one sees what they
-        would do. No rows come of a region that isn't there before and after. ValueError for lines among which some, not all, are
+        That is one exchange with the program. keep: whether the edits stay; else all are taken back by another one, so that one
+        sees what they would do. No rows come of a region that isn't there before and after. ValueError for lines among which some, not all, are
         done together.
         """
         text = edits_of(lines)
@@ -260,11 +264,19 @@ class Session:
             raise ValueError("lines of which only some are done together")
         look = line_of("showall", *region) if region and self._named else ""
         printed: list[bytes] = []
-        warnings: list[tuple[str, str]] = []
-        if keep or self._wide or "resize\t" in text:
-            refused, inverse = self._see(text, is_group[0], printed.append, look, keep, warnings)
-        else:
-            refused, inverse = self._try(text, is_group[0], printed.append, look)
+        with Interrupts():
+            warned = len(self.warnings())
+            if is_group[0]:
+                refused = self._send_group(text, 0, printed.append, look)
+            else:
+                refused = self._send(text, printed.append, self._script.add, whole=True, look=look)
+            places = self._script.last_edits(sum(map(is_edit, text.split("\n"))) - len(refused))
+            inverse = [self._script.reverse(place).rstrip("\n") for place in reversed(places)]
+            warnings = self.warnings()[warned:]
+            if keep:
+                self._refused = refused
+            elif places:
+                self._take_back(places)
         shown = self._shown(b"".join(printed))
         before, after = (shown[0], shown[-1]) if len(shown) > 1 else ({}, {})
         return Seen(refused, before, before if is_group[0] and refused else after, inverse, warnings)
@@ -346,6 +358,13 @@ class Session:
         return self._rows(name, line_of("show", name, chromosome, start, end))
 
     @alone
+    def stream(self, words: str, take: Callable[[bytes], object], region: Optional[Region] = None) -> None:
+        """Hands on the rows of a view, or those of a region, as the program prints them: some whole lines at a time."""
+        name, lines = self._view(words), Lines()
+        line = line_of("show", name, *region) if region else line_of("print", name)
+        self._send_one(line, lambda piece: take(lines.whole(piece)))
+
+    @alone
     def show_all(self, chromosome: str, start: int, end: int) -> dict[str, str]:
         """The rows of each open view that `show` gives, by its options, as text: as the program prints them, each with its end."""
         printed: list[bytes] = []
@@ -372,8 +391,6 @@ class Session:
         self._refuse_place(chromosome, start)
         if start >= end:
             raise ValueError(f"a region from {start} to {end}: its start is not below its end")
-        if self.lengths is None:
-            return [row for row in self.view("records") if row.chromosome == chromosome and row.start < end and start < row.end]
         first, last = max(start, 0), min(end, self.lengths[chromosome])
         return self.show("records", chromosome, first, last) if first < last else []
 
@@ -384,8 +401,7 @@ class Session:
         A region is chromosome, start, end; what of it isn't in the genome is left out. Records are tuples of text, of at most
         six columns.
         """
-        lengths = self.lengths
-        asked = Regions(regions, lengths)
+        asked = Regions(regions, self.lengths)
         rows: Counter[bytes] = Counter()
         lines = Lines()
 
@@ -393,46 +409,30 @@ class Session:
             rows.update(lines.whole(piece).split(b"\n")[:-1])
 
         name = self._view("records")
-        if lengths is None:
-            self._send_one(line_of("print", name), take)
-        else:
-            for refused in self._send("".join(f"show\t{name}\t{where}\t{start}\t{end}\n" for where, start, end in asked), take):
-                raise refused
-        counted: Counter[Record] = Counter()
-        for row, copies in rows.items():
-            record = tuple(decoded(row).split("\t"))
-            times = asked.overlapping(record)
-            if times:
-                counted[record] = copies if lengths is None else copies // times
-        return counted
+        for refused in self._send("".join(f"show\t{name}\t{where}\t{start}\t{end}\n" for where, start, end in asked), take):
+            raise refused
+        records = ((tuple(decoded(row).split("\t")), copies) for row, copies in rows.items())
+        return Counter({record: copies // asked.overlapping(record) for record, copies in records})
 
     @alone
     def find(self, name: str) -> list[Row]:
         """The records of that name, in their order."""
-        return self._rows_of(self.named([name])[name])
+        return self._rows_of(record for record in self._with(name) if record[3] == name)
 
     @alone
     def named(self, names: Iterable[str]) -> dict[str, list[Record]]:
         """The records of each of the names, in their order, as tuples of text, of at most six columns."""
-        listed = list(names)
-        if self._lookup.is_possible:
-            found = self._lookup.named(listed)
-            if self._lookup.is_possible:  # and was while it was read
-                return found
-        found = {name: [] for name in listed}
-        for record in self._all():
-            if len(record) > 3 and record[3] in found:
-                found[record[3]].append(record)
-        return found
+        found: dict[bytes, list[Record]] = {encoded(name): [] for name in names}
+        for line in self._printed().split(b"\n")[:-1] if self.width > NARROWEST else ():
+            name = line.split(b"\t", NARROWEST + 1)[NARROWEST]
+            if name in found:
+                found[name].append(tuple(decoded(line).split("\t")))
+        return {decoded(name): records for name, records in found.items()}
 
     @alone
     def search(self, part: str) -> list[Row]:
         """The records that have this in their names, in any case, in their order."""
-        if self._lookup.is_possible:
-            rows = self._rows_of(self._lookup.search(part))
-            if self._lookup.is_possible:
-                return rows
-        return self._rows_of(record for record in self._all() if len(record) > 3 and part.casefold() in record[3].casefold())
+        return self._rows_of(record for record in self._with(part) if part.casefold() in record[3].casefold())
 
     @alone
     def near(self, chromosome: str, start: int, end: int, count: int = 3) -> list[Row]:
@@ -441,7 +441,7 @@ class Session:
             return abs(row.start - start) + abs(row.end - end)
 
         self._refuse_place(chromosome, start)
-        reach = LONGEST if self.lengths is None else REACH
+        reach = REACH
         while True:
             found = nsmallest(count, self.region(chromosome, max(start - reach, 0), end + reach), key=distance)
             if len(found) == count and distance(found[-1]) <= reach or reach >= LONGEST:
@@ -482,24 +482,16 @@ class Session:
 
     @property
     @alone
-    def lengths(self) -> Optional[Mapping[str, int]]:
-        """The length of each chromosome now, or None if the genome can't be read again, as a pipe."""
-        lengths = self._lookup.lengths
-        return None if lengths is None else MappingProxyType(lengths)
+    def lengths(self) -> Mapping[str, int]:
+        """The length of each chromosome now."""
+        return MappingProxyType(self._script.changes().lengths)
 
     def length(self, chromosome: str) -> int:
-        """The length of a chromosome now. ValueError if the genome has none such, or can't be read again."""
+        """The length of a chromosome now. ValueError if the genome has none such."""
         lengths = self.lengths
-        if lengths is None:
-            raise ValueError("the genome can't be read again, so its lengths aren't known")
         if chromosome not in lengths:
             raise ValueError(absent(chromosome, lengths))
         return lengths[chromosome]
-
-    @property
-    def narrow(self) -> str:
-        """The path of the BED file that the program reads, with at most six columns."""
-        return self._wide.narrow["-i"] if self._wide else self._files["-i"]
 
     def is_suspended(self) -> bool:
         """Whether a signal stopped the program, so that it answers once another one has it go on. Ended if it has ended."""
@@ -518,15 +510,10 @@ class Session:
         if words is None:
             self._print_track(pieces.append)
             columns = max(self.width, self._wide.width) if self._wide else self.width
-            return frame_of_text(b"".join(pieces), ["records"], fields_of(["records"], columns, self.width), names)
-        listed = _words(words)
-        self._send_one(line_of("print", self._view(words)), pieces.append)
-        text = b"".join(pieces)
-        if text:
-            count = text[:text.index(b"\n")].count(b"\t") + 1
-        else:
-            count = count_of(listed, self.width, self._find_width("removeb") if shows_second(listed) else 0)
-        return frame_of_text(text, listed, fields_of(listed, count, self.width), names)
+            return frame_of_text(b"".join(pieces), ["records"], columns, None, names)
+        self.stream(words, pieces.append)
+        second = self._find_width("removeb") if shows_second(_words(words)) else None
+        return frame_of_text(b"".join(pieces), _words(words), self.width, second, names)
 
     @alone
     def save(self, path: Path, sorted: bool = False) -> None:
@@ -555,8 +542,7 @@ class Session:
             take(encoded("".join(f"{line}\n" for line in headers_of(self._source))))
             self._print_track(take)
             return
-        lengths = self.lengths or dict.fromkeys((record[0] for record in self._all()), LONGEST)
-        write_placed(self._source, self._script.moves(), Looks(self.around, self._copies(second=False).net, Order(lengths)), take)
+        write_placed(self._source, self._script.moves(), Looks(self.around, Order(self.lengths)), take)
 
     def reads(self, path: Path) -> bool:
         """Whether the session reads this file, under any of its names."""
@@ -578,38 +564,32 @@ class Session:
     def _print_track(self, take: Callable[[bytes], object]) -> None:
         """Hands on the lines of all records, in their order."""
         joined = self._wide.joiner() if self._wide else bytes
-        self._print(lambda lines: take(joined(lines)))
+        self.stream("records", lambda lines: take(joined(lines)))
 
-    def _print(self, take: Callable[[bytes], object]) -> None:
-        """Hands on the lines of all records, at most six columns of them. The view `records`, which stays open, has them."""
-        name, lines = self._view("records"), Lines()
-        self._send_one(line_of("print", name), lambda piece: take(lines.whole(piece)))
-
-    def _all(self) -> Iterable[Record]:
-        """All records, as tuples of text, of at most six columns."""
+    def _printed(self) -> bytes:
+        """The lines of all records, at most six columns of them."""
         pieces: list[bytes] = []
-        self._print(pieces.append)
-        return (tuple(line.split("\t")) for line in decoded(b"".join(pieces)).split("\n")[:-1])
+        self.stream("records", pieces.append)
+        return b"".join(pieces)
+
+    def _with(self, part: str) -> Iterable[Record]:
+        """The records with a name whose lines have a text in them, and maybe others, as tuples of text."""
+        lines = lines_with(self._printed(), part) if self.width > NARROWEST else ()
+        return (tuple(line.split("\t")) for line in lines)
 
     def _rows_of(self, records: Iterable[Record]) -> list[Row]:
         fields = RECORD[:self.width]
         return [row_of(fields, (record[0], int(record[1]), int(record[2]), *record[3:])) for record in records]
 
     def _copies(self, second: bool) -> Copies:
-        changes = self._lookup.changes
+        changes = self._script.changes()
         return changes.second if second else changes.track
 
     def _refuse_place(self, chromosome: str, start: int) -> None:
         """Raises a ValueError for a place that the genome lacks."""
-        lengths = self.lengths
-        if lengths is None:
-            for refused in self._send(line_of("show", self._view("records"), chromosome, max(start, 0), max(start, 0) + 1)):
-                if refused.reason == "unknown sequence" or start > 0:
-                    raise ValueError(f"{refused.reason}: {chromosome} {start}")
-        elif chromosome not in lengths:
-            raise ValueError(absent(chromosome, lengths))
-        elif start >= max(lengths[chromosome], 1):
-            raise ValueError(f"{chromosome} has {lengths[chromosome]} bases, so nothing is at {start}")
+        length = self.length(chromosome)
+        if start >= max(length, 1):
+            raise ValueError(f"{chromosome} has {length} bases, so nothing is at {start}")
 
     def _edits(self) -> list[str]:
         return [line for line in self._script.lines() if line and not line.startswith("#")]
@@ -640,41 +620,6 @@ class Session:
             if refused and done:
                 self._take_back(self._script.last_edits(done))
             return _together(text, refused, before)
-
-    def _see(self, text: str, is_group: bool, take: Take, look: str, keep: bool,
-             warnings: list[tuple[str, str]]) -> tuple[list[Refused], list[str]]:
-        """Does edits for `edit_seen`, and returns what is refused, and what takes the others back. warnings: gets theirs"""
-        with Interrupts():
-            warned = len(self.warnings())
-            if is_group:
-                refused = self._send_group(text, 0, take, look)
-            else:
-                refused = self._send(text, take, self._script.add, whole=True, look=look)
-            places = self._script.last_edits(sum(map(is_edit, text.split("\n"))) - len(refused))
-            inverse = [self._script.reverse(place).rstrip("\n") for place in reversed(places)]
-            warnings += self.warnings()[warned:]
-            if keep:
-                self._refused = refused
-            elif places:
-                self._take_back(places)
-        return refused, inverse
-
-    def _try(self, text: str, is_group: bool, take: Take, look: str) -> tuple[list[Refused], list[str]]:
-        """The same without keeping them, in one exchange, by their inverse lines."""
-        edits = list(filter(is_edit, text.split("\n")))
-        inverse = [inverse_of(edit) for edit in reversed(edits)]
-        sent = "".join([look, text, look, *(f"{line}\n" for line in inverse)])
-        with Interrupts():
-            all_refused = {one.number: one for one in self._send(sent, take, whole=True)}
-            done = [line for number, line in enumerate(sent.split("\n"), 1)
-                    if is_edit(line) and number not in all_refused and f"{line}\n" != look]
-            if len(done) < len(edits) + len(inverse):  # An inverse may be done without its line.
-                self._send("".join(f"{inverse_of(line)}\n" for line in reversed(done)), whole=True)
-        first = bool(look) + 1
-        refused = [one for number, one in all_refused.items() if first <= number < first + text.count("\n")]
-        for one in refused:
-            one.number -= first - 1
-        return _together(text, refused, 0) if is_group else refused, inverse
 
     def _take_back(self, places: Sequence[int]) -> None:
         """Takes back the last edits, the last one first."""
@@ -763,7 +708,6 @@ def needs_wide(track: Track) -> bool:
 
 
 def _columns(record: object) -> list[str]:
-    """The columns of a record as text."""
     if isinstance(record, (str, bytes, Mapping, set, frozenset)) or hasattr(record, "columns") or not isinstance(record, Iterable):
         raise TypeError(f"a record is its columns, and not {record!r}")
     return [score_of(column) if place == SCORE else text_of(column) for place, column in enumerate(record)]

@@ -7,7 +7,8 @@ import io
 from typing import Any, Iterable, Optional, Sequence
 
 from .pairs import beyond, changes
-from .printed_rows import RECORD, Reader, Row, distinct, is_integer, is_number
+from .printed_rows import RECORD, Reader, Row, count_of, distinct, fields_of, is_integer, is_number
+from .record import NARROWEST
 from .script import text_of
 
 NAMES = {
@@ -39,8 +40,15 @@ def frame_of_rows(rows: Sequence[Row], fields: Sequence[str], names: str) -> Any
     return pandas.DataFrame.from_records(rows, columns=renamed(fields, names))
 
 
-def frame_of_text(text: bytes, words: Sequence[str], fields: Sequence[str], names: str) -> Any:
-    """A DataFrame of the rows that a view printed, read by pandas, so that no object is made for each row."""
+def frame_of_text(text: bytes, words: Sequence[str], width: Optional[int], second: Optional[int], names: str) -> Any:
+    """A DataFrame of the rows that a view printed, read by pandas, so that no object is made for each row.
+
+    width, second: how many columns the records of the track have, and those of the second file, if that is known
+    """
+    if text:
+        fields = fields_of(words, text[:text.index(b"\n")].count(b"\t") + 1, width)
+    else:
+        fields = fields_of(words, count_of(words, width or NARROWEST, second or NARROWEST), width or NARROWEST)
     called = renamed(fields, names)
     pandas = importlib.import_module("pandas")
     if not text:

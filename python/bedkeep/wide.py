@@ -157,7 +157,6 @@ class Tails:
                     del self._net[record]
 
     def undo(self, step: Step) -> None:
-        """Takes a step back."""
         self.do(Step(step.new, step.new_tail, step.old, step.old_tail))
 
     def _follow(self, old: Record, tail: str, new: Record, leave: bool) -> Step:

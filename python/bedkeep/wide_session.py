@@ -1,8 +1,8 @@
 """What a session over wide files has besides: the first six columns of its files for the program, and the tails of their records.
 
 Each record of a wide file is known here with its tail, so before lines are sent it is decided of each whether the columns after
-the sixth fit. Many lines are one exchange with the program. If it refuses one that wasn't expected to be refused, and another line
-was decided by that one, the lines from there on are taken back and sent again.
+the sixth fit. Many lines are one exchange with the program. If it refuses one that wasn't expected to be refused, the lines after
+that are taken back and sent again.
 """
 from __future__ import annotations
 
@@ -16,15 +16,14 @@ from typing import Callable, Iterator, NamedTuple, Optional, Sequence
 from .bed import Bed
 from .conversation import Answer
 from .encoding import Path, decoded, encoded
-from .errors import FIELD, Ended, Error, field_of
+from .errors import FIELD, Error, field_of
 from .formats import DIGITS
 from .record import WIDEST, record_of
-from .script import EDITS, INVERSE, Move, Script, is_edit, line_of
+from .script import EDITS, INVERSE, Move, Script, inverse_of, is_edit
 from .wide import Joiner, Step, Tails, Unfit, cut
 
 Ask = Callable[[str, bool], Answer]  # sends the lines of a text to the program; all of them, or those before an interrupt
 STRANDS = {"+", "-", "."}
-FEW = 64  # lines that are sent at once after lines had to be taken back
 
 
 class Plan(NamedTuple):
@@ -53,9 +52,7 @@ class Wide:
         folder = tempfile.mkdtemp(prefix="bedkeep-")
         self.close = weakref.finalize(self, _remove, folder, os.getpid())
         paths = {"-i": bed} if second is None else {"-i": bed, "-b": second}
-        self._beds = {option: Bed(path, folder) for option, path in paths.items()}
-        for file in self._beds.values():
-            file.widen(width or 0)
+        self._beds = {option: Bed(path, folder, width or 0) for option, path in paths.items()}
         self.given = {option: os.fspath(path) for option, path in paths.items()}
         self.narrow = {option: file.narrow for option, file in self._beds.items()}
         self.source = self._beds["-i"].source
@@ -64,16 +61,9 @@ class Wide:
         self._tails = {option: Tails(file.width, file.rows()) for option, file in self._beds.items() if file.is_wide}
         self._leave = leave
         self._script: Optional[Script] = None
-        self._lengths: Optional[Mapping[str, int]] = None
+        self._lengths: Mapping[str, int] = {}
 
-    def named(self, failure: Ended) -> Ended:
-        """A failure about a file of six columns by the name of the file as it was given."""
-        message = failure.message
-        for bed in self._beds.values():
-            message = bed.named(message)
-        return type(failure)(failure.status, message, failure.hint)
-
-    def script(self, lengths: Optional[Mapping[str, int]]) -> Script:
+    def script(self, lengths: Mapping[str, int]) -> Script:
         """The script of the session, which begins."""
         self._script = WideScript(lengths, self) if self._tails else Script(lengths)
         return self._script
@@ -115,7 +105,7 @@ class Wide:
         self.steps = []
         if not self._tails:
             return ask(text, whole)
-        self._lengths = self._script.changes().lengths if self._script else None
+        self._lengths = self._script.changes().lengths if self._script else {}
         lines, sent, size = text.split("\n")[:-1], 0, len(text)
         refused: dict[int, str] = {}
         hints: dict[int, list[str]] = {}
@@ -127,17 +117,19 @@ class Wide:
             sent += done
             if answer.sent < len(batch):
                 break
-            size = size * 2 if done == len(batch) else FEW
+            size = size * 2 if done == len(batch) else 1
         return Answer(sent, refused, hints)
 
     def _exchange(self, lines: Sequence[str], ask: Ask, whole: bool) -> tuple[Answer, int]:
-        """Sends some lines, and returns the answer, and how many of them were decided by what the program did before them."""
+        """Sends some lines, and returns the answer, and how many of them are done with: those after an unforeseen answer aren't."""
         plans = [self._plan(line) for line in lines]
         answer = ask("".join(f"{plan.sent}\n" for plan in plans), whole)
-        foreseen = next((at for at, plan in enumerate(plans[:answer.sent]) if not plan.is_foreseen(at + 1 in answer.refused)), answer.sent)
-        for plan in reversed(plans[foreseen:]):
+        other = next((at for at, plan in enumerate(plans[:answer.sent]) if not plan.is_foreseen(at + 1 in answer.refused)), None)
+        done = answer.sent if other is None else other + 1
+        for plan in plans[done if other is None else other:]:
             self._undo(plan)
-        done = self._settle(lines, plans, answer, range(foreseen, answer.sent))
+        if other is not None and done not in answer.refused:
+            raise Error(f"the program took a line that has no record here: {lines[other]!r}")
         if done < answer.sent:
             self._go_back(plans[done:answer.sent], {number - done for number in answer.refused}, ask)
         refused = {number: reason for number, reason in answer.refused.items() if number <= done}
@@ -152,29 +144,10 @@ class Wide:
                 self._resize(line)
         return answer._replace(refused=dict(sorted(refused.items()))), done
 
-    def _settle(self, lines: Sequence[str], plans: list[Plan], answer: Answer, places: range) -> int:
-        """Decides lines once more, by what the program did, and returns the place of the first that would be sent otherwise."""
-        for at in places:
-            plan, refused = self._plan(lines[at]), at + 1 in answer.refused
-            if plan.sent != plans[at].sent:
-                self._undo(plan)
-                return at
-            if refused:
-                self._undo(plan)
-                plan = plan._replace(step=None)
-            elif not plan.is_foreseen(refused):
-                raise Error(f"the program took a line that has no record here: {lines[at]!r}")
-            plans[at] = plan
-        return answer.sent
-
     def _go_back(self, plans: Sequence[Plan], refused: set[int], ask: Ask) -> None:
         """Takes back what the program did of some lines, the last one first."""
-        done = [plan.sent.split("\t") for number, plan in enumerate(plans, 1) if number not in refused and is_edit(plan.sent)]
-        text = ""
-        for command, *fields in reversed(done):
-            half = len(fields) // 2 if command.startswith("replace") else 0
-            text += line_of(INVERSE[command], *fields[half:], *fields[:half])
-        if ask(text, True).refused:
+        done = [plan.sent for number, plan in enumerate(plans, 1) if number not in refused and plan.sent.split("\t")[0] in EDITS]
+        if ask("".join(f"{inverse_of(line)}\n" for line in reversed(done)), True).refused:
             raise Error("lines can't be taken back")
 
     def _plan(self, line: str) -> Plan:
@@ -226,14 +199,13 @@ class Wide:
         """Whether the program takes the columns of a record for one."""
         if not (DIGITS.fullmatch(columns[1]) and DIGITS.fullmatch(columns[2])):
             return False
-        start, end = int(columns[1]), int(columns[2])
-        known = self._lengths is None or end <= self._lengths.get(columns[0], 0)
-        return known and start < end and all(columns[3:5]) and columns[5] in STRANDS and not {"\r", "\0"}.intersection(*columns[3:5])
+        is_place = int(columns[1]) < int(columns[2]) <= self._lengths.get(columns[0], 0)
+        return is_place and all(columns[3:5]) and columns[5] in STRANDS and not {"\r", "\0"}.intersection(*columns[3:5])
 
     def _resize(self, line: str) -> None:
         """Follows the length of a sequence that a line corrected."""
         command, *fields = line.split("\t")
-        if command == "resize" and self._lengths is not None:
+        if command == "resize":
             self._lengths = {**self._lengths, fields[0]: int(fields[1])}
 
 
@@ -244,7 +216,6 @@ def _remove(folder: str, owner: int) -> None:
 
 
 def _count(fields: int, command: str, width: int) -> str:
-    """What is wrong about a number of columns."""
     if command.startswith("replace"):
         return f"{fields} columns, and a record has {width}: all are written, or the first {WIDEST}, of both records"
     return f"{fields} columns, and the track has {width}: all are written, or the first {WIDEST}"
@@ -264,7 +235,7 @@ class WideScript(Script):
     warnings: what of a tail can't hold any more, with the line that left it so
     """
 
-    def __init__(self, lengths: Optional[Mapping[str, int]], wide: Wide) -> None:
+    def __init__(self, lengths: Mapping[str, int], wide: Wide) -> None:
         super().__init__(lengths)
         self.warnings: list[tuple[str, str]] = []
         self._warned: list[int] = []  # the places of their steps

@@ -50,7 +50,6 @@ def apply(genome: Path, bed: Path, corrections: Union[Path, Sequence[Path]], out
 
 
 def options(parser: argparse.ArgumentParser) -> None:
-    """What the command takes."""
     parser.description = DESCRIPTION
     add_options(parser)
     parser.add_argument("-o", dest="output", metavar="FILE", default="-",

@@ -13,6 +13,7 @@ from collections import Counter, defaultdict, deque
 from itertools import groupby
 from typing import Iterator, NamedTuple, Optional, Protocol, Sequence
 
+from ..changes import Copies
 from ..errors import Refused
 from ..formats import fields, follow
 from ..record import NAMELESS, Record, distance, name_of, overlap
@@ -72,7 +73,7 @@ class Carrier:
 
     def _carry(self, batch: Sequence[Line], by: Editing) -> None:
         """Sends a batch, and takes the verdicts."""
-        kept = {} if self._copies else kept_of(self._session, batch)
+        kept = {} if self._copies else Look(self._session, batch).kept()
         out = {id(line.group) for line in batch if line.group and line.number in kept and not kept[line.number].is_same}
         warned = len(by.warnings())
         refusals: dict[int, Refused] = {}
@@ -164,12 +165,11 @@ class Kept(NamedTuple):
 
 
 class Above:
-    """What the lines above in a group do to copies of records, which isn't done yet."""
+    """What the lines above in a group do to records, which isn't done yet. copies: by whether they are of the second file"""
 
     def __init__(self, session: Session) -> None:
         self._session = session
-        self._moved: Counter[tuple[bool, Record]] = Counter()  # copies put in, less those taken out
-        self._highest: dict[tuple[bool, Record], int] = {}
+        self.copies = {False: Copies(), True: Copies()}
         self._tails: dict[tuple[bool, Record], list[str]] = {}
 
     def follow(self, line: Line) -> None:
@@ -180,31 +180,22 @@ class Above:
             tail = tails[0] if line.old_tail is None and tails else line.old_tail or ""
             if tail in tails:
                 tails.remove(tail)
-            self._moved[second, old] -= 1
+            self.copies[second].do((old, -1))
         if new:
             put = follow(old, tail, new).tail if old and tail else ""
             self.tails(second, new).append(put if line.new_tail is None else line.new_tail)
-            self._moved[second, new] += 1
-            self._highest[second, new] = max(self._moved[second, new], self._highest.get((second, new), 0))
-
-    def moved(self, second: bool, record: Record) -> int:
-        """The copies of a record that were put in, less those that were taken out."""
-        return self._moved[second, record]
+            self.copies[second].do((new, 1))
 
     def taken(self, second: bool, record: Record) -> int:
         """The copies of a record that were taken out and haven't come back, also by lines that are done."""
-        return max(self._session.taken(record, second), self._highest.get((second, record), 0)) - self._moved[second, record]
+        copies = self.copies[second]
+        return max(self._session.taken(record, second) - copies.net(record), copies.taken(record))
 
     def tails(self, second: bool, record: Record) -> list[str]:
         """The columns after the sixth of the copies that are there then."""
         if (second, record) not in self._tails:
             self._tails[second, record] = list(self._session.tails(record, second))
         return self._tails[second, record]
-
-
-def kept_of(session: Session, lines: Sequence[Line]) -> dict[int, Kept]:
-    """By the numbers of the lines that add what is there: what that is."""
-    return Look(session, lines).kept() if any(line.command.startswith("add") for line in lines) else {}
 
 
 class Look:
@@ -250,7 +241,7 @@ class Look:
     def _copies(self, line: Line, record: Record) -> int:
         """How many copies of a record are there; of the second file whether one is."""
         there = self._session.has_second(record) if line.is_second else self._there[record]
-        return max(there + self._above.moved(line.is_second, record), 0)
+        return max(there + self._above.copies[line.is_second].net(record), 0)
 
     def _is_of_file(self, record: Record) -> bool:
         """Whether the track has a copy of the file, and no line above took one that hasn't come back."""

@@ -18,8 +18,7 @@ from ..session import UNDONE
 from .carry import DIFFERS
 from .causes import BAD, CHANGED, CONFLICT, DOABLE, FITS, FOLLOWS, GONE, IGNORED, MOVED, SO, TAKEN, THERE, Finding
 from .corrections import ABSENT, Line
-from .followed_track import Track
-from .memory import Memory
+from .followed_track import Memory, Track
 from .three_way import Version, line_over
 
 NAME = RECORD.index("name")
@@ -70,7 +69,7 @@ class Side:
     def __init__(self, track: Track, lines: Sequence[Line], lengths: Mapping[str, int], ignore: Collection[int] = (),
                  copies: bool = False, leave_blocks: bool = False) -> None:
         self._track, self._ignore, self._copies, self._leave_blocks = track, set(ignore), copies, leave_blocks
-        self._known = Memory(lengths)
+        self._known = Memory(lengths, track.undo)
         self._next: dict[Record, deque[Line]] = defaultdict(deque)
         self._names: dict[Record, dict[int, set[Optional[str]]]] = defaultdict(dict)  # which lines name a record, with which tail
         for line in lines:
@@ -80,14 +79,14 @@ class Side:
                 if record:
                     self._names[record].setdefault(line.number, set()).add(tail)
 
-    def mark(self) -> tuple[int, int]:
+    def mark(self) -> int:
         """A point to go back to."""
-        return self._track.mark(), self._known.mark()
+        return len(self._track.undo)
 
-    def back_to(self, mark: tuple[int, int], lines: Sequence[Line]) -> None:
+    def back_to(self, mark: int, lines: Sequence[Line]) -> None:
         """Takes back what was done since then, of lines that aren't settled."""
-        self._track.back_to(mark[0])
-        self._known.back_to(mark[1])
+        while len(self._track.undo) > mark:
+            self._track.undo.pop()()
         for line in lines:
             if line.new:
                 self._known.set(self._known.pending, line.new, line)
@@ -127,7 +126,7 @@ class Side:
     def _find_added(self, line: Line) -> Finding:
         new = line.new
         assert new
-        if self._copies or self._known.taken(new):
+        if self._copies or self._known.copies.taken(new):
             return Finding(line, FOLLOWS if line.refusal else FITS)
         if self._track.has(new, line.new_tail):
             return Finding(line, THERE, new)
@@ -135,7 +134,7 @@ class Side:
             if self._track.of_file(*version):
                 return Finding(line, THERE, version.record)
         beside = [one for one in self._track.around(new) if name_of(one) == name_of(new) and name_of(one) not in NAMELESS
-                  and not self._known.taken(one) and self._track.count(one) > max(self._known.net.get(one, 0), 0)]
+                  and not self._known.copies.taken(one) and self._track.count(one) > max(self._known.copies.net(one), 0)]
         if line.is_second or not beside:
             return Finding(line, FOLLOWS if line.refusal else FITS)
         nearest = min((distance(one, new), one) for one in beside)[1]
@@ -195,7 +194,6 @@ class Side:
         return bool(unlike) and unlike <= self._ignore - (set() if line.new else {NAME})
 
     def _beside(self, line: Line) -> list[Version]:
-        """The records at the place of the line's."""
         return [version for version in self._free(line) if version.record[:3] == (line.old or ())[:3]]
 
     def _free(self, line: Line) -> list[Version]:

@@ -15,7 +15,7 @@ import functools
 import threading
 import time
 from contextlib import ExitStack, contextmanager, suppress
-from typing import Any, Callable, Iterator, Mapping, Optional, Sequence, TypeVar, Union, cast
+from typing import Any, Callable, Iterator, Mapping, Optional, Sequence, TypeVar, cast
 
 from ..encoding import encoded
 from ..errors import Ended, Error, Refused
@@ -47,6 +47,7 @@ LOOKS = 1  # seconds between two looks at the script
 MOST_FOUND = 50
 Answer = dict[str, Any]
 Call = TypeVar("Call", bound=Callable[..., Any])
+Beside = TypeVar("Beside", Mirror, Bases)
 
 
 class Stale(Error):
@@ -241,12 +242,13 @@ class Core:
         """All besides regions. since: only the corrections and items that changed after that version"""
         with suppress(Unwell), self.failures():
             self._look()
-        session = self.session
+            self._counted()
+        session, counts = self.session, self._counts
         count, kind = session.columns() or session.width, session.format()
         return {"version": self.version, "files": self.given._asdict(), "views": self.views, "format": kind,
                 "columns": [*RECORD[:count], *names_of(kind, max(count - WIDEST, 0))], "second": session.columns(second=True),
                 "second_format": session.format(second=True), "has_bases": bool(self.given.fasta),
-                "sequences": [[name, length, self._counted().of(name).total] for name, length in self._lengths().items()],
+                "sequences": [[name, length, counts.of(name).total if counts else 0] for name, length in session.lengths.items()],
                 "corrections": [entry.as_json() for entry in self.entries if entry.changed > since],
                 "worklist": self.worklist.as_json() if self.worklist else None,
                 "can_undo": self._last()[0].number if self._edits.done else None, "can_redo": self._edits.undone is not None,
@@ -338,7 +340,9 @@ class Core:
         """What a line would do, or several together: the changed rows of all views, or why they would be refused. Nothing is kept."""
         self._look()
         self.watch()
-        return self._answer(*self._attempt(_texts(texts)))
+        texts = _texts(texts)
+        sight = Sight(self.session, self._around(texts), keep=False)
+        return self._answer(self._edits.attempt(texts, sight), sight)
 
     @alone
     def judge(self, texts: Sequence[str]) -> list[Line]:
@@ -461,15 +465,11 @@ class Core:
 
     # What the calls above are made of
 
-    def _attempt(self, texts: Sequence[str]) -> tuple[list[Line], Sight]:
-        sight = Sight(self.session, self._around(texts), keep=False)
-        return self._edits.attempt(texts, sight), sight
-
     def _answer(self, lines: Sequence[Line], sight: Sight) -> Answer:
         """What came of lines: why they are refused, or what they changed."""
         there = [line.there for line in lines if line.there and not line.refusal]
         if any(line.refusal for line in lines):
-            explained = explain(lines, self.session, self._lengths(), self.judge, self._mirror.session if self._mirror else None)
+            explained = explain(lines, self.session, self.session.lengths, self.judge, self._mirror.session if self._mirror else None)
             return {"refused": [one.as_json() for one in explained], "there": there}
         return {"changes": changes(sight.seen), "compared": not sight.seen or bool(sight.seen.before), "there": there,
                 "warnings": [line.warning for line in lines if line.warning]}
@@ -482,7 +482,7 @@ class Core:
         edit = self._edits.done[-1]
         entry = Entry([], edit.reason if edit.comments else "", DONE, edit)
         for line in done:
-            entry.take(line, edit, self._lengths())
+            entry.take(line, edit, self.session.lengths)
         entry.markers, entry.answers = list(filter(kind_of, markers)), item.number if item else None
         self._follow(edit.lines, edit.moves)
         self._set(self._enter(entry), DONE)
@@ -519,7 +519,7 @@ class Core:
         owners = iter(edits[len(edits) - count:])
         comments: list[str] = []
         above: Optional[Line] = None
-        lengths = self._lengths()
+        lengths = self.session.lengths
         for line in lines:
             if line.text.startswith("#"):
                 comments.append(line.text)
@@ -564,15 +564,12 @@ class Core:
         """The region in which lines are seen, if somebody looks, and unless its rows are too many to compare."""
         if not self._is_watched:
             return None
-        lines, lengths = [Line(number, "", number, text) for number, text in enumerate(texts, 1)], self._lengths()
+        lines, lengths = [Line(number, "", number, text) for number, text in enumerate(texts, 1)], self.session.lengths
         for line in lines:
             line.cut(self.session.columns(line.is_second))
         region = around(places_of(lines, lengths), lengths)
         is_full = region and self._counts and self._counts.of(region[0]).near(*region[1:]) > MOST_RECORDS
         return None if is_full else region
-
-    def _lengths(self) -> Mapping[str, int]:
-        return self.session.lengths or {}
 
     def _follow(self, texts: Sequence[str], moves: Sequence[Move]) -> None:
         """Has what is beside the session follow lines that it accepted."""
@@ -584,29 +581,25 @@ class Core:
             self._counts.follow(moves)
 
     def _counted(self) -> Counts:
-        if not self._counts:
-            counts = Counts(self.given.genome, self.session.narrow)
-            for edit in self._edits.done:
-                counts.follow(edit.moves)
-            self._counts = counts
+        self._counts = self._counts or Counts(self.session)
         return self._counts
 
     def _second(self) -> Optional[Mirror]:
         if self.given.second and not self._mirror:
-            self._mirror = Mirror(self.given.genome, self.given.second, needs_wide(self.given.second))
-            self._catch_up(self._mirror)
+            self._mirror = self._caught_up(Mirror(self.given.genome, self.given.second, needs_wide(self.given.second)))
         return self._mirror
 
     def _fasta(self) -> Optional[Bases]:
         if self.given.fasta and not self._bases:
-            self._bases = Bases(self.given.genome, self.given.fasta)
-            self._catch_up(self._bases)
+            self._bases = self._caught_up(Bases(self.given.genome, self.given.fasta))
         return self._bases
 
-    def _catch_up(self, part: Union[Mirror, Bases]) -> None:
+    def _caught_up(self, part: Beside) -> Beside:
+        """What is beside the session, after the edits that were done."""
         for edit in self._edits.done:
             for text in edit.lines:
                 part.edit(text)
+        return part
 
     def _found(self, found: Found) -> Answer:
         rows = ["\t".join(map(str, row)) for row in found.rows[:MOST_FOUND]]

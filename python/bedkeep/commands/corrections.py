@@ -13,6 +13,7 @@ import os
 import re
 from typing import Iterable, Optional, Sequence
 
+from ..changes import halves
 from ..encoding import Path, decoded
 from ..errors import field_of
 from ..files import read_bytes
@@ -39,7 +40,7 @@ class Line:
     """A line of the corrections, and once it is carried out its verdict.
 
     number:   through all files, from 1; place: in its file
-    text:     without its end; command, fields: its parts
+    text:     without its end; command, fields: its parts; narrow: the fields without columns after the sixth
     heading:  the comments that are its reason, as they are in the file
     group:    the lines that are done with it or not at all, itself among them; or None
     refusal:  why the program, or the package, refused it; empty if it was done or isn't run
@@ -67,7 +68,7 @@ class Line:
         self.old_tail: Optional[str] = None
         self.new_tail: Optional[str] = None
         self.width = 0
-        self._narrow = self.fields
+        self.narrow = self.fields
         self._asked: Optional[tuple[Optional[Record], Optional[Record]]] = None
         if group and self.is_run:
             group.lines.append(self)
@@ -105,21 +106,13 @@ class Line:
         # Of two more one is dropped by `Session.edit`, and one by the program.
         return f"{self.text}\r\r" if self.text.endswith("\r") else self.text
 
-    @property
-    def narrow(self) -> str:
-        """What the program is given over the first six columns of the files."""
-        if not self.is_run:
-            return ""
-        text = "\t".join([self.command, *self._narrow])
-        return f"{text}\r\r" if text.endswith("\r") else text
-
     def cut(self, width: int) -> None:
         """Takes the columns from the seventh on apart, if the file has so many. width: of the file, or 0 if it isn't known."""
         if width == self.width:
             return
         self.width, self._asked = width, None
         if self.command in EDITS:
-            self._narrow, self.old_tail, self.new_tail = cut(self.command, self.fields, width)
+            self.narrow, self.old_tail, self.new_tail = cut(self.command, self.fields, width)
 
     def again(self, text: str) -> Line:
         """Another line in its place."""
@@ -144,11 +137,9 @@ class Line:
     def asked(self) -> tuple[Optional[Record], Optional[Record]]:
         """The record that it takes out and the one that it puts in, whatever becomes of it; none if they can't be records."""
         if self._asked is None:
-            halves = self._halves() if self.command in EDITS else []
-            sound = bool(halves) and all(map(_is_record, halves))
-            old = record_of(halves[0]) if sound and not self.command.startswith("add") else None
-            new = record_of(halves[-1]) if sound and not self.command.startswith("remove") else None
-            self._asked = old, new
+            old, new = halves(self.command, self.narrow)
+            sound = all(_is_record(columns) for columns in (old, new) if columns)
+            self._asked = record_of(old) if sound and old else None, record_of(new) if sound and new else None
         return self._asked
 
     def records(self) -> list[Record]:
@@ -166,11 +157,6 @@ class Line:
         last = f"{' or ' * (len(counts) > 1)}{counts[-1]}"
         return f"; {', '.join(map(str, counts[:-1]))}{last} are needed"
 
-    def _halves(self) -> list[list[str]]:
-        """The columns of its one record, or of its two."""
-        half = len(self._narrow) // 2 if self.command.startswith("replace") else len(self._narrow)
-        return [self._narrow[:half], self._narrow[half:]] if half < len(self._narrow) else [self._narrow]
-
     def _fault(self) -> str:
         """The refusal with the field that it is about and its value."""
         if self.refusal == WRONG_NUMBER:
@@ -178,7 +164,7 @@ class Line:
             return f"{self.refusal}: {len(self.fields)} fields{self._needed()}{places}"
         if self.refusal == ABSENT:
             unlike = [hint for hint in self.hints if hint.startswith(UNLIKE)]
-            return ": ".join([ABSENT, " ".join(self._halves()[0]), *unlike])
+            return ": ".join([ABSENT, " ".join(halves(self.command, self.narrow)[0]), *unlike])
         if self.refusal in ABOUT_COMMANDS:
             return f"{self.refusal}: {self.command}"
         field = field_of(self.hints)

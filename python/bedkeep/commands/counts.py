@@ -1,44 +1,37 @@
-"""About how many records are where, by equal parts of each sequence: the program counts them, and an edit changes two numbers."""
+"""About how many records are where, by equal parts of each sequence: all are counted once, and an edit changes two numbers."""
 from __future__ import annotations
 
-import subprocess
-import tempfile
 from array import array
-from typing import Iterable, Iterator, Sequence
+from collections import Counter
+from itertools import repeat
+from operator import rshift
+from typing import Iterable
 
-from ..bed import lengths_of
-from ..encoding import encoded
-from ..errors import ended
-from ..program import MOST, environment, find
+from ..printed_rows import by_sequence
+from ..session import Session
 from .prompt_edits import Move
 
 MOST_PARTS = 1 << 16  # of all sequences
 
 
 class Parts:
-    """How many records start and end in each part of a sequence: after its first base, up to the first base of the next part."""
+    """How many records start and end in each part of a sequence."""
 
     def __init__(self, length: int, shift: int) -> None:
         self._shift = shift
+        self.total = 0
         self._starts = array("l", bytes(8 * ((length >> shift) + 2)))
         self._ends = array("l", self._starts)
 
-    def fill(self, counts: Sequence[int]) -> None:
-        """Takes what `_parts` were counted: of each part the records over its first base, and over all of it."""
-        depth = 0
-        for at, (here, begun) in enumerate(zip([*counts[2::2], 0], counts[1::2])):
-            starts = begun - depth
-            self._starts[at] = starts
-            self._ends[at] = depth + starts - here
-            depth = here
-
-    def change(self, start: int, end: int, count: int) -> None:
-        """Counts a record that came, or -1 if it went."""
-        for parts, position in (self._starts, start), (self._ends, end):
-            at = max(position - 1, 0) >> self._shift
-            if at >= len(parts):  # of a longer sequence, by `resize`
-                parts.extend([0] * (at + 1 - len(parts)))
-            parts[at] += count
+    def change(self, starts: Iterable[int], ends: Iterable[int], count: int) -> None:
+        """Counts records that came, or -1 if they went."""
+        for parts, positions in (self._starts, starts), (self._ends, ends):
+            found = Counter(map(rshift, positions, repeat(self._shift)))
+            for at, more in found.items():
+                if at >= len(parts):  # of a longer sequence, by `resize`
+                    parts.extend([0] * (at + 1 - len(parts)))
+                parts[at] += count * more
+        self.total += count * sum(found.values())
 
     def near(self, start: int, end: int) -> int:
         """At least as many records as overlap a region."""
@@ -58,31 +51,15 @@ class Parts:
             depth += begun - sum(self._ends[low:high])
         return starts, depths
 
-    @property
-    def total(self) -> int:
-        return sum(self._starts)
-
 
 class Counts:
-    """The parts of all sequences of a genome file, over a BED file of at most six columns."""
+    """The parts of all sequences of a session, over its records."""
 
-    def __init__(self, genome: str, bed: str) -> None:
-        lengths = lengths_of(genome)
+    def __init__(self, session: Session) -> None:
+        lengths = session.lengths
         self._shift = max(sum(lengths.values()) // MOST_PARTS, 0).bit_length()
         self._parts = {name: Parts(length, self._shift) for name, length in lengths.items()}
-        with tempfile.NamedTemporaryFile(prefix="bedkeep-") as file:
-            file.write(encoded("".join(line for name, length in lengths.items() for line in _parts(name, length, self._shift))))
-            file.flush()
-            words = [find(None), "intersect", "-c", "-limit", str(MOST), "-g", genome, "-a", file.name, "-b", bed]
-            run = subprocess.run(words, capture_output=True, env=environment(), check=False)
-        if run.returncode:
-            raise ended(run.returncode, run.stderr.decode(errors="replace"))
-        counts = [int(row[row.rindex(b"\t"):]) for row in run.stdout.split(b"\n")[:-1]]
-        begin = 0
-        for name, length in lengths.items():
-            end = begin + 2 * len(range(0, length, self.step))
-            self._parts[name].fill(counts[begin:end])
-            begin = end
+        session.stream("records", self._take)
 
     def of(self, sequence: str) -> Parts:
         return self._parts[sequence]
@@ -92,16 +69,13 @@ class Counts:
         for second, old, new in moves:
             for record, count in (old, -1), (new, 1):
                 if record and not second:
-                    self.of(record[0]).change(int(record[1]), int(record[2]), count)
+                    self.of(record[0]).change([int(record[1])], [int(record[2])], count)
 
     @property
     def step(self) -> int:
-        """How long a part is."""
         return 1 << self._shift
 
-
-def _parts(name: str, length: int, shift: int) -> Iterator[str]:
-    """The first base of each part of a sequence, and all of the part with the first base of the next, as lines of a BED file."""
-    for start in range(0, length, 1 << shift):
-        yield f"{name}\t{start}\t{start + 1}\n"
-        yield f"{name}\t{start}\t{min(start + (1 << shift) + 1, length)}\n"
+    def _take(self, lines: bytes) -> None:
+        for name, rows in by_sequence(lines):
+            columns, width = b"\t".join(rows).split(b"\t"), rows[0].count(b"\t") + 1
+            self.of(name).change(map(int, columns[1::width]), map(int, columns[2::width]), 1)

@@ -11,12 +11,10 @@ from typing import Callable, Iterator, Optional
 from ..files import lines_of
 from ..script import EDITS
 from .core import opened
-from .options import add_judging
+from .options import add_editing, views_of
 from .prompt import Curator
 from .prompt_files import Given
 
-VIEWS = "merge", "genomecov -bg"
-VIEWS_OF_SECOND = "intersect", "subtract"
 IN_MEMORY = "without --script FILE the edits are in memory alone: `script FILE` or `save FILE` writes them"
 
 
@@ -67,32 +65,20 @@ class Typed:
 
 
 def options(parser: argparse.ArgumentParser) -> None:
-    """What the command takes."""
     parser.description = "A prompt for corrections of a BED file."
-    parser.add_argument("genome", metavar="GENOME")
-    parser.add_argument("bed", metavar="BED")
+    add_editing(parser)
     parser.add_argument("second", metavar="SECOND", nargs="?", help="the second file, for intersect and subtract")
-    parser.add_argument("--fasta", metavar="FASTA", help="for getfasta")
-    parser.add_argument("--script", metavar="FILE", help="is carried out if it is there; each accepted line is appended at once")
-    parser.add_argument("--replay", metavar="OLD", action="append", default=[],
-                        help="a script for an earlier release: what fits begins the new script, and `next` shows what needs a decision")
-    parser.add_argument("--view", metavar="'merge -d 10'", action="append",
-                        help="a view whose changes are shown before a reason is asked for, instead of the usual ones")
-    add_judging(parser)
 
 
 def run(given: argparse.Namespace) -> int:
-    """Runs the prompt, and returns its exit status: 0."""
     _take_any_bytes()
     if given.second:
         _refuse_script(given.second)
     if given.replay and not given.script:
         raise ValueError("--replay needs --script FILE, for the new script")
-    files = Given(given.genome, given.bed, given.second, given.copies, given.leave_blocks, given.fasta, given.script, given.replay)
-    views = given.view if given.view is not None else [*VIEWS, *(VIEWS_OF_SECOND if given.second else ())]
     typed = Typed()
     with ExitStack() as stack:
-        core = opened(files, views, stack, looks=False)
+        core = opened(Given.of(given, given.script), views_of(given), stack, looks=False)
         if given.view:
             core.watch()
         curator = Curator(core, typed.ask)

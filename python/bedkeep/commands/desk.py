@@ -15,36 +15,24 @@ from typing import Callable
 
 from ..desk.server import Server
 from .core import Core, opened
+from .options import add_editing, views_of
 from .prompt_files import Given
 
 DESCRIPTION = """Opens a page in the browser to correct a track by. Each accepted line is in the script at once, and no other
 file is changed. The page is served to this machine alone, at an address with a secret. Ctrl-C ends."""
-VIEWS = "merge", "genomecov -bg"
-VIEWS_OF_SECOND = "intersect", "subtract"
 SOON = 0.7  # seconds after which the page is shown, though the track isn't read yet
 LAST = 1.5  # seconds that a page has to hear why there is no track
 
 
 def options(parser: argparse.ArgumentParser) -> None:
     parser.description = DESCRIPTION
-    parser.add_argument("genome", metavar="GENOME", help="the genome file")
-    parser.add_argument("bed", metavar="BED", help="the BED file that is corrected, and not changed")
+    add_editing(parser, ". Without this it is beside the BED file, with .corrections after its name")
     parser.add_argument("-b", dest="second", metavar="SECOND", help="the second file")
-    parser.add_argument("--fasta", metavar="FASTA", help="the bases")
-    parser.add_argument("--script", metavar="FILE", help="is carried out if it is there; each accepted line is appended at once. "
-                        "Without this it is beside the BED file, with .corrections after its name")
-    parser.add_argument("--replay", metavar="FILE", action="append", default=[], help="a script for an earlier release: what fits "
-                        "goes into the new script, and each other line needs a decision")
-    parser.add_argument("--view", metavar="'merge -d 10'", action="append", help="a view to see, instead of the usual ones")
-    parser.add_argument("--copies", action="store_true", help="has `add` put in a copy of a record that is there already")
-    parser.add_argument("--leave-blocks", action="store_true",
-                        help="does a line after which columns from the seventh on can't hold, such as blocks, with a warning")
     parser.add_argument("--port", type=int, default=0, metavar="N", help="of 127.0.0.1; without this a free one")
     parser.add_argument("--no-browser", action="store_true", help="only prints the address")
 
 
 def run(given: argparse.Namespace) -> int:
-    """Serves the page until Ctrl-C, and returns the status."""
     files, views = asked(given)
     if given.script is None:
         print(f"the script is {files.script}", file=sys.stderr)
@@ -66,9 +54,7 @@ def run(given: argparse.Namespace) -> int:
 
 def asked(given: argparse.Namespace) -> tuple[Given, list[str]]:
     """The files and the views of the options."""
-    script = given.script or f"{given.bed}.corrections"
-    views = given.view if given.view is not None else [*VIEWS, *(VIEWS_OF_SECOND if given.second else ())]
-    return Given(given.genome, given.bed, given.second, given.copies, given.leave_blocks, given.fasta, script, given.replay), views
+    return Given.of(given, given.script or f"{given.bed}.corrections"), views_of(given)
 
 
 class Page:

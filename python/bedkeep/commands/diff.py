@@ -103,7 +103,6 @@ class Spans:
 
 
 def options(parser: argparse.ArgumentParser) -> None:
-    """What the command takes."""
     parser.description = DESCRIPTION
     parser.epilog = "A file may be packed by gzip; - is standard input."
     parser.add_argument("old", metavar="OLD")
@@ -111,7 +110,6 @@ def options(parser: argparse.ArgumentParser) -> None:
 
 
 def run(given: argparse.Namespace) -> int:
-    """Prints the script."""
     if [given.old, given.new] == ["-", "-"]:
         raise Error("only one file can be standard input")
     difference = Difference(given.old, given.new)

@@ -1,16 +1,14 @@
-"""The records that one BED file has and another hasn't, found without holding either file: two passes over both.
+"""The records that one BED file has and another hasn't.
 
 Lines are compared in order, over what was put in or taken out, so that two versions of a file cost little more than their reading.
-Of lines that aren't found so the first pass keeps hashes of 8 bytes, and the second takes those whose hash one file has more often.
+Those that aren't found so are held, and counted.
 """
 from __future__ import annotations
 
 import os
-from array import array
-from collections import Counter
 from itertools import islice, repeat
 from operator import itemgetter
-from typing import Iterable, Iterator
+from typing import Iterator
 
 from ..bed import is_header
 from ..encoding import decoded, encoded
@@ -22,7 +20,6 @@ from ..record import NARROWEST, WIDEST, split_row
 AT_ONCE = 4096  # lines
 AHEAD = 64  # lines in which the place is looked for where two files go on alike
 ALIKE = 3  # lines that have to be alike there
-PARTS = 64  # of the hashes, which are counted one part after another
 NO_RECORD = frozenset(b"#tb\r\n")  # with what a line begins that may be none
 Lines = list[bytes]
 
@@ -71,13 +68,12 @@ class Rows:
 
 def differences(old: Rows, new: Rows) -> tuple[list[str], list[str]]:
     """The lines that the first file has more often, and those that the second one has, with numbers as the program prints them."""
-    less, more = _counted(_unlike(old.chunks(), new.chunks()))
     gone: list[str] = []
     come: list[str] = []
-    for mine, theirs in _unlike(old.chunks(), new.chunks()) if less or more else ():
-        gone += _taken(mine, less)
-        come += _taken(theirs, more)
-    return beyond(gone, come), beyond(come, gone)  # Lines may differ by leading zeros alone.
+    for mine, theirs in _unlike(old.chunks(), new.chunks()):
+        gone += map(_row, mine)
+        come += map(_row, theirs)
+    return beyond(gone, come), beyond(come, gone)
 
 
 def _unlike(old: Iterator[Lines], new: Iterator[Lines]) -> Iterator[tuple[Lines, Lines]]:
@@ -113,32 +109,6 @@ def _text(line: bytes) -> bytes:
     """A line without its end."""
     line = line[:-1] if line.endswith(b"\n") else line
     return line[:-1] if line.endswith(b"\r") else line
-
-
-def _counted(pairs: Iterable[tuple[Lines, Lines]]) -> tuple[Counter[int], Counter[int]]:
-    """How much more often the first of all pairs have a hash, and how much more often the second ones."""
-    parts = [(array("q"), array("q")) for _ in range(PARTS)]
-    for pair in pairs:
-        for side, lines in enumerate(pair):
-            for value in map(hash, lines):
-                parts[value % PARTS][side].append(value)
-    less: Counter[int] = Counter()
-    more: Counter[int] = Counter()
-    for first, second in parts:
-        counts = Counter(first)
-        counts.subtract(second)
-        less.update({value: count for value, count in counts.items() if count > 0})
-        more.update({value: -count for value, count in counts.items() if count < 0})
-    return less, more
-
-
-def _taken(lines: Lines, counts: Counter[int]) -> Iterator[str]:
-    """The lines whose hash is counted, as many as it says."""
-    for line in lines:
-        value = hash(line)
-        if counts.get(value, 0) > 0:
-            counts[value] -= 1
-            yield _row(line)
 
 
 def _row(line: bytes) -> str:

@@ -4,12 +4,14 @@ from __future__ import annotations
 from collections import Counter
 from typing import Any, Iterable, Mapping, Optional, Sequence
 
+from ..changes import halves
 from ..encoding import Path
 from ..errors import Error, Refused
 from ..formats import DIGITS
 from ..program import MOST
 from ..record import WIDEST, record_of
 from ..regions import Region
+from ..script import of_track
 from ..session import Seen, Session
 from .corrections import Line
 from .counts import Counts
@@ -53,10 +55,8 @@ class Mirror:
 
     def edit(self, line: str) -> None:
         """Follows a line that the session accepted of which this is the second file."""
-        command, _, rest = line.partition("\t")
-        if command in ("addb", "removeb", "replaceb", "resize"):
-            if self.session.edit([f"{command.removesuffix('b')}\t{rest}"]):
-                raise Error("an edit of the second file was refused over it alone")
+        if (of_track(line) != line or line.startswith("resize\t")) and self.session.edit([of_track(line)]):
+            raise Error("an edit of the second file was refused over it alone")
 
     def rows(self, region: Region) -> str:
         return joined(self.session, self.session.show_all(*region)[RECORDS])
@@ -144,14 +144,13 @@ def changes(seen: Optional[Seen]) -> list[dict[str, Any]]:
 
 def moved(inverse: Iterable[str]) -> tuple[list[str], list[str]]:
     """The rows of the track that went and those that came, by the lines that take it back."""
-    went, came = [], []
+    went: list[str] = []
+    came: list[str] = []
     for line in inverse:
         command, *fields = line.split("\t")
-        half = len(fields) // 2 if command == "replace" else len(fields)
-        if command in ("remove", "replace"):
-            came.append("\t".join(fields[:half]))
-        if command in ("add", "replace"):
-            went.append("\t".join(fields[-half:]))
+        if command in ("add", "remove", "replace"):
+            for rows, columns in zip((came, went), halves(command, fields)):
+                rows += ["\t".join(columns)] if columns else []
     return went[::-1], came[::-1]
 
 

@@ -1,4 +1,4 @@
-"""The records near the lines of a script, followed line by line without the program.
+"""The records near the lines of a script, followed line by line without the program, and what is known of the lines above.
 
 `near_lines` asks a session for them before any line is carried out, so that of a large file few are held.
 """
@@ -6,15 +6,18 @@ from __future__ import annotations
 
 from collections import Counter, defaultdict
 from functools import cached_property
-from typing import Iterable, Iterator, NamedTuple, Optional
+from typing import Any, Callable, Iterable, Iterator, Mapping, NamedTuple, Optional
 
+from ..changes import Copies
 from ..formats import faults_of, format_of
 from ..record import Record, overlap
+from ..regions import Region
 from ..session import Session
 from .corrections import Line
+from .three_way import Version
 
 STRETCH = 14  # records around a place are looked for by stretches of 2 to the power of this many bases
-Region = tuple[str, int, int]
+Undo = list[Callable[[], object]]  # what takes back what was done, the last one first
 
 
 class Held(NamedTuple):
@@ -25,7 +28,7 @@ class Held(NamedTuple):
 
 
 class Track:
-    """The copies of records, found by place, and what was done to them, so that it can be taken back.
+    """The copies of records, found by place. undo: gets what takes each change of them back
 
     Copies with different columns after the sixth are taken in the order of a session: those of the file in its order, then those
     that were added, by their text.
@@ -35,7 +38,7 @@ class Track:
         self._file: dict[Record, list[str]] = defaultdict(list)  # the columns after the sixth of the copies of the file
         self._copies: dict[Record, list[Held]] = defaultdict(list)
         self._stretches: dict[tuple[str, int], dict[Record, None]] = defaultdict(dict)
-        self._done: list[tuple[bool, Record, int, Held]] = []  # whether it was put in, which, at which place among its copies
+        self.undo: Undo = []
 
     def hold(self, record: Record, tail: str) -> None:
         """Takes a copy of the file in."""
@@ -55,7 +58,6 @@ class Track:
         return next((held for held in self._of(record, tail) if not held.line), None)
 
     def count(self, record: Record) -> int:
-        """How many copies are there."""
         return len(self._copies.get(record, ()))
 
     def all_of_file(self, record: Record) -> list[str]:
@@ -66,36 +68,22 @@ class Track:
         """Takes out the copy that was there first, and returns its columns after the sixth."""
         held = next(self._of(record, tail))
         place = self._copies[record].index(held)
-        self._done.append((False, record, place, self._copies[record].pop(place)))
+        del self._copies[record][place]
+        self.undo.append(lambda: self._put(record, place, held))
         return held.tail
 
     def put(self, record: Record, tail: str, line: Line) -> None:
-        """Puts in a copy for a line."""
         place = self.count(record)
-        self._done.append((True, record, place, Held(tail, line.number)))
         self._put(record, place, Held(tail, line.number))
+        self.undo.append(lambda: self._copies[record].pop(place))
 
     def around(self, record: Record) -> Iterator[Record]:
         """The records that overlap one."""
         near = dict.fromkeys(other for stretch in _stretches(record) for other in self._stretches.get(stretch, ()))
         return (other for other in near if self._copies[other] and overlap(record, other))
 
-    def mark(self) -> int:
-        """A point to go back to."""
-        return len(self._done)
-
-    def back_to(self, mark: int) -> None:
-        """Takes back all that was done since then."""
-        while len(self._done) > mark:
-            was_put, record, place, held = self._done.pop()
-            if was_put:
-                self._copies[record].pop(place)
-            else:
-                self._put(record, place, held)
-
     @cached_property
     def format(self) -> Optional[str]:
-        """The format of the columns after the sixth."""
         return next((format_of(record, tails[0]) for record, tails in self._file.items()), None)
 
     @cached_property
@@ -132,6 +120,37 @@ class Track:
 
 def _stretches(record: Record) -> Iterator[tuple[str, int]]:
     return ((record[0], number) for number in range(int(record[1]) >> STRETCH, (int(record[2]) - 1 >> STRETCH) + 1))
+
+
+class Memory:
+    """What lines below need to know of those above.
+
+    undo:    gets what takes each change back
+    takers:  the line that took a record, by the record as the line has it
+    makers:  the line that put a record in
+    heirs:   what a line put in instead of its new record, or what is there instead of it
+    pending: the new records of lines that aren't settled
+    copies:  of records that lines put in and took out
+    lengths: of the sequences
+    """
+
+    def __init__(self, lengths: Mapping[str, int], undo: Undo) -> None:
+        self.takers: dict[Record, Line] = {}
+        self.makers: dict[Record, Line] = {}
+        self.heirs: dict[Record, Version] = {}
+        self.pending: dict[Record, Line] = {}
+        self.copies = Copies()
+        self.lengths = dict(lengths)
+        self._undo = undo
+
+    def set(self, where: dict[Any, Any], key: object, value: object) -> None:
+        before = where.get(key)
+        self._undo.append(lambda: where.pop(key) if before is None else where.update({key: before}))
+        where[key] = value
+
+    def move(self, record: Record, copies: int) -> None:
+        self.copies.do((record, copies))
+        self._undo.append(lambda: self.copies.undo((record, copies)))
 
 
 def near_lines(session: Session, lines: Iterable[Line]) -> Track:

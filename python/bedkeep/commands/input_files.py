@@ -11,11 +11,12 @@ import tempfile
 from types import TracebackType
 from typing import Optional, Sequence, Union
 
-from ..bed import Bed, lengths_of
+from ..bed import lengths_of, width_of
 from ..encoding import Path
 from ..errors import Ended, Error
 from ..files import plain, refuse_inputs
 from ..program import MOST
+from ..record import NARROWEST
 from ..session import Session
 from .carry import Carrier
 from .corrections import Line, read_lines
@@ -25,7 +26,7 @@ class Inputs:
     """The files, as the program can read them until `close`, and the lines of all scripts.
 
     genome:  the path of the genome file; lengths: its sequences and their lengths, in its order
-    bed, second: the BED files
+    bed, second: the paths of the BED files; widths: their numbers of columns, by whether it is the second
     lines:   of the corrections, with comments, empty lines and lines of views
     given:   the names of all files, as they were given
     """
@@ -36,22 +37,22 @@ class Inputs:
         if given.count("-") > 1:
             raise Error("only one file can be standard input")
         self._folder = tempfile.TemporaryDirectory(prefix="bedkeep-")
-        self._named: list[tuple[str, str]] = []  # the paths that the program reads, and the names as they were given
+        self._named: dict[str, str] = {}  # the names as they were given, by the paths that the program reads
         try:
             self.lines: list[Line] = read_lines(given[2:2 + len(scripts)])
             self.genome = self._plain(given[0])
-            self._bed = self._plain(given[1])
-            self._second = self._plain(given[-1]) if second else None
-            self.bed = self._opened(self._bed, given[1])
-            self.second = self._opened(self._second, given[-1]) if self._second else None
+            self.bed = self._plain(given[1])
+            self.second = self._plain(given[-1]) if second else None
         except BaseException:
             self.close()
             raise
+        self.widths = {bool(place): width_of(path) or 0 for place, path in enumerate((self.bed, self.second)) if path}
+        self._empty = [second for second, width in self.widths.items() if not width]
         for line in self.lines:
-            file = self.second if line.is_second else self.bed
-            if file and line.command in ("add", "addb"):
-                file.widen(len(line.fields))
-            line.cut(file.width if file else 0)
+            width = self.widths.get(line.is_second)
+            if width == 0 and line.command in ("add", "addb") and len(line.fields) >= NARROWEST:
+                self.widths[line.is_second] = len(line.fields)  # A file without a record has the width of the first that is added.
+            line.cut(self.widths.get(line.is_second, 0))
 
     def __enter__(self) -> Inputs:
         return self
@@ -66,37 +67,25 @@ class Inputs:
         self._folder.cleanup()
 
     @property
-    def folder(self) -> str:
-        """A folder for files that aren't needed after `close`."""
-        return self._folder.name
-
-    @property
     def lengths(self) -> dict[str, int]:
         return lengths_of(self.genome)
 
-    @property
-    def width(self) -> Optional[int]:
-        """What `-width` of a session over the first six columns of these files is, if one has no record."""
-        return self.bed.option or (self.second.option if self.second else None)
-
     def named(self, message: str) -> str:
         """A message of the program with the names of the files as they were given."""
-        message = self.bed.named(message)
-        message = self.second.named(message) if self.second else message
-        for path, name in self._named:
+        for path, name in self._named.items():
             message = message.replace(f"{path}: ", f"{name}: ")
         return message
 
     def session(self, leave_blocks: bool = False) -> Session:
         """A session over the files, with all their columns. leave_blocks: as for a Session."""
-        empty = next((file.width for file in (self.bed, self.second) if file and file.option), None)
-        return Session(self.genome, self._bed, self._second, width=empty, wide=True, leave_blocks=leave_blocks,
-                       limit=MOST)
+        width = next((self.widths[second] for second in self._empty if self.widths[second]), None)
+        return Session(self.genome, self.bed, self.second, width=width, wide=True, leave_blocks=leave_blocks, limit=MOST)
 
     def second_session(self) -> Session:
-        """A session over the second file alone, as its track."""
-        assert self.second and self._second
-        return Session(self.genome, self._second, width=self.second.width if self.second.option else None, wide=True, limit=MOST)
+        """A session over the second file alone, as its track. It does what a session over both files did."""
+        assert self.second
+        width = self.widths[True] if True in self._empty else None
+        return Session(self.genome, self.second, width=width or None, wide=True, leave_blocks=True, limit=MOST)
 
     def carry(self, session: Session, copies: bool = False) -> list[Line]:
         """Has a session carry out all lines, and returns those that are refused. copies: as for a Carrier."""
@@ -110,10 +99,5 @@ class Inputs:
 
     def _plain(self, name: str) -> str:
         path = plain(name, self._folder.name)
-        self._named.append((path, name))
+        self._named[path] = name
         return path
-
-    def _opened(self, path: str, name: str) -> Bed:
-        bed = Bed(path, self._folder.name)
-        bed.path = name
-        return bed

@@ -101,7 +101,6 @@ class Journal:
         return True
 
     def cut(self, written: Written) -> None:
-        """Takes out the last paragraph."""
         self._cut(written.begin)
         self._last.pop()
         self._above = written.above
@@ -207,7 +206,6 @@ class Journal:
         return state.st_size, state.st_mtime_ns
 
     def _is_there(self) -> bool:
-        """Whether the file still has its name."""
         try:
             return os.path.samestat(os.stat(self.path), os.fstat(self._file))
         except FileNotFoundError:

@@ -1,13 +1,11 @@
 """What the prompt shows: the records at a place, of a name or near one, and the rows of a view there."""
 from __future__ import annotations
 
-from collections import Counter
-from itertools import zip_longest
-from typing import Sequence
+from typing import Iterable, Sequence
 
 from ..printed_rows import Row
-from ..record import WIDEST, record_of
 from ..session import Session
+from .drawn_regions import with_tails
 from .references import References, Unclear, references
 
 VIEWS = {"merge", "cluster", "complement", "genomecov", "intersect", "subtract", "getfasta", "records"}
@@ -33,7 +31,6 @@ class Looks:
 
     def __init__(self, session: Session, found: References) -> None:
         self._session, self._references = session, found
-        self._is_wide = session.columns() > WIDEST
 
     def show(self, text: str) -> None:
         """The records that overlap a place, or the one record of a name, or all of several of that name."""
@@ -65,14 +62,15 @@ class Looks:
         options, rest = options_and_rest(fields)
         places = references(rest)
         if not places:
-            print_rows(self._session.view(" ".join(options)))
+            rows = self._session.view(" ".join(options))
+            _print(map(_text, rows[:MOST_ROWS]), len(rows))
             return
         if len(places) > 1:
             raise ValueError(f"{options[0]} has its options after it, and one place or name: {' '.join(rest)}")
         place = self._references.place_of(places[0])
         rows = self._session.show(" ".join(options), *place[:3])
         print(f"{place.said}:" if rows else f"{place.said}: no row is there")
-        print_rows(rows)
+        _print(map(_text, rows[:MOST_ROWS]), len(rows))
 
     def print_found(self, said: str, rows: Sequence[Row], none: str = "") -> None:
         """Prints records below what was looked for."""
@@ -81,18 +79,16 @@ class Looks:
 
     def print_records(self, rows: Sequence[Row]) -> None:
         """Prints records with all their columns."""
-        copies: Counter[Row] = Counter()
-        tails = []
-        for row in rows[:MOST_ROWS]:
-            listed = self._session.tails(record_of(list(map(str, row)))) if self._is_wide else []
-            tails.append(listed[copies[row]] if copies[row] < len(listed) else "")
-            copies[row] += 1
-        print_rows(rows, tails)
+        _print(with_tails(self._session, list(map(_text, rows[:MOST_ROWS]))), len(rows))
 
 
-def print_rows(rows: Sequence[Row], tails: Sequence[str] = ()) -> None:
-    """Prints rows, the first ones of many, each with its tail."""
-    for row, tail in zip_longest(rows[:MOST_ROWS], tails, fillvalue=""):
-        print(*("." if column is None else column for column in row), sep="\t", end=f"{tail}\n")
-    if len(rows) > MOST_ROWS:
-        print(f".. and {len(rows) - MOST_ROWS} more rows")
+def _text(row: Row) -> str:
+    return "\t".join("." if column is None else str(column) for column in row)
+
+
+def _print(first: Iterable[str], count: int) -> None:
+    """Prints the first rows of so many."""
+    for row in first:
+        print(row)
+    if count > MOST_ROWS:
+        print(f".. and {count - MOST_ROWS} more rows")

@@ -8,11 +8,10 @@ from __future__ import annotations
 
 from typing import Iterable, Iterator, Optional, Sequence
 
-from ..formats import fields
-from ..record import Record
 from ..script import is_marker
 from .causes import BAD, CONFLICT, DOABLE, GONE, SO, TAKEN, THERE, Finding
 from .corrections import Line
+from .three_way import Version
 
 
 def mended(lines: Sequence[Line], findings: Iterable[Finding]) -> Iterator[str]:
@@ -56,16 +55,14 @@ def of_conflict(finding: Finding) -> Iterator[str]:
     if finding.note:
         yield finding.note
     if line.old:
-        yield _row("base", line.old, line.old_tail, finding.unlike)
+        yield _row("base", Version(line.old, line.old_tail), finding.unlike)
     if line.new:
-        yield _row("mine", line.new, line.new_tail, finding.unlike)
+        yield _row("mine", Version(line.new, line.new_tail), finding.unlike)
     if finding.found:
         is_wide = line.old_tail is not None or line.new_tail is not None
-        yield _row("theirs", finding.found, finding.tail if is_wide else None, finding.unlike)
+        yield _row("theirs", Version(finding.found, finding.tail if is_wide else None), finding.unlike)
 
 
-def _row(title: str, record: Record, tail: Optional[str], unlike: Sequence[str]) -> str:
-    named = fields(record, tail or "")
-    said = ", ".join(f"{name} {named[name]}" for name in unlike if name in named)
-    columns = " ".join([*record, *(tail or "").split("\t")[1:]])
-    return f"{title} {columns}" + (f" ({said})" if said else "")
+def _row(title: str, version: Version, unlike: Sequence[str]) -> str:
+    said = ", ".join(f"{name} {version.fields[name]}" for name in unlike if name in version.fields)
+    return f"{title} {version}" + (f" ({said})" if said else "")

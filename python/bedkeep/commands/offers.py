@@ -6,9 +6,10 @@ from difflib import get_close_matches
 from typing import Any, Callable, Iterator, Mapping, NamedTuple, Optional, Sequence
 
 from ..record import NARROWEST, WIDEST, Record
+from ..regions import same_sequence
 from ..script import EDITS
 from .corrections import Line
-from .places import read_place, same_sequence
+from .places import read_place
 
 STRANDS = {"1": "+", "plus": "+", "forward": "+", "-1": "-", "minus": "-", "reverse": "-"}
 DEFAULTS = (".", "0", ".")  # of a name, a score and a strand

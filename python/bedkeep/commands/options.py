@@ -16,7 +16,6 @@ refused, or `done, but` and what doesn't hold, or `already there:`. The last two
 
 
 def add_options(parser: argparse.ArgumentParser) -> None:
-    """Adds the options that apply, replay and review share."""
     parser.epilog = EPILOG
     parser.add_argument("genome", metavar="GENOME", help="the genome file")
     parser.add_argument("bed", metavar="BED", help="the BED file that is corrected, and not changed")
@@ -31,6 +30,24 @@ def add_judging(parser: argparse.ArgumentParser) -> None:
     parser.add_argument("--copies", action="store_true", help="has `add` put in a copy of a record that is there already")
     parser.add_argument("--leave-blocks", action="store_true",
                         help="does a line after which columns from the seventh on can't hold, such as blocks, with a warning")
+
+
+def add_editing(parser: argparse.ArgumentParser, no_script: str = "") -> None:
+    """Adds the options that `curate` and `desk` share. no_script: what is so without --script"""
+    parser.add_argument("genome", metavar="GENOME", help="the genome file")
+    parser.add_argument("bed", metavar="BED", help="the BED file that is corrected, and not changed")
+    parser.add_argument("--fasta", metavar="FASTA", help="the bases, for getfasta")
+    parser.add_argument("--script", metavar="FILE", help="is carried out if it is there; each accepted line is appended at once" + no_script)
+    parser.add_argument("--replay", metavar="OLD", action="append", default=[], help="a script for an earlier release: what fits "
+                        "begins the new script, and each other line needs a decision")
+    parser.add_argument("--view", metavar="'merge -d 10'", action="append", help="a view to see, instead of the usual ones")
+    add_judging(parser)
+
+
+def views_of(given: argparse.Namespace) -> list[str]:
+    """The views that `curate` and `desk` look at: those that were asked for, or the usual ones."""
+    usual = ["merge", "genomecov -bg", *(["intersect", "subtract"] if given.second else [])]
+    return usual if given.view is None else list(given.view)
 
 
 def messages(lines: Sequence[Line]) -> Iterator[str]:

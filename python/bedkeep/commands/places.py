@@ -8,13 +8,13 @@
 from __future__ import annotations
 
 import re
-from typing import Mapping, NamedTuple, Optional
+from typing import Mapping, NamedTuple
+
+from ..regions import same_sequence
 
 FORMS = "a place is chr1:101-200 (from 1), chr1 100 200 (from 0), chr1:150 (one base) or chr1"
-LONGEST = 1 << 32  # more than a sequence can have
 FROM_1 = re.compile(r"(.+):([\d,]+)(?:-([\d,]+))?", re.ASCII)
 NUMBER = re.compile(r"\d[\d,]*", re.ASCII)
-MITOCHONDRION = {"m", "mt"}
 MOST_NAMES = 3
 
 
@@ -36,14 +36,14 @@ class NoPlace(ValueError):
     """A text hasn't the form of a place, or may be the name of something else than a sequence."""
 
 
-def read_place(text: str, lengths: Optional[Mapping[str, int]]) -> Place:
-    """The place that a text means over a genome of these lengths, or of unknown ones (None). An end past the sequence's is cut.
+def read_place(text: str, lengths: Mapping[str, int]) -> Place:
+    """The place that a text means over a genome of these lengths. An end past the sequence's is cut.
 
     ValueError, with a sentence for who wrote the text: the genome lacks the sequence, or the start isn't below the end, or is past
     the sequence's end. NoPlace if the text may be something else.
     """
     text = text.strip()
-    if lengths is not None and text in lengths:
+    if text in lengths:
         return Place(text, 0, lengths[text], f"{text}, all {lengths[text]} bases")
     parts = FROM_1.fullmatch(text)
     if parts and all(NUMBER.fullmatch(number) for number in parts.groups()[1:] if number):
@@ -51,13 +51,10 @@ def read_place(text: str, lengths: Optional[Mapping[str, int]]) -> Place:
     fields = text.split("\t" if "\t" in text else None)
     if len(fields) == 3 and NUMBER.fullmatch(fields[1]) and NUMBER.fullmatch(fields[2]):
         return _from_0(fields[0], _number(fields[1]), _number(fields[2]), lengths)
-    if len(fields) == 2 and NUMBER.fullmatch(fields[1]) and lengths and fields[0] in lengths:
+    if len(fields) == 2 and NUMBER.fullmatch(fields[1]) and fields[0] in lengths:
         raise ValueError(f"{text} has one number: {fields[0]}:{fields[1]} is one base, from 1")
-    if parts or len(fields) != 1 or lengths and text.rpartition(":")[0] in lengths:
-        raise NoPlace(FORMS)
-    if lengths is not None:
-        raise NoPlace(absent(text, lengths))
-    return Place(text, 0, LONGEST, f"{text}, all of it")
+    is_name = len(fields) == 1 and not parts and text.rpartition(":")[0] not in lengths
+    raise NoPlace(absent(text, lengths) if is_name else FORMS)
 
 
 def absent(sequence: str, lengths: Mapping[str, int]) -> str:
@@ -70,7 +67,7 @@ def absent(sequence: str, lengths: Mapping[str, int]) -> str:
     return f"the genome has no {sequence}; it has {', '.join(some)}{more}"
 
 
-def _from_1(sequence: str, first: int, last: int, is_base: bool, lengths: Optional[Mapping[str, int]]) -> Place:
+def _from_1(sequence: str, first: int, last: int, is_base: bool, lengths: Mapping[str, int]) -> Place:
     text = f"{sequence}:{first}" if is_base else f"{sequence}:{first}-{last}"
     if first == 0:
         raise ValueError(f"{text} counts from 1, so there is no base 0: {sequence} 0 {max(last, 1)} counts from 0")
@@ -79,17 +76,15 @@ def _from_1(sequence: str, first: int, last: int, is_base: bool, lengths: Option
     return _cut(Place(sequence, first - 1, last, f"{text}, {'one base, ' if is_base else ''}from 1"), text, lengths)
 
 
-def _from_0(sequence: str, start: int, end: int, lengths: Optional[Mapping[str, int]]) -> Place:
+def _from_0(sequence: str, start: int, end: int, lengths: Mapping[str, int]) -> Place:
     text = f"{sequence} {start} {end}"
     if start >= end:
         raise ValueError(f"{text}: the start {start} isn't below the end {end}")
     return _cut(Place(sequence, start, end, f"{text}, from 0"), text, lengths)
 
 
-def _cut(place: Place, text: str, lengths: Optional[Mapping[str, int]]) -> Place:
+def _cut(place: Place, text: str, lengths: Mapping[str, int]) -> Place:
     """The place up to the sequence's end."""
-    if lengths is None:
-        return place
     if place.sequence not in lengths:
         raise ValueError(absent(place.sequence, lengths))
     length = lengths[place.sequence]
@@ -98,12 +93,6 @@ def _cut(place: Place, text: str, lengths: Optional[Mapping[str, int]]) -> Place
     if place.end <= length:
         return place
     return place._replace(end=length, said=f"{place.said}, cut at the end of {place.sequence}, {length}", is_cut=True)
-
-
-def same_sequence(one: str, other: str) -> bool:
-    """Whether two names of sequences are hardly those of two: but for `chr` and case, and chrM is MT."""
-    cores = {re.sub("^chr", "", name.lower()) for name in (one, other)}
-    return len(cores) == 1 or cores == MITOCHONDRION
 
 
 def _number(text: str) -> int:

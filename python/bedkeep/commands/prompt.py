@@ -253,7 +253,6 @@ class Curator:
             self._carry(texts, is_seen=True)
 
     def _drop(self, reason: str) -> None:
-        """Leaves the line in hand out."""
         self._items.drop(reason or self._ask and self._ask("why? ") or "")
 
     def _review(self, path: str) -> None:
@@ -270,7 +269,6 @@ class Curator:
 
 
 def _command(line: str) -> str:
-    """The first field of a line."""
     return (line.split(None, 1) or [""])[0]
 
 

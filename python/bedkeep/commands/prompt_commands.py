@@ -6,11 +6,12 @@ from typing import NamedTuple, NoReturn, Sequence
 
 from .. import formats
 from ..printed_rows import RECORD, Row
-from ..record import NARROWEST, WIDEST, Record, record_of, strand_of
+from ..record import NARROWEST, WIDEST, Record, record_of, split_row, strand_of
 from ..script import line_of
 from ..session import Session
 from .places import NUMBER, NoPlace
 from .references import References, Unclear, references
+from .three_way import Version
 
 DISTANCE = re.compile(r"[-+]?\d[\d,]*", re.ASCII)
 USAGES = {"set": "set COLUMN RECORD VALUE, such as set end geneA 250 or set end chr1:101-200 250",
@@ -26,21 +27,6 @@ class Proposal(NamedTuple):
     said: list[str]
 
 
-class Whole(NamedTuple):
-    """A record with the text of its columns from the seventh on."""
-
-    record: Record
-    tail: str
-
-    @property
-    def columns(self) -> list[str]:
-        """All columns."""
-        return [*self.record, *self.tail.split("\t")[1:]]
-
-    def __str__(self) -> str:
-        return " ".join(self.columns)
-
-
 class Commands:
     """Makes the lines of each command. ValueError, with a sentence for the one who typed it, if they can't be made."""
 
@@ -49,7 +35,6 @@ class Commands:
 
     @property
     def names(self) -> tuple[str, ...]:
-        """The names of the columns that the program has."""
         return RECORD[:self._session.width]
 
     def of(self, command: str, fields: Sequence[str]) -> Proposal:
@@ -69,7 +54,7 @@ class Commands:
         what: split (value: the base where the second one begins), join, boundary (of two neighbours, value: the base), shift (by how
         many bases), remove, or `set COLUMN` (value)
         """
-        wholes = [Whole(record_of(columns), "".join(f"\t{column}" for column in columns[WIDEST:])) for columns in records]
+        wholes = [Version(*split_row("\t".join(columns))) for columns in records]
         command, _, column = what.partition(" ")
         if not wholes or command in ("join", "boundary") and len(wholes) != 2 or command == "split" and len(wholes) > 1:
             raise ValueError(f"{command} is of {'two records' if command in ('join', 'boundary') else 'one record'}")
@@ -106,7 +91,7 @@ class Commands:
         """`merge A B`: one record from the first start to the last end, with the name and the score of A."""
         return self._merge(self._one(one), self._one(other))
 
-    def _merge(self, one: tuple[Whole, str], other: tuple[Whole, str]) -> Proposal:
+    def _merge(self, one: tuple[Version, str], other: tuple[Version, str]) -> Proposal:
         (first, first_said), (second, second_said) = one, other
         joined = _joined(first, second)
         kept = [f"{name} {mine} is kept, and {theirs} isn't" for name, mine, theirs in _lost(first, second, joined)]
@@ -117,7 +102,7 @@ class Commands:
         """`split A AT`: two records, of which the first one ends where the second one begins."""
         return self._split(*self._one(text), at)
 
-    def _split(self, old: Whole, said: str, at: str) -> Proposal:
+    def _split(self, old: Version, said: str, at: str) -> Proposal:
         start, end = int(old.record[1]), int(old.record[2])
         if not NUMBER.fullmatch(at) or not start < int(at.replace(",", "")) < end:
             raise ValueError(f"{said}: {old}\n{at} isn't between {start} and {end}")
@@ -131,9 +116,9 @@ class Commands:
         rows, said = self._within(text)
         if not rows:
             raise ValueError(said[0])
-        return Proposal(self._shift([Whole(record_of(list(map(str, row))), "") for row in rows], by), said)
+        return Proposal(self._shift([Version(record_of(list(map(str, row))), "") for row in rows], by), said)
 
-    def _shift(self, wholes: Sequence[Whole], by: str) -> list[str]:
+    def _shift(self, wholes: Sequence[Version], by: str) -> list[str]:
         """The lines that move records in their order by a distance."""
         if not DISTANCE.fullmatch(by):
             raise ValueError(USAGES["shift"])
@@ -144,11 +129,11 @@ class Commands:
         for whole in wholes if distance < 0 else reversed(wholes):  # so that none comes to be where another one still is
             if int(whole.record[1]) + distance < 0:
                 raise ValueError(f"{' '.join(whole.record)} would begin at {int(whole.record[1]) + distance}")
-            new, tail = formats.shifted(whole.record, whole.tail, distance)
-            lines.append(_line("replace", *whole.columns, *Whole(new, tail).columns))
+            moved = Version(*formats.shifted(whole.record, whole.tail or "", distance))
+            lines.append(_line("replace", *whole.columns, *moved.columns))
         return lines
 
-    def _set(self, old: Whole, column: str, value: str) -> list[str]:
+    def _set(self, old: Version, column: str, value: str) -> list[str]:
         """The line that gives a record another value of a column, unless nothing changes."""
         new = self._with(old, column, value)
         if new == old:
@@ -157,7 +142,7 @@ class Commands:
             return [_line("replace", *old.record, *new.record)]
         return [_line("replace", *old.columns, *new.columns)]
 
-    def _boundary(self, first: Whole, second: Whole, at: str) -> Proposal:
+    def _boundary(self, first: Version, second: Version, at: str) -> Proposal:
         """The lines that have one record end, and the next one begin, at a base."""
         if first.record[0] != second.record[0] or not NUMBER.fullmatch(at):
             raise ValueError(f"{at} is no common end of {first} and {second}")
@@ -186,46 +171,46 @@ class Commands:
         said = [f"{place.said}: {_count(len(rows))} {'is' if is_one else 'are'} wholly within"]
         return rows, said + ([f"{left} more {'overlaps it, and stays' if left == 1 else 'overlap it, and stay'}"] if left else [])
 
-    def _one(self, text: str) -> tuple[Whole, str]:
+    def _one(self, text: str) -> tuple[Version, str]:
         """The one record that is meant, and what the text was taken for."""
         found = self._references.one(text)
         return self._whole(found.rows[0]), found.said
 
-    def _whole(self, row: Row) -> Whole:
+    def _whole(self, row: Row) -> Version:
         """A record with its tail. Unclear if it has copies with other tails."""
         record = record_of(list(map(str, row)))
         tails = self._session.tails(record) if self._session.columns() > WIDEST else [""]
         if len(set(tails)) > 1:
             raise Unclear(f"{len(tails)} records differ from column 7 on alone: give all columns of one", [row] * len(tails))
-        return Whole(record, tails[0])
+        return Version(record, tails[0])
 
-    def _with(self, old: Whole, column: str, value: str) -> Whole:
+    def _with(self, old: Version, column: str, value: str) -> Version:
         """A record with another value of one column."""
         if column in self.names:
             if column in ("start", "end") and NUMBER.fullmatch(value):
                 value = value.replace(",", "")
             at = self.names.index(column)
-            return Whole(record_of([*old.record[:at], value, *old.record[at + 1:]]), old.tail)
-        named = [*self.names, *(name for name in formats.fields(old.record, old.tail) if name not in RECORD)]
+            return Version(record_of([*old.record[:at], value, *old.record[at + 1:]]), old.tail)
+        named = [*self.names, *(name for name in old.fields if name not in RECORD)]
         if column not in named:
             raise ValueError(f"{column} is no column of this file; the columns are {', '.join(named)}")
-        return Whole(*formats.with_field(old.record, old.tail, column, value))
+        return Version(*formats.with_field(old.record, old.tail or "", column, value))
 
-    def _part(self, old: Whole, number: int, start: str, end: str) -> Whole:
+    def _part(self, old: Version, number: int, start: str, end: str) -> Version:
         """A part of a record, with the blocks and the rest of its tail that are in it."""
         name = [f"{old.record[3]}.{number}" if old.record[3] != "." else "."] if len(old.record) > NARROWEST else []
         record = (old.record[0], start, end, *name, *old.record[4:])
         if not old.tail:
-            return Whole(record, "")
+            return Version(record, "")
         followed = formats.follow(old.record, old.tail, record)
         if followed.fault and not followed.offer:
             raise ValueError(f"{old}\n{followed.fault}")
         if followed.offer:
-            return Whole(followed.offer[:WIDEST], "".join(f"\t{column}" for column in followed.offer[WIDEST:]))
-        return Whole(record, followed.tail)
+            return Version(*split_row("\t".join(followed.offer)))
+        return Version(record, followed.tail)
 
 
-def _joined(first: Whole, second: Whole) -> Whole:
+def _joined(first: Version, second: Version) -> Version:
     """One record of two, with the blocks of both. What isn't a place is as in the first one."""
     one, other = first.record, second.record
     if first == second:
@@ -237,12 +222,12 @@ def _joined(first: Whole, second: Whole) -> Whole:
     start, end = min(int(one[1]), int(other[1])), max(int(one[2]), int(other[2]))
     strand = [other[5] if one[5] == "." else one[5]] if len(one) == WIDEST else []
     record = (one[0], str(start), str(end), *one[3:5], *strand)
-    return Whole(record, _joined_tail(first, second, record) if first.tail else "")
+    return Version(record, _joined_tail(first, second, record) if first.tail else "")
 
 
-def _joined_tail(first: Whole, second: Whole, record: Record) -> str:
+def _joined_tail(first: Version, second: Version, record: Record) -> str:
     """The tail of the first of two records, for the record that both become: with the blocks of both, and both coding parts."""
-    named, others = formats.fields(first.record, first.tail), formats.fields(second.record, second.tail)
+    named, others = first.fields, second.fields
     named.update(zip(RECORD, record))
     if "blocks" in named and "blocks" in others:
         blocks = sorted([*_blocks(first, named["blocks"]), *_blocks(second, others["blocks"])])
@@ -257,7 +242,7 @@ def _joined_tail(first: Whole, second: Whole, record: Record) -> str:
     return formats.tail_of(named)
 
 
-def _blocks(whole: Whole, gaps: str) -> list[tuple[int, int]]:
+def _blocks(whole: Version, gaps: str) -> list[tuple[int, int]]:
     """The blocks of a record, by the gaps between them."""
     if " " in gaps:
         raise ValueError(f"the blocks of {whole} can't hold")
@@ -277,9 +262,9 @@ def _gaps(blocks: Sequence[tuple[int, int]]) -> str:
     return ",".join(gaps)
 
 
-def _lost(first: Whole, second: Whole, joined: Whole) -> list[tuple[str, str, str]]:
+def _lost(first: Version, second: Version, joined: Version) -> list[tuple[str, str, str]]:
     """The columns that two records have differently and that aren't places, with the value that is kept and the other one."""
-    kept, lost = formats.fields(joined.record, joined.tail), formats.fields(second.record, second.tail)
+    kept, lost = joined.fields, second.fields
     places = {"chromosome", "start", "end", "strand", "thickStart", "thickEnd", "blocks"}
     return [(name, kept[name], lost.get(name, "")) for name in kept if name not in places and kept[name] != lost.get(name, "")]
 

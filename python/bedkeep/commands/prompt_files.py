@@ -1,6 +1,7 @@
 """What the prompt writes: the track, the script, the page of the accepted edits. No input is ever written over."""
 from __future__ import annotations
 
+import argparse
 import os
 import tempfile
 from typing import Callable, NamedTuple, Optional, Sequence
@@ -27,6 +28,11 @@ class Given(NamedTuple):
     script: Optional[str] = None
     replayed: Sequence[str] = ()
 
+    @classmethod
+    def of(cls, given: argparse.Namespace, script: Optional[str]) -> Given:
+        """The files that the options of `curate` and `desk` name."""
+        return cls(given.genome, given.bed, given.second, given.copies, given.leave_blocks, given.fasta, script, given.replay)
+
 
 class PromptFiles:
     """Writes files. A file that is there already is written over only if the same line comes once more.
@@ -46,7 +52,6 @@ class PromptFiles:
             self._asked = ""
 
     def save(self, rest: str) -> None:
-        """Writes the track."""
         path = rest.removeprefix(f"{SORTED} ").strip()
         if not path or path == SORTED:
             raise ValueError(f"save FILE: the file's name is missing; save {SORTED} FILE has the track's order")
@@ -56,7 +61,6 @@ class PromptFiles:
             print("saved")
 
     def script(self, path: str) -> None:
-        """Shows the script, or writes it."""
         if not path:
             print(self._script(), end="")
         elif self._may_write(f"script {path}", path):

@@ -68,7 +68,6 @@ class Items:
         self.settle()
 
     def later(self, _: str) -> None:
-        """Leaves the item in hand for now."""
         self._held()
         self.in_hand = None
 

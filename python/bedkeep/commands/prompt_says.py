@@ -20,7 +20,6 @@ class Offered(NamedTuple):
     is_typed: bool = False
 
 
-
 class Says:
     """Prints. offered: what a number takes, from 1"""
 

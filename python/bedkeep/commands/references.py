@@ -114,7 +114,6 @@ class References:
         return [found for found in kinds if found.rows]
 
     def _at(self, place: Place) -> list[Row]:
-        """The records of exactly a place."""
         return [] if place.is_cut else [row for row in self._session.region(*place[:3]) if row[1:3] == place[1:3]]
 
     def _beside(self, text: str, place: Place) -> Unclear:

@@ -38,7 +38,6 @@ class Replayed:
 
     @property
     def is_refused(self) -> bool:
-        """Whether a line doesn't fit."""
         return any(finding.is_refused for finding in self.findings)
 
     def mended(self) -> Iterator[str]:
@@ -115,7 +114,6 @@ def _with_other(finding: Finding, records: Sequence[Record]) -> Finding:
 
 
 def options(parser: argparse.ArgumentParser) -> None:
-    """What the command takes."""
     parser.description = "Says of each line that no longer fits why, with the record that it is about."
     add_options(parser)
     parser.add_argument("--ignore", choices=RECORD[3:], metavar="COLUMN", action="append", default=[],

@@ -2,10 +2,10 @@
 from __future__ import annotations
 
 from collections import Counter
-from typing import Iterable, Iterator, Optional, Sequence
+from typing import Iterable, Iterator, Sequence
 
-from ..record import Record
 from .causes import CONFLICT, FITS, FOLLOWS, TAKEN, THERE, Finding
+from .three_way import Version
 
 TITLES = ("file", "line", "class", "by", "differs", "asked", "there", "mended", "note")
 Columns = Sequence[str]
@@ -70,16 +70,12 @@ def _rows(finding: Finding) -> Iterator[tuple[str, Columns]]:
     line, found = finding.line, finding.found
     is_wide = line.old_tail is not None or line.new_tail is not None
     if finding.kind == CONFLICT and line.old and line.new:
-        yield "base", _columns(line.old, line.old_tail)
-        yield "mine", _columns(line.new, line.new_tail)
+        yield "base", Version(line.old, line.old_tail).columns
+        yield "mine", Version(line.new, line.new_tail).columns
     else:
-        yield "asked", _columns(finding.asked or (), line.old_tail if line.old else line.new_tail)
+        yield "asked", Version(finding.asked or (), line.old_tail if line.old else line.new_tail).columns
     if found and (finding.kind != THERE or found != finding.asked):
-        yield "theirs" if finding.kind == CONFLICT else "there", _columns(found, finding.tail if is_wide else None)
-
-
-def _columns(record: Record, tail: Optional[str]) -> Columns:
-    return [*record, *(tail or "").split("\t")[1:]]
+        yield "theirs" if finding.kind == CONFLICT else "there", Version(found, finding.tail if is_wide else None).columns
 
 
 def _beside(rows: Sequence[tuple[str, Columns]]) -> Iterator[str]:

@@ -15,7 +15,6 @@ region for each refused line, and without --igv PAGE.chrom.sizes, the genome in 
 
 
 def options(parser: argparse.ArgumentParser) -> None:
-    """What the command takes."""
     parser.description = DESCRIPTION
     add_options(parser)
     parser.add_argument("-o", dest="page", metavar="PAGE.html", required=True, help="where to, never over an input")

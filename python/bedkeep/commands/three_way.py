@@ -12,7 +12,7 @@ UNKNOWN = "\0"  # a field of a base whose columns after the sixth the line doesn
 
 
 class Version(NamedTuple):
-    """A record, and its columns after the sixth if they count."""
+    """A record, and its columns after the sixth if they count, each after a TAB."""
 
     record: Record
     tail: Optional[str] = None
@@ -22,9 +22,11 @@ class Version(NamedTuple):
         return fields(self.record, self.tail) if self.tail else dict(zip(RECORD, self.record))
 
     @property
-    def columns(self) -> str:
-        """As a script has it."""
-        return "\t".join(self.record) + (self.tail or "")
+    def columns(self) -> list[str]:
+        return [*self.record, *(self.tail or "").split("\t")[1:]]
+
+    def __str__(self) -> str:
+        return " ".join(self.columns)
 
 
 class Merge(NamedTuple):
@@ -39,9 +41,9 @@ def line_over(line: Line, theirs: Version, lengths: Mapping[str, int], insist: b
     """A line over the record that is there instead of its own, or nothing; and the merge, if the line puts a record in."""
     there = theirs if line.old_tail is not None else Version(theirs.record)
     if not line.new:
-        return f"{line.command}\t{there.columns}", Merge(None)
+        return "\t".join([line.command, *there.columns]), Merge(None)
     merged = merge(Version(line.old or (), line.old_tail), Version(line.new, line.new_tail), theirs, lengths, insist)
-    return f"{line.command}\t{there.columns}\t{merged.version.columns}" if merged.version else "", merged
+    return "\t".join([line.command, *there.columns, *merged.version.columns]) if merged.version else "", merged
 
 
 def merge(base: Version, mine: Version, theirs: Version, lengths: Mapping[str, int], insist: bool = False) -> Merge:

@@ -207,7 +207,6 @@ def write_files(run: Run, window: Window, folder: Path) -> None:
 
 
 def write_one(run: Run, window: Window, rows: Path) -> None:
-    """Writes the rows of a window into a file."""
     stretch = window[0]
     with tempfile.TemporaryDirectory(dir=rows.parent) as name, open(rows, "wb") as output:
         folder = Path(name)
@@ -312,7 +311,6 @@ def taken_away(rows: Path) -> Iterator[Path]:
 
 
 def options(parser: argparse.ArgumentParser) -> None:
-    """What the command takes."""
     parser.description = "Runs a subcommand of bedkeep over indexed BED files, window by window."
     parser.add_argument("--window", type=int, default=20_000_000, help="bases of a window (default 20000000)")
     parser.add_argument("--jobs", type=int, default=os.cpu_count() or 1, help="how many windows at once (default: one a processor)")
@@ -322,7 +320,6 @@ def options(parser: argparse.ArgumentParser) -> None:
 
 
 def run(given: argparse.Namespace) -> int:
-    """Prints the rows, and returns the status: 0."""
     if not given.words or given.window < 1 or given.jobs < 1:
         raise NoRows("windows takes a subcommand, and numbers above 0")
     asked = Run.of(given.words)

@@ -88,7 +88,6 @@ def _place(line: Line, several: bool) -> str:
 
 
 def _places(card: Card, several: bool) -> str:
-    """Which lines are on a card."""
     lines = [one.line for one in card.reviewed]
     if len(lines) == 1:
         return _place(lines[0], several)
@@ -119,7 +118,6 @@ def _verdict(card: Card) -> str:
 
 
 def _line(reviewed: Reviewed, several: bool) -> str:
-    """A line among several."""
     return f"<section><p class=line>{escaped(_place(reviewed.line, several))}</p>{_body(reviewed)}</section>"
 
 

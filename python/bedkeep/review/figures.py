@@ -2,33 +2,46 @@
 from __future__ import annotations
 
 from collections import Counter
-from typing import Callable, Iterator, Mapping, NamedTuple, Optional
+from typing import Iterator, Mapping, NamedTuple, Optional, Sequence
 
 from ..commands.causes import Finding
 from ..commands.corrections import Line
 from .drawing import Picture
 from .intervals import Interval, Stretch, asked, blocks_of, interval_of, of_record, stretches_of
 from .markup import counted, number
-from .neighbours import Neighbours
-from .shapes import Shape
+from .neighbours import Beside
+from .shapes import Shape, shape_of
 
 CLOSE = 25  # a change that is so many times smaller than its picture has a second one
 END = 200  # bases on either side of a sequence's end, in the pictures of `resize`
 
 
-class Scene(NamedTuple):
-    """What pictures are drawn of: the track that a line is about, the other one, and the lengths, before that line."""
+class Seen(NamedTuple):
+    """What is at a stretch: the records of the track, also a little further, before and after a line; and the other file's."""
 
-    track: Neighbours
-    other: Optional[Neighbours]
+    stretch: Stretch
+    before: list[Interval]
+    after: list[Interval]
+    beside: Beside  # the records left and right of it
+    other: list[Interval]
+
+    def near(self, stretch: Stretch, distance: int) -> Seen:
+        """The same of a part of the stretch."""
+        wide = Stretch(stretch.sequence, stretch.low - distance, stretch.high + distance)
+        return self._replace(stretch=stretch, before=list(filter(wide.touches, self.before)), after=list(filter(wide.touches, self.after)))
+
+
+class Scene(NamedTuple):
+    """What all pictures of a line share: the lengths before it, and the columns after the sixth of records."""
+
     lengths: Mapping[str, int]
     distance: int  # of the blocks
     is_second: bool  # whether the track is the second file's, which has no blocks
-    shape: Callable[[Interval], Optional[Shape]] = lambda _: None  # the exons of a record
+    tails: Mapping[Interval, str]
 
     def picture(self, stretch: Stretch, length: Optional[int] = None) -> Picture:
         """An empty picture. length: of the sequence, if it isn't what it was before"""
-        return Picture(stretch, self.lengths.get(stretch.sequence) if length is None else length, self.shape)
+        return Picture(stretch, self.lengths.get(stretch.sequence) if length is None else length, self._shape)
 
     def blocks(self, intervals: list[Interval]) -> list[tuple[int, int]]:
         return [] if self.is_second else blocks_of(intervals, self.distance)
@@ -39,6 +52,10 @@ class Scene(NamedTuple):
         if about:
             marks[about] = [*marks.get(about, []), mark]
         return marks
+
+    def _shape(self, interval: Interval) -> Optional[Shape]:
+        """The exons of a record."""
+        return shape_of(interval, self.tails[interval]) if interval in self.tails else None
 
 
 def pictured(line: Line, finding: Finding, lengths: Mapping[str, int]) -> list[Stretch]:
@@ -58,23 +75,21 @@ def _length(line: Line) -> Optional[int]:
     return columns.end if columns else None
 
 
-def figures(line: Line, finding: Finding, scene: Scene) -> str:
+def figures(line: Line, finding: Finding, scene: Scene, looks: Sequence[Seen]) -> str:
     """All pictures of a line."""
-    stretches = pictured(line, finding, scene.lengths)
     if line.command == "resize":
-        return "".join(_resized(line, scene, stretch) for stretch in stretches)
+        return "".join(_resized(line, scene, seen) for seen in looks)
     if not line.is_done:
-        return "".join(_refused(line, finding, scene, stretch) for stretch in stretches)
-    return "".join(_done(line, scene, stretch) + "".join(_close(line, scene, stretch)) for stretch in stretches)
+        return "".join(_refused(line, finding, scene, seen) for seen in looks)
+    return "".join(_done(line, scene, seen) + "".join(_close(line, scene, seen)) for seen in looks)
 
 
-def _figure(picture: Picture, line: Line, scene: Scene, stretch: Stretch) -> str:
+def _figure(picture: Picture, line: Line, scene: Scene, seen: Seen) -> str:
     """A picture with the other file's records below."""
-    beside = scene.other.within(stretch) if scene.other else []
-    if beside:
-        marks = {} if scene.is_second else _of_second(beside)
-        picture.lane("track" if scene.is_second else "second", beside, marks)
-    return f"<figure>{picture.svg(_title(line), scene.track.beside(stretch))}</figure>"
+    if seen.other:
+        marks = {} if scene.is_second else _of_second(seen.other)
+        picture.lane("track" if scene.is_second else "second", seen.other, marks)
+    return f"<figure>{picture.svg(_title(line), seen.beside)}</figure>"
 
 
 def _of_second(intervals: list[Interval]) -> dict[Interval, list[str]]:
@@ -85,50 +100,42 @@ def _title(line: Line) -> str:
     return f"line {line.place}: {' '.join([line.command, *line.fields[:3]])}"
 
 
-def _done(line: Line, scene: Scene, stretch: Stretch, close: str = "") -> str:
+def _done(line: Line, scene: Scene, seen: Seen, close: str = "") -> str:
     old, new = asked(line)
-    picture = scene.picture(stretch)
-    before = scene.track.within(stretch, scene.distance)
-    after = [*before]
-    if old in after:
-        after.remove(old)
-    if new and new.sequence == stretch.sequence:
-        after = sorted([*after, new])
-    lanes = [("before", before, old, "removed"), ("after", after, new, "added")]
-    for title, intervals, marked, mark in lanes:
-        seen = [interval for interval in intervals if stretch.touches(interval)]
-        picture.lane(title, seen, scene.marks(seen, marked, mark), scene.blocks(intervals), not close)
+    picture = scene.picture(seen.stretch)
+    for title, intervals, marked, mark in ("before", seen.before, old, "removed"), ("after", seen.after, new, "added"):
+        shown = list(filter(seen.stretch.touches, intervals))
+        picture.lane(title, shown, scene.marks(shown, marked, mark), scene.blocks(intervals), not close)
     if close:
         return f"<figure class=close><figcaption>{close}</figcaption>{picture.svg(close)}</figure>"
-    return _figure(picture, line, scene, stretch)
+    return _figure(picture, line, scene, seen)
 
 
-def _close(line: Line, scene: Scene, stretch: Stretch) -> Iterator[str]:
+def _close(line: Line, scene: Scene, seen: Seen) -> Iterator[str]:
     """Pictures from near of a start or an end that moved by little."""
-    old, new = asked(line)
+    (old, new), stretch = asked(line), seen.stretch
     if not old or not new or old.sequence != new.sequence:
         return
     for what, a, b in ("start", old.start, new.start), ("end", old.end, new.end):
         moved = abs(a - b)
         if 0 < moved * CLOSE < stretch.high - stretch.low and stretch.low <= a <= stretch.high:
             near = Stretch(stretch.sequence, max(0, min(a, b) - 5 * moved), max(a, b) + 5 * moved)
-            yield _done(line, scene, near, f"close to the {what}: {number(a)} → {number(b)}, {counted(moved, 'base')}")
+            yield _done(line, scene, seen.near(near, scene.distance), f"close to the {what}: {number(a)} → {number(b)}, {counted(moved, 'base')}")
 
 
-def _refused(line: Line, finding: Finding, scene: Scene, stretch: Stretch) -> str:
-    old, new = asked(line)
+def _refused(line: Line, finding: Finding, scene: Scene, seen: Seen) -> str:
+    (old, new), stretch = asked(line), seen.stretch
     found, mended = of_record(line.there or finding.found), mended_record(finding)
     picture = scene.picture(stretch)
-    wide = scene.track.within(stretch, scene.distance)
-    near = [interval for interval in wide if stretch.touches(interval)]
+    near = list(filter(stretch.touches, seen.before))
     wanted = {interval: [mark] for interval, mark in ((old, "asked"), (new, "wished"))
               if interval and stretch.touches(interval)}
     if wanted:
         picture.lane("refused" if line.refusal else "asked", list(wanted), wanted)
-    picture.lane("as it is", near, scene.marks(near, found, "meant"), scene.blocks(wide))
+    picture.lane("as it is", near, scene.marks(near, found, "meant"), scene.blocks(seen.before))
     if mended and stretch.touches(mended):
         picture.lane("mended", [mended], {mended: ["added"]})
-    return _figure(picture, line, scene, stretch)
+    return _figure(picture, line, scene, seen)
 
 
 def mended_record(finding: Finding) -> Optional[Interval]:
@@ -137,13 +144,13 @@ def mended_record(finding: Finding) -> Optional[Interval]:
     return interval_of(fields[len(fields) // 2:]) if finding.mended and finding.line.new else None
 
 
-def _resized(line: Line, scene: Scene, stretch: Stretch) -> str:
+def _resized(line: Line, scene: Scene, seen: Seen) -> str:
+    stretch = seen.stretch
     name, old, new = stretch.sequence, scene.lengths[stretch.sequence], _length(line) or 0
     before, after = Interval(name, 0, old, ("before",)), Interval(name, 0, new, ("refused" if line.refusal else "after",))
     picture = scene.picture(stretch, old if line.refusal else new)
     picture.lane("length", [before, after], {after: ["asked" if line.refusal else "added"]})
-    wide = scene.track.within(stretch, scene.distance)
-    near = [interval for interval in wide if stretch.touches(interval)]
+    near = list(filter(stretch.touches, seen.before))
     past = {interval: ["meant"] * count for interval, count in Counter(near).items() if interval.end > new}
-    picture.lane("track", near, past, scene.blocks(wide))
-    return _figure(picture, line, scene, stretch)
+    picture.lane("track", near, past, scene.blocks(seen.before))
+    return _figure(picture, line, scene, seen)

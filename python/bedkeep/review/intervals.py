@@ -4,6 +4,7 @@ from __future__ import annotations
 import re
 from typing import Iterable, Iterator, NamedTuple, Optional, Sequence
 
+from ..changes import halves
 from ..commands.corrections import Line
 from ..record import Record
 from ..script import EDITS
@@ -59,11 +60,8 @@ def asked(line: Line) -> tuple[Optional[Interval], Optional[Interval]]:
     """The record that a line takes out and the one that it puts in, also of a bad line if they can be read."""
     if line.is_edit or line.command not in EDITS:
         return of_record(line.old), of_record(line.new)
-    fields = line.narrow.split("\t")[1:]
-    half = len(fields) // 2 if line.command.startswith("replace") else len(fields)
-    old = None if line.command.startswith("add") else interval_of(fields[:half])
-    new = None if line.command.startswith("remove") else interval_of(fields[half:] or fields)
-    return old, new
+    old, new = halves(line.command, line.narrow)
+    return interval_of(old), interval_of(new)
 
 
 def sequence_of(line: Line) -> str:
@@ -100,26 +98,3 @@ def blocks_of(intervals: Iterable[Interval], distance: int) -> list[tuple[int, i
         else:
             blocks.append((interval.start, interval.end))
     return blocks
-
-
-class Windows:
-    """The stretches of all pictures, joined if they overlap: what is near enough to a correction to be looked at."""
-
-    def __init__(self, stretches: Iterable[Stretch], margin: int) -> None:
-        self._bounds: dict[str, tuple[list[int], list[int]]] = {}
-        for sequence, low, high in sorted(stretches):
-            lows, highs = self._bounds.setdefault(sequence, ([], []))
-            if highs and low - margin <= highs[-1]:
-                highs[-1] = max(highs[-1], high + margin)
-            else:
-                lows.append(low - margin)
-                highs.append(high + margin)
-
-    def __iter__(self) -> Iterator[Stretch]:
-        for sequence, (lows, highs) in self._bounds.items():
-            for low, high in zip(lows, highs):
-                yield Stretch(sequence, low, high)
-
-    def of(self, sequence: str) -> list[Stretch]:
-        lows, highs = self._bounds.get(sequence, ([], []))
-        return [Stretch(sequence, low, high) for low, high in zip(lows, highs)]

@@ -21,9 +21,7 @@ def write_page(genome: str, bed: str, corrections: Sequence[str], path: str, sec
                refused: Optional[str] = None) -> Contents:
     """Writes the page and what comes with it, and returns what it shows. Nothing is written if something fails before that.
 
-    distance: of the blocks; igv: what IGV calls the genome; copies: whether an `add` of a record that is there puts a copy in;
-    leave_blocks: whether a line is done after which columns from the seventh on can't hold; refused: a file for the messages of the
-    refused lines
+    distance: of the blocks; igv: what IGV calls the genome; copies, leave_blocks, refused: as for `apply`
     """
     with tempfile.TemporaryDirectory(prefix="bedkeep-") as folder:
         files = [_kept(name, folder) for name in (genome, bed, *([second] if second else []), *corrections)]

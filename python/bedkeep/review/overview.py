@@ -6,7 +6,7 @@ from typing import Iterable, Mapping, Sequence
 from ..commands.corrections import Line
 from .intervals import asked, sequence_of
 from .markup import counted, escaped, number
-from .printed import BINS, Side
+from .totals import BINS, Totals
 
 SHOWN = 40  # sequences without a correction in the table, the longest ones
 WIDTH = 420
@@ -21,7 +21,7 @@ def shown_lengths(lines: Iterable[Line], lengths: Mapping[str, int]) -> dict[str
     return {name: length for name, length in lengths.items() if name in shown}
 
 
-def overview(lines: Sequence[Line], lengths: Mapping[str, int], before: Side, after: Side) -> str:
+def overview(lines: Sequence[Line], lengths: Mapping[str, int], before: Totals, after: Totals) -> str:
     """The table. lines: those that are run; lengths: of all sequences"""
     of_name: dict[str, list[Line]] = {}
     for line in lines:
@@ -39,7 +39,7 @@ def overview(lines: Sequence[Line], lengths: Mapping[str, int], before: Side, af
     return f"<div class=scroll><table>{HEAD}<tbody>{rows}</tbody></table></div><p class=quiet>{' '.join(notes)}</p>"
 
 
-def _row(name: str, lines: Sequence[Line], length: int, width: float, before: Side, after: Side) -> str:
+def _row(name: str, lines: Sequence[Line], length: int, width: float, before: Totals, after: Totals) -> str:
     done, refused = sum(line.is_done for line in lines), sum(bool(line.refusal) for line in lines)
     counts = "".join(_change(old[name], new[name]) for old, new in
                      ((before.records, after.records), (before.blocks, after.blocks), (before.covered, after.covered)))
@@ -71,4 +71,3 @@ def _change(before: int, after: int) -> str:
     if before == after:
         return f"<td>{number(after)}</td><td></td>"
     return f'<td>{number(after)}</td><td class={"up" if after > before else "down"}>{after - before:+,}</td>'
-

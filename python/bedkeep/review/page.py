@@ -11,7 +11,7 @@ from .cards import THERE, Card, html_of
 from .intervals import sequence_of
 from .markup import counted, escaped, number
 from .overview import overview
-from .printed import Side
+from .totals import Totals
 
 GROUPS = ["refused", THERE, "warnings", "done", "conflict", "already so", "changed", "moved", "fits but for", "taken out", "follows",
           "gone", "bad line", "copies", "together", "without a reason"]
@@ -33,19 +33,17 @@ class Contents(NamedTuple):
     lines: Sequence[Line]
     cards: Sequence[Card]
     lengths: Mapping[str, int]
-    before: Side
-    after: Side
+    before: Totals
+    after: Totals
     distance: int
     has_second: bool
 
     @property
     def run(self) -> list[Line]:
-        """The corrections."""
         return [line for line in self.lines if line.is_run]
 
 
 def page(contents: Contents) -> str:
-    """The text of the HTML file."""
     title = f"{', '.join(map(os.path.basename, contents.scripts))} over {os.path.basename(contents.bed)}"
     cards = "".join(html_of(card, len(contents.scripts) > 1) for card in contents.cards)
     key = contents.sums[-1][1][:16]
@@ -104,7 +102,6 @@ def _colours(contents: Contents) -> str:
 
 
 def _bar(contents: Contents) -> str:
-    """Search and filters."""
     counts = Counter(group for card in contents.cards for group in card.groups)
     groups = [group for group in GROUPS if counts[group]] + [group for group in counts if group not in GROUPS]
     buttons = "".join(f'<button class=group data-group="{escaped(group)}">{escaped(group)} '

@@ -1,23 +1,18 @@
-"""Goes through the lines of the corrections, one after another, over the records near them."""
+"""Goes through the lines of the corrections, one after another, and sees what each changes."""
 from __future__ import annotations
 
-from typing import Collection, Iterable, Mapping, NamedTuple, Optional, Sequence
+from collections import Counter
+from typing import Collection, Mapping, NamedTuple, Sequence
 
 from ..commands.causes import Finding
 from ..commands.corrections import Line
-from ..errors import Error
-from .figures import Scene, figures, pictured
-from .intervals import FAR, Interval, Stretch, Windows, asked, blocks_of
+from ..session import Session
+from .figures import Scene, Seen, figures, pictured
+from .intervals import FAR, Interval, Stretch, asked
 from .markup import counted, number
 from .neighbours import Neighbours
 from .notes import difference, of_refused, of_there
 from .parts import Note, link, plain, said
-from .printed import Side
-from .shapes import Tails
-
-
-class Differs(Error):
-    """The pictures don't arrive at the track that the program printed."""
 
 
 class Reviewed(NamedTuple):
@@ -30,129 +25,101 @@ class Reviewed(NamedTuple):
     is_copy: bool
 
 
-def windows_of(findings: Iterable[Finding], lengths: Mapping[str, int], distance: int, shown: Collection[int]) -> Windows:
-    """The stretches of all pictures, a little wider than the distance of the blocks. shown: the numbers of the lines that have any"""
-    stretches: list[Stretch] = []
-    now = dict(lengths)
-    for finding in findings:
-        stretches += pictured(finding.line, finding, now) if finding.line.number in shown else ()
-        resize(finding.line, now)
-    return Windows(stretches, distance + 1)
-
-
-def resize(line: Line, lengths: dict[str, int]) -> None:
-    """Carries out a line that changes a length."""
-    if line.command == "resize" and line.is_done:
-        lengths[line.fields[0]] = int(line.fields[1])
-
-
 class Reviewer:
     """The tracks before the next line, and which line put each of their records there.
 
-    first, second: the tracks before all lines; distance: of the blocks; shown: the numbers of the lines that have pictures, or None
-    if all have; the records of others needn't be among those of the tracks; tails: those of both files
+    sessions: over the track, and over the second file if there is one, by whether it is that; lines: all that are looked at;
+    lengths: of the genome file; distance: of the blocks; shown: the numbers of the lines that have pictures
     """
 
-    def __init__(self, first: Side, second: Optional[Side], lengths: Mapping[str, int], distance: int,
-                 shown: Optional[Collection[int]] = None, tails: Sequence[Tails] = (Tails(0, {}), Tails(0, {}))) -> None:
-        self._first = Neighbours(first.near)
-        self._second = Neighbours(second.near) if second else None
-        self._lengths = dict(lengths)
-        self._distance = distance
-        self._shown, self._tails = shown, tails
+    def __init__(self, sessions: Mapping[bool, Session], lines: Sequence[Line], lengths: Mapping[str, int], distance: int,
+                 shown: Collection[int]) -> None:
+        self._tracks = {second: Neighbours(session) for second, session in sessions.items()}
+        self._lengths, self._distance, self._shown = dict(lengths), distance, shown
+        self._copies = {second: Counter(track.copies(line.new for line in lines if line.new and line.is_second == second))
+                        for second, track in self._tracks.items()}
         self._makers: dict[tuple[bool, Interval], Line] = {}
 
     def look(self, finding: Finding) -> Reviewed:
         """Says what is to be seen of a line, and carries it out if the program did."""
-        line = finding.line
-        track, other = (self._second, self._first) if line.is_second else (self._first, self._second)
-        is_shown = self._shown is None or line.number in self._shown
-        self._tails[line.is_second].follow(line)
-        pictures = figures(line, finding, self._scene(line, track, other)) if track and is_shown else ""
-        new = asked(line)[1]
-        is_copy = bool(line.is_done and track and new and track.has(new))
+        line, track = finding.line, self._tracks.get(finding.line.is_second)
+        is_shown = bool(track) and line.number in self._shown
+        looks = [self._look_at(line, stretch) for stretch in pictured(line, finding, self._lengths)] if is_shown else []
+        tails = self._tails(line, looks)
+        is_copy = bool(line.is_done and line.new and self._copies[line.is_second][line.new] > 0)
         if line.refusal:
             notes = list(of_refused(line, finding, self._lengths))
         elif line.there:
             notes = list(of_there(line))
-        elif line.command == "resize":
-            notes = [plain(self._resized(line))]
         else:
-            notes = self._carry_out(line, track, is_shown)
+            notes = self._carry_out(line, is_shown)
+            looks = [look._replace(after=self._within(line, look.stretch)) for look in looks]
+            tails = {**tails, **self._tails(line, looks)}
         if is_copy:
             notes.append(said("*A copy*: the track has this record already."))
+        pictures = figures(line, finding, Scene(self._lengths, self._distance, line.is_second, tails), looks)
+        if line.command == "resize" and line.is_done:
+            self._lengths[line.fields[0]] = int(line.fields[1])
         return Reviewed(line, finding, notes, pictures, is_copy)
 
-    def _scene(self, line: Line, track: Neighbours, other: Optional[Neighbours]) -> Scene:
-        return Scene(track, other, self._lengths, self._distance, line.is_second, self._tails[line.is_second].shape)
+    def end(self) -> None:
+        """Carries out all lines that weren't looked at since."""
+        for track in self._tracks.values():
+            track.carry_out()
 
-    def _resized(self, line: Line) -> str:
-        old = self._lengths[line.fields[0]]
-        resize(line, self._lengths)
-        new = self._lengths[line.fields[0]]
-        change = f"{counted(abs(new - old), 'base')} {'more' if new > old else 'fewer'}"
-        return f"{line.fields[0]}: {number(old)} → {number(new)}, {change}."
+    def _look_at(self, line: Line, stretch: Stretch) -> Seen:
+        """What is at a stretch before a line."""
+        other = self._tracks.get(not line.is_second)
+        return Seen(stretch, self._within(line, stretch), [], self._tracks[line.is_second].beside(stretch),
+                    other.within(stretch) if other else [])
 
-    def _carry_out(self, line: Line, track: Optional[Neighbours], is_shown: bool) -> list[Note]:
+    def _within(self, line: Line, stretch: Stretch) -> list[Interval]:
+        return self._tracks[line.is_second].within(stretch, self._distance)
+
+    def _tails(self, line: Line, looks: Sequence[Seen]) -> dict[Interval, str]:
+        """The columns after the sixth of records that are there, and of those that a line has with theirs."""
+        if not looks:
+            return {}
+        tails = self._tracks[line.is_second].tails(one for look in looks for one in (*look.before, *look.after))
+        given = zip(asked(line), (line.old_tail, line.new_tail))
+        return {**tails, **{record: tail for record, tail in given if record and tail}}
+
+    def _carry_out(self, line: Line, is_shown: bool) -> list[Note]:
         """Changes the track, and says what came of it."""
+        if line.command == "resize":
+            for track in self._tracks.values():
+                track.edit(line)
+            return [plain(self._resized(line))]
         old, new = asked(line)
-        if track is None or not (old or new):
-            raise Differs(f"line {line.number} was done, but names no record")
+        before = self._blocks(line) if is_shown else 0
+        self._tracks[line.is_second].edit(line)
+        after = self._blocks(line) if is_shown else 0
         notes: list[Note] = []
-        before = self._blocks(line, track) if is_shown else 0
         if old:
             maker = self._makers.get((line.is_second, old))
-            if maker:
-                notes.append((*plain("The record was put in by "), link(maker), *plain(".")))
-            if not track.remove(old) and is_shown:
-                raise Differs(f"line {line.number} was done, but its record isn't there")
+            notes += [(*plain("The record was put in by "), link(maker), *plain("."))] if maker else []
         if new:
-            track.add(new)
             self._makers[line.is_second, new] = line
-        after = self._blocks(line, track) if is_shown else 0
+        for record, copies in (line.old, -1), (line.new, 1):
+            if record:
+                self._copies[line.is_second][record] += copies
         if old and new:
             notes.append(plain(difference(old, new)))
-        if before and after and before != after and not line.is_second:
+        if before and after and before != after:
             notes.append(plain(f"{counted(before, 'block')} {'becomes' if before == 1 else 'become'} {number(after)}."))
         return notes
 
-    def _blocks(self, line: Line, track: Neighbours) -> int:
-        """How many blocks touch what the line names, or 0 if that is far apart."""
+    def _resized(self, line: Line) -> str:
+        old, new = self._lengths[line.fields[0]], int(line.fields[1])
+        change = f"{counted(abs(new - old), 'base')} {'more' if new > old else 'fewer'}"
+        return f"{line.fields[0]}: {number(old)} → {number(new)}, {change}."
+
+    def _blocks(self, line: Line) -> int:
+        """How many blocks touch what the line names, or 0 if that is far apart, or of the second file."""
         places = [interval for interval in asked(line) if interval]
-        if len({interval.sequence for interval in places}) > 1:
+        if line.is_second or len({interval.sequence for interval in places}) > 1:
             return 0
         low, high = min(interval.start for interval in places), max(interval.end for interval in places)
         if high - low > FAR * max(interval.length for interval in places):
             return 0
-        return len(blocks_of(track.within(Stretch(places[0].sequence, low, high), self._distance), self._distance))
-
-    def check(self, windows: Windows, first: Side, second: Optional[Side]) -> None:
-        """Sees that the tracks are those that the program printed after all lines, and the blocks too. Differs if not."""
-        for mine, printed in (self._first, first), (self._second, second):
-            if mine and printed:
-                theirs = Neighbours(printed.near)
-                for stretch in windows:
-                    if mine.within(stretch) != theirs.within(stretch):
-                        raise Differs(f"the pictures of {named(stretch)} don't arrive at the track that the program printed")
-        check_blocks(self._first, windows, first, self._distance)
-
-
-def check_blocks(track: Neighbours, windows: Windows, printed: Side, distance: int) -> None:
-    """Sees that the blocks of the pictures are those that the program printed."""
-    theirs = Neighbours(printed.near_blocks)
-    margin = distance + 1
-    for wide in windows:
-        stretch = Stretch(wide.sequence, wide.low + margin, wide.high - margin)
-        mine = blocks_of(track.within(stretch, distance), distance)
-        if _clipped(mine, stretch) != _clipped([(block.start, block.end) for block in theirs.within(stretch)], stretch):
-            raise Differs(f"the blocks of {named(stretch)} aren't those that the program printed")
-
-
-def named(stretch: Stretch) -> str:
-    return f"{stretch.sequence} from {stretch.low} to {stretch.high}"
-
-
-def _clipped(blocks: list[tuple[int, int]], stretch: Stretch) -> list[tuple[int, int]]:
-    """The parts of blocks that are in a stretch."""
-    return [(max(start, stretch.low), min(end, stretch.high)) for start, end in blocks
-            if end >= stretch.low and start <= stretch.high]
+        return self._tracks[False].blocks(Stretch(places[0].sequence, low, high), self._distance)

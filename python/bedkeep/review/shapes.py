@@ -3,10 +3,9 @@ from __future__ import annotations
 
 from typing import Iterator, NamedTuple, Optional
 
-from ..commands.corrections import Line
-from ..formats import BED12, BED8, BED9, default_tail, faults, follow, format_of
+from ..formats import BED12, BED8, BED9, faults_of, format_of
 from ..record import WIDEST, Record
-from .intervals import Interval, asked
+from .intervals import Interval
 
 
 class Shape(NamedTuple):
@@ -29,7 +28,7 @@ def shape_of(interval: Interval, tail: str) -> Optional[Shape]:
     """The shape of a record with these columns after the sixth, or None if it is a plain box or they can't hold."""
     record = record_of_interval(interval)
     kind = format_of(record, tail) if len(record) == WIDEST else ""
-    if kind not in (BED8, BED9, BED12) or faults(record, tail):
+    if kind not in (BED8, BED9, BED12) or faults_of(record, tail):
         return None
     columns = tail.split("\t")[1:]
     blocks = [(interval.start, interval.end)]
@@ -42,31 +41,3 @@ def shape_of(interval: Interval, tail: str) -> Optional[Shape]:
 
 def record_of_interval(interval: Interval) -> Record:
     return (interval.sequence, str(interval.start), str(interval.end), *interval.rest)
-
-
-class Tails:
-    """The columns after the sixth of the records near the corrections, followed line by line; of copies those of one.
-
-    width: of all columns of the file
-    """
-
-    def __init__(self, width: int, tails: dict[Interval, str]) -> None:
-        self._width, self._tails = width, tails
-
-    def follow(self, line: Line) -> None:
-        """Takes a line: what it puts in, or would have."""
-        old, new = asked(line)
-        if self._width <= WIDEST:
-            return
-        if old and line.old_tail:
-            self._tails[old] = line.old_tail
-        if new and line.new_tail:
-            self._tails[new] = line.new_tail
-        elif new and line.is_done and len(new.rest) == WIDEST - 3:
-            record = record_of_interval(new)
-            self._tails[new] = (follow(record_of_interval(old), self._tails.get(old, ""), record).tail if old
-                                else default_tail(record, self._width, next(iter(self._tails.values()), "")))
-
-    def shape(self, interval: Interval) -> Optional[Shape]:
-        tail = self._tails.get(interval)
-        return shape_of(interval, tail) if tail else None

@@ -1,7 +1,7 @@
 // The worklist: lines of a script that no longer fit, each of which somebody decides about.
 import { attempt, begin, changeOf, draftOf, happened, remember, save, titleOf } from './drafts.js';
 import { button, byId, columns, current, desk, el, focusOn, hand, key, name, say, table } from './state.js';
-import { flash, inHand, raw } from './hand.js';
+import { flash, inHand, offersOf, raw } from './hand.js';
 import { lists } from './lists.js';
 import { change } from './talk.js';
 import { go, render, seen } from './view.js';
@@ -21,17 +21,17 @@ export const toldOf = item => item.lines.length > 1 ? `${counted(item.lines.leng
 
 export function decision(item, offered) {
   const open = item.state === 'open', has = offeredOf(item).length;
-  const buttons = !open ? [] : [has ? el('button', { class: 'main', type: offered ? 'submit' : 'button', id: 'save',
+  const buttons = !open || desk.draft && !offered ? [] : [has ? el('button', { class: 'main', type: offered ? 'submit' : 'button', id: 'save',
     onclick: offered ? undefined : takeMended }, 'Take it ', key('m')) : null,
     button('Write another', 'w', writeAnother), button('Drop it', 'x', drop), button('Later', 'Esc', () => choose(null))];
   return [...item.lines.flatMap(about),
     item.reason ? el('p', {}, '“', name(item.reason), '”') : el('p', { class: 'quiet' }, 'no reason was given'),
-    offered ? el('div', { id: 'verdict', 'aria-live': 'polite' }) : null,
+    offered ? el('div', { id: 'verdict', 'aria-live': 'polite' }) : null, ...open && !desk.draft ? offersOf(item.offers, 'May be meant:') : [],
     !open ? el('p', { class: 'yes' }, `✓ ${stateOf(item)}`)
       : offered ? el('form', { class: 'why', onsubmit: event => { event.preventDefault(); takeMended(); } },
         el('input', { id: 'why', list: 'reasons', placeholder: 'Add to the reason, or leave it as it is', 'aria-label': 'reason', autocomplete: 'off' }),
         buttons)
-        : el('div', { class: 'why' }, buttons)];
+        : buttons.length ? el('div', { class: 'why' }, buttons) : null];
 }
 
 // A line, and what is there instead of what it asks for.
@@ -78,7 +78,8 @@ export function writeAnother() {
   if (!item || item.state !== 'open') return;
   const line = lineOf(item), { fresh } = parsed(line.text, columns().length),
     found = line.found && [...line.found, ...(line.tail ? line.tail.slice(1).split('\t') : [])];
-  if (item.lines.length > 1 || !found && !line.asked) { raw(line.text.replace(/\t/g, ' ')); return; }
+  if (item.lines.length > 1) { raw(item.lines.map(one => one.text).join('\n')); return; }
+  if (!found && !line.asked) { raw(line.text.replace(/\t/g, ' ')); return; }
   if (found) {
     const values = {};
     if (fresh) columns().slice(0, 6).forEach((column, at) => { if (fresh[at] !== line.asked[at] && fresh[at] !== found[at]) values[column] = fresh[at]; });
@@ -93,10 +94,11 @@ export function writeAnother() {
 export function drop() {
   const item = current();
   if (!item || item.state !== 'open') return;
+  const isThere = lineOf(item).kind === 'already so' || Boolean(desk.draft?.verdict?.there?.length);
   desk.draft = desk.changes = null;
   inHand();
   const why = el('input', { id: 'why', placeholder: 'Why is it dropped? The script keeps the reason', 'aria-label': 'reason', autocomplete: 'off',
-    value: lineOf(item).kind === 'already so' ? 'The release has it already.' : '' });
+    value: isThere ? 'The release has it already.' : '' });
   hand.append(el('form', { class: 'why', onsubmit: async event => {
     event.preventDefault();
     try {

@@ -19,7 +19,7 @@ async function news() {
   told();
   await Promise.all([look(true), survey()]);
   lists();
-  inHand();
+  if (desk.draft || !document.activeElement.matches('#hand input')) inHand(); // else somebody types there
   attempt();
 }
 

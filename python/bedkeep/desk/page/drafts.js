@@ -3,16 +3,14 @@
 //
 // kind: change (values of one record), add, remove, lines (as they are), split, join, boundary (the common end of two), shift, strand, name
 // records: those that it is about, with all columns; value: what was typed; fresh: the record as it was asked for, before the verdict
-import { byId, columns, current, desk, drawing, focusOn, lostBox, main, movesOf, say } from './state.js';
+import { byId, columns, current, desk, drawing, el, focusOn, lengthOf, lostBox, main, movesOf, say } from './state.js';
 import { change, call, isWell } from './talk.js';
-import { go, goIfFar, render, seen, surveySoon, takeRegion } from './view.js';
+import { goIfFar, goTo, render, seen, surveySoon, takeRegion } from './view.js';
 import { flash, inHand, verdictHere } from './hand.js';
 import { lists } from './lists.js';
-import { next } from './decide.js';
-import { keyOf } from './records.js';
+import { drop, next } from './decide.js';
+import { SIX, keyOf } from './records.js';
 import { counted, parsed, told } from './text.js';
-
-const SIX = 6;
 
 // What a draft is to the server: lines, or how lines are made.
 function bodyOf(draft) {
@@ -46,18 +44,19 @@ export function draftOf(lines) {
 }
 
 let trying = false, tryAgain = false;
+const SAME = { given: [], same: true, changes: [] };
 const refusalOf = error => [{ reason: error.message, message: error.message, says: [], offers: [] }];
 export async function attempt() {
   const { draft } = desk;
   if (!draft) return;
-  if (draft.kind === 'change' && !Object.keys(draft.values).length) { take(draft, { given: [], same: true, changes: [] }); return; }
+  if (draft.kind === 'change' && !Object.keys(draft.values).length) { take(draft, SAME); return; }
   if (trying) { tryAgain = true; return; }
   trying = true;
   const begun = performance.now(), asked = JSON.stringify(bodyOf(draft));
   try {
     const verdict = await call('try', JSON.parse(asked));
     if (draft === desk.draft && asked === JSON.stringify(bodyOf(draft))) {
-      take(draft, verdict);
+      take(draft, verdict.refused?.[0].reason === 'nothing changes' ? SAME : verdict);
       requestAnimationFrame(() => setTimeout(() => desk.tries.push(performance.now() - begun)));
     }
   } catch (error) {
@@ -112,6 +111,7 @@ export async function save(quick = false) {
       ...(draft.answers === null ? {} : { answers: draft.answers }) });
     if (answer.refused) refuse(answer.refused);
     else if (answer.entry) saved(draft, answer, reason, begun);
+    else if (draft.answers !== null) drop();
     else flash('It is there already, so nothing was done.');
   } catch (error) {
     refuse(refusalOf(error));
@@ -167,12 +167,10 @@ export const isBack = entry => ['done', 'dropped'].includes(entry.verdict);
 export const titleOf = ({ lines }) => lines.length ? `${lines.length > 1 ? `${counted(lines.length, 'line')} together: ` : ''}${told(lines[0], columns())}` : 'a decision';
 
 // Takes back the last correction, or any other one by itself; or does again what was taken back last.
-export async function undo() {
-  const number = desk.state.can_undo;
-  if (number === null) { say('Nothing to take back'); flash('Nothing to take back.'); return; }
-  await reverse('undo', { number });
-}
-export const redo = () => reverse('redo', {});
+let turn = Promise.resolve(); // a key waits until the one before it has its answer
+const inTurn = action => { turn = turn.finally(action); };
+export const undo = () => inTurn(() => desk.state.can_undo === null ? flash('Nothing to take back.') : reverse('undo', { number: desk.state.can_undo }));
+export const redo = () => inTurn(() => reverse('redo', {}));
 export const takeBack = entry => entry && isBack(entry) ? reverse('back', { number: entry.number })
   : flash('Nothing to take back: choose a correction that is done.');
 
@@ -190,12 +188,11 @@ async function reverse(path, body) {
   inHand({ [path === 'redo' ? 'again' : 'undone']: entry });
 }
 
+const reasons = new Set();
 export function remember(reason) {
-  const known = byId('reasons');
-  if (!reason || [...known.options].some(option => option.value === reason)) return;
-  const option = document.createElement('option');
-  option.value = reason;
-  known.prepend(option);
+  if (!reason || reasons.has(reason)) return;
+  reasons.add(reason);
+  byId('reasons').prepend(el('option', { value: reason }));
 }
 
 // What is begun by a key
@@ -208,7 +205,7 @@ export function remove() {
 }
 
 export function add(start, end, focus = true) {
-  const { view } = desk, third = (view.end - view.start) / 3, length = lengthHere();
+  const { view } = desk, third = (view.end - view.start) / 3, length = lengthOf(view.sequence);
   const low = Math.max(0, Math.min(Math.round(start ?? view.start + third), length - 1)),
     high = Math.max(low + 1, Math.min(Math.round(end ?? view.start + 2 * third), length));
   const fresh = [view.sequence, String(low), String(high), 'new', '0', '+'].slice(0, Math.min(columns().length, SIX));
@@ -218,7 +215,6 @@ export function add(start, end, focus = true) {
   inHand();
   focusOn(columns().length > 3 ? 'field-name' : 'field-start');
 }
-const lengthHere = () => desk.state.sequences.find(one => one[0] === desk.view.sequence)[1];
 
 export function editColumn(column) {
   if (!main() && !desk.draft) { flash('Select a record first.'); return; }
@@ -261,7 +257,4 @@ export function select(record, more = false) {
   render();
 }
 
-export function reach(row) {
-  go([row[0], +row[1], +row[2]], true);
-  select(row);
-}
+export const reach = row => { goTo(row); select(row); };

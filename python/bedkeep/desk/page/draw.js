@@ -301,7 +301,7 @@ export class Drawing {
       d: `M${this.x(shape.summit + .5).toFixed(1)} ${top - 3}l3 4l-3 4l-3 -4zM${this.x(shape.summit + .5).toFixed(1)} ${top}v${BOX}` }));
     const thin = shape.blocks.length > 1 || shape.thick && shape.thick[0] === shape.thick[1];
     if (name && high > 0) group.append(make('text', inside && !thin ? { class: 'in', x: Math.max(low, 0) + 7, y: top + 11.5 }
-      : { class: inside ? 'on' : 'out', x: inside ? Math.max(low, 0) + 7 : Math.min(high, this.width) + 4, y: top + 11.5 }, name));
+      : { class: inside ? 'on' : 'out', x: inside ? Math.max(low, 0) + 7 : Math.min(high, this.width) + 7, y: top + 11.5 }, name));
     if (handles) group.append(...this.handles(record, shape, top));
     return group;
   }

@@ -3,7 +3,7 @@ import { ASKS, WORDS, amend, changeOf, draftOf, letGo, remove, save, several, ti
 import { button, byId, columns, current, desk, el, focusOn, hand, key, main, movesOf, name, parts } from './state.js';
 import { decision, isOffered } from './decide.js';
 import { extras, goIfFar, goTo, inSight, render } from './view.js';
-import { counted, difference, hasHidden, lineShown, nameOf, number, short, shown } from './text.js';
+import { counted, difference, hasHidden, lineShown, nameOf, number, short, shown, told } from './text.js';
 
 const SIX = 6;
 const SIZES = ['wide', '', '', 'wide', 'slim', 'tiny'];
@@ -147,23 +147,26 @@ export function verdictHere() {
   if (!box || !draft) return;
   const { verdict } = draft, save = byId('save');
   if (save) save.disabled = Boolean(verdict && (verdict.refused || verdict.same));
-  if (!verdict || verdict.same) { box.replaceChildren(); return; }
+  if (!verdict || verdict.same) { box.replaceChildren(verdict ? el('p', { class: 'quiet' }, 'Nothing changes.') : ''); return; }
   hand.className = verdict.refused ? 'refused' : 'fits';
   box.replaceChildren(...(verdict.refused ? refusal(verdict.refused) : fit(verdict)));
   follow(draft, verdict);
 }
 
 const refusal = refused => refused.flatMap(({ message, reason, says, offers }) =>
-  [el('p', { class: 'verdict no' }, '✗ Refused: ', short(shown(message || reason), 400)),
-  says.length ? el('ul', { class: 'says' }, says.map(one => el('li', {}, parts(one)))) : '',
-  offers.length ? el('ul', { class: 'offers' }, offers.map(offer => el('li', {}, el('button', { type: 'button', onclick: () => takeOffer(offer) },
-    offer.lines.map(line => el('code', {}, lineShown(line))), offer.note ? el('small', {}, parts(offer.note)) : null)))) : '']);
+  [el('p', { class: 'verdict no' }, isOffered(current()) ? '✗ No longer, after an earlier decision: ' : '✗ Refused: ', short(shown(message || reason), 400)),
+  says.length ? el('ul', { class: 'says' }, says.map(one => el('li', {}, parts(one)))) : '', ...offersOf(offers, 'Fits instead:')]);
+
+// Lines to take, each as a button.
+export const offersOf = (offers, title) => offers.length ? [el('p', { class: 'quiet' }, title), el('ul', { class: 'offers' }, offers.map(offer =>
+  el('li', {}, button([...offer.lines.map(line => el('b', { class: 'name' }, told(line, columns()))), offer.note ? el('small', {}, parts(offer.note)) : null], '',
+    () => takeOffer(offer)))))] : [];
 
 function fit(verdict) {
   const { went, came } = movesOf(verdict), one = went.length === 1 && came.length === 1, there = verdict.there.length;
-  const told = one ? difference(went[0], came[0], columns()) : verdict.given.length > 1 ? `${counted(verdict.given.length, 'line')} together, all or none` : '';
+  const what = one ? difference(went[0], came[0], columns()) : verdict.given.length > 1 ? `${counted(verdict.given.length, 'line')} together, all or none` : '';
   return [el('p', { class: 'verdict' }, el('span', { class: there ? 'meant' : 'yes' }, there ? 'Already there, so nothing is done' : '✓ Fits'),
-    el('small', {}, told)),
+    el('small', {}, what)),
     ...verdict.said.map(text => el('p', { class: 'quiet' }, short(shown(text), 300))),
       ...verdict.warnings.map(text => el('p', { class: 'meant' }, shown(text))), changed(verdict)];
 }
@@ -190,20 +193,21 @@ function changed({ changes, compared }) {
     el('div', { class: 'beside' }, el('div', {}, some(went, 'went', '−')), el('div', {}, some(came, 'came', '+'))))));
 }
 
-// A line of the script, typed.
+// A line of the script, typed; or the lines of a paragraph, which are done together.
 export function raw(text = '') {
-  desk.draft = null;
-  const input = el('input', { id: 'raw', 'aria-label': 'a line of a script', placeholder: 'add chr1 100 200 geneA · resize chr1 5000 · removeb ..',
-    autocomplete: 'off', spellcheck: 'false', value: text });
-  const begin = event => {
+  const count = text.split('\n').length, begin = event => {
+    const lines = input.value.split('\n').filter(line => line.trim());
     event.preventDefault();
-    if (!input.value.trim()) return;
-    draftOf([input.value.includes('\t') ? input.value : input.value.trim().split(/\s+/).join('\t')]);
+    if (!lines.length) return;
+    draftOf(lines.map(line => line.includes('\t') ? line : line.trim().split(/\s+/).join('\t')));
     inHand();
     focusOn('why');
   };
+  const input = el(count > 1 ? 'textarea' : 'input', { id: 'raw', 'aria-label': 'lines of a script', placeholder: 'add chr1 100 200 geneA · resize chr1 5000 · removeb ..',
+    autocomplete: 'off', spellcheck: 'false', rows: count > 1 && count, value: text, onkeydown: event => { if (event.key === 'Enter' && !event.shiftKey) begin(event); } });
+  desk.draft = null;
   hand.className = '';
-  hand.replaceChildren(el('h2', {}, 'A line of the script', el('small', {}, 'spaces or TABs between the fields')),
+  hand.replaceChildren(el('h2', {}, count > 1 ? `${counted(count, 'line')} that are done together` : 'A line of the script', el('small', {}, 'spaces or TABs between the fields')),
     el('form', { class: 'why', onsubmit: begin }, input, el('button', { class: 'main' }, 'Try ', key('Enter'))));
   input.focus();
 }

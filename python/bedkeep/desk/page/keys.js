@@ -49,11 +49,11 @@ document.addEventListener('keydown', event => {
 });
 
 function escape() {
-  const focused = document.activeElement;
+  const focused = document.activeElement, isTyped = focused.matches('input, textarea');
   foundBox.hidden = true;
-  if (desk.draft || focused.matches('input')) focused.blur();
+  if (desk.draft || isTyped) focused.blur();
   if (desk.draft) letGo();
-  else if (focused.matches('input')) { if (byId('raw')) inHand(); } else if (desk.item !== null) choose(null); else select(null);
+  else if (isTyped) { if (byId('raw')) inHand(); } else if (desk.item !== null) choose(null); else select(null);
 }
 
 // The arrows go from tab to tab of the lists.

@@ -3,7 +3,7 @@
 export const rowsOf = text => text ? text.replace(/\n$/, '').split('\n').map(row => row.split('\t')) : [];
 export const keyOf = record => record.join('\t');
 
-const SIX = 6;
+export const SIX = 6;
 const NAMES = { BED8: ['thickStart', 'thickEnd'], BED9: ['thickStart', 'thickEnd', 'itemRgb'], BED12: ['thickStart', 'thickEnd', 'itemRgb', 'blocks'],
   narrowPeak: ['signalValue', 'pValue', 'qValue', 'summit'], broadPeak: ['signalValue', 'pValue', 'qValue'] };
 const listed = text => (text || '').replace(/,$/, '').split(',').map(Number);

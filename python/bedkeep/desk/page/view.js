@@ -131,6 +131,7 @@ function ghosts() {
   const { draft } = desk, item = current();
   if (!draft) return item && item.state === 'open' ? item.lines.filter(line => line.asked).map(line =>
     ({ record: line.asked, mark: 'refused', word: 'asked for' })) : [];
+  if (draft.verdict && draft.verdict.same) return [];
   const { went, came } = movesOf(draft.verdict || draft.before), isPlain = draft.fresh && columns().length <= 6;
   if (went.length + came.length && !(draft.verdict && draft.verdict.refused) && !isPlain) {
     return [...went.map(record => ({ record, mark: 'removed', word: 'goes' })), ...came.map(record => ({ record, mark: 'added', word: '' }))];
@@ -148,7 +149,7 @@ export function inSight() {
   return came.length === 1 ? came[0] : draft && draft.fresh || main();
 }
 export const extras = record => record ? extrasOf(record, desk.state.format) : [];
-export const rowsSeen = () => desk.region && desk.region.mode === 'rows' ? rowsOf(desk.region.views.records) : [];
+export const rowsSeen = () => desk.region && desk.region.mode === 'rows' && desk.region.sequence === desk.view.sequence ? rowsOf(desk.region.views.records) : [];
 const resized = () => {
   const wide = stage.clientWidth !== drawing.width;
   Object.assign(drawing, { width: Math.max(200, stage.clientWidth), tall: stage.clientHeight });
