@@ -56,6 +56,27 @@ class Case(unittest.TestCase):
         """A context in which a line has to be refused for this reason."""
         return self.assertRaisesRegex(bedkeep.Refused, f"^line {number}: {reason}: ")
 
+    def refuses(self, reason, call, *words):
+        """That a call is refused for this reason."""
+        with self.refused(reason):
+            call(*words)
+
+    def failure(self, kind, call, *words, **options):
+        """What a call raises, which has to be of this kind."""
+        with self.assertRaises(kind) as caught:
+            call(*words, **options)
+        return caught.exception
+
+    def each(self, call, cases):
+        """That a call gives each answer. cases: the words of a call, and the answer"""
+        for *words, answer in cases:
+            with self.subTest(words):
+                self.assertEqual(call(*words), answer)
+
+    def listed(self, call, cases):
+        """The same of a call with one word that answers with a list."""
+        self.each(call, ((word, answer) for word, *answer in cases))
+
 
 class Prompt(Case):
     """A test of the prompt over the files of the folder."""
@@ -100,6 +121,10 @@ class Prompted(Case):
             yield says
         self.assertEqual(left, [])
 
+    def has(self, *script):
+        """That the script has these lines, with spaces for TABs."""
+        self.assertEqual(self.path.read_text(), script_of("\n".join(script)) if script else "")
+
 
 class Corrected(Case):
     """A test of commands over the texts of a BED file and of a script."""
@@ -110,6 +135,8 @@ class Corrected(Case):
         outcome = Outcome(command, self.sizes, self.bed, corrections, *words)
         outcome.rows = outcome.out.replace("\t", " ").split("\n")[:-1]
         outcome.messages = [line.replace(f"{corrections}: ", "") for line in outcome.err.split("\n")[:-1]]
+        outcome.track, outcome.said = (outcome.status, outcome.rows), (outcome.status, outcome.messages)
+        outcome.carried = (*outcome.track, outcome.messages)
         return outcome
 
 
@@ -127,11 +154,23 @@ class Outcome:
         out.flush()
         self.out = out.buffer.getvalue().decode("utf-8", "surrogateescape")
         self.err = err.getvalue()
+        self.gave, self.failed = (self.status, self.out), (self.status, self.err)
+        self.all = (self.status, self.out, self.err)
+
+
+def line(text):
+    """A line with TABs for spaces."""
+    return "\t".join(text.split())
+
+
+def lines(*texts):
+    """The same of several."""
+    return list(map(line, texts))
 
 
 def tabs(text):
-    """Lines with TABs for spaces."""
-    return "".join("\t".join(line.split()) + "\n" for line in text.strip().split("\n"))
+    """The text of a file of such lines."""
+    return "".join(f"{one}\n" for one in lines(*text.strip().split("\n")))
 
 
 def script_of(text):

@@ -18,8 +18,7 @@ class Page(HTMLParser):
         self._open, self._article = [], ""
         self.feed(text)
         self.close()
-        if self._open:
-            self.faults.append(f"left open: {self._open}")
+        self.faults += [f"left open: {tag}" for tag in self._open]
 
     def handle_starttag(self, tag, attributes):
         self._element(tag, dict(attributes), attributes)
@@ -37,14 +36,12 @@ class Page(HTMLParser):
                 self.faults.append(f"no name of an attribute, in {tag}: {name!r}")
             if value and value.endswith("/") and tag in ("path", "rect", "text"):
                 self.faults.append(f"an end in an attribute of {tag}: {value!r}")
-        if "id" in named:
-            if named["id"] in self.ids:
-                self.faults.append(f"twice: {named['id']}")
-            self.ids.add(named["id"])
+        if named.get("id", "") in self.ids:
+            self.faults.append(f"twice: {named['id']}")
+        self.ids.update([named["id"]] if "id" in named else [])
         if tag == "article":
             self._article = named["id"]
-            self.articles[self._article] = named
-            self.texts[self._article] = ""
+            self.articles[self._article], self.texts[self._article] = named, ""
 
     def handle_endtag(self, tag):
         if not self._open or self._open.pop() != tag:
@@ -59,10 +56,6 @@ class Page(HTMLParser):
             self.faults.append(f"text outside: {data!r}")
 
     def handle_comment(self, data):
-        self.faults.append(f"a comment: {data!r}")
+        self.faults.append(f"a comment, a declaration or an instruction: {data!r}")
 
-    def unknown_decl(self, data):
-        self.faults.append(f"a declaration: {data!r}")
-
-    def handle_pi(self, data):
-        self.faults.append(f"an instruction: {data!r}")
+    unknown_decl = handle_pi = handle_comment

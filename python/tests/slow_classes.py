@@ -1,133 +1,63 @@
-"""A slow model of how lines of corrections are carried out and classified: lists of columns, looked through for each line.
+"""A slow model of how lines of corrections are classified over a release: lists of records, looked through for each line.
 
-A record is a tuple of six columns and a tail, which is a tuple of further columns of text.
+Lines are carried out by the model of a track. A record is a tuple of six columns and a tail, which is a tuple of further columns.
 """
-from collections import Counter
-from copy import deepcopy
+from itertools import groupby
 
-NAMELESS = ("", ".")
+import slow_track
+from slow_track import DONE, THERE, distance, overlap, paragraphs
+
 DOABLE = ("fits", "already there", "fits but for", "already so", "changed", "moved", "follows")
 
 
+class Track(slow_track.Slow):
+    """A track of which equal copies are taken in the order in which they came."""
+
+    def turn(self, copy):
+        return -copy.put, -copy.place
+
+    def entries(self):
+        """The records that are there with their tails, and whether a line put them there."""
+        return [(copy.row[:6], copy.row[6:], copy.put) for copy in self.now()]
+
+
 class Edit:
-    """A line. good: whether its records may be records; group: a number for the lines that are done together, or None."""
+    """A line. good: whether its records may be records; together: the numbers of the lines that are done with it, if they are"""
 
-    def __init__(self, number, command, old=None, old_tail=None, new=None, new_tail=None, good=True, group=None):
-        self.number, self.command, self.good, self.group = number, command, good, group
-        self.old, self.old_tail, self.new, self.new_tail = old, old_tail, new, new_tail
-
-    @property
-    def text(self):
-        parts = [self.command]
-        for record, tail in (self.old, self.old_tail), (self.new, self.new_tail):
-            parts += [*(record or ()), *(tail or ())]
-        return "\t".join(parts)
-
-
-def distance(one, other):
-    return abs(int(one[1]) - int(other[1])) + abs(int(one[2]) - int(other[2]))
-
-
-def overlap(one, other):
-    return one[0] == other[0] and max(int(one[1]), int(other[1])) < min(int(one[2]), int(other[2]))
-
-
-def units(script):
-    """The lines, those of a group together."""
-    listed = []
-    for edit in script:
-        if edit.group is not None and listed and listed[-1][-1].group == edit.group:
-            listed[-1].append(edit)
-        else:
-            listed.append([edit])
-    return listed
-
-
-class State:
-    """Copies of records, with the line that put each there, or 0."""
-
-    def __init__(self, records):
-        self.now = [(record, tail, 0) for record, tail in records]
-        self.net, self.highest = Counter(), Counter()
-
-    def entry(self, record, tail):
-        return next((one for one in self.now if one[0] == record and tail in (None, one[1])), None)
-
-    def do(self, number, old, old_tail, new, new_tail, default):
-        tail = default
-        if old:
-            taken = self.entry(old, old_tail)
-            self.now.remove(taken)
-            self.net[old] -= 1
-            tail = taken[1]
-        if new:
-            self.now.append((new, tail if new_tail is None else new_tail, number))
-            self.net[new] += 1
-            self.highest[new] = max(self.highest[new], self.net[new])
-
-    def taken(self, record):
-        """The copies of a record that lines took and that haven't come back."""
-        return self.highest[record] - self.net[record]
-
-    def there(self, edit, near):
-        """What keeps an `add` from being done: the record, and whether it is exactly there. near: whether another may be there."""
-        if self.taken(edit.new):
-            return None
-        if self.entry(edit.new, edit.new_tail):
-            return edit.new, True
-        beside = [one for one in dict.fromkeys(entry[0] for entry in self.now)
-                  if near and one[3] == edit.new[3] and one[3] not in NAMELESS and overlap(one, edit.new)
-                  and not self.taken(one) and max(self.net[one], 0) < sum(entry[0] == one for entry in self.now)]
-        return (min((distance(one, edit.new), one) for one in beside)[1], False) if beside else None
-
-
-def carried(records, script, copies, default, near=True):
-    """The verdicts by numbers, `done`, `bad`, `absent`, `there`, `differs` or `apart`, and the state afterwards."""
-    state, verdicts = State(records), {}
-    for together in units(script):
-        before = deepcopy(state)
-        for edit in together:
-            there = None if copies or not edit.good or edit.old else state.there(edit, near)
-            if not edit.good:
-                verdicts[edit.number] = "bad"
-            elif there:
-                verdicts[edit.number] = "there" if there[1] else "differs"
-            elif edit.old and not state.entry(edit.old, edit.old_tail):
-                verdicts[edit.number] = "absent"
-            else:
-                verdicts[edit.number] = "done"
-                state.do(edit.number, edit.old, edit.old_tail, edit.new, edit.new_tail, default)
-        if together[0].group is not None and any(verdicts[edit.number] in ("bad", "absent", "differs") for edit in together):
-            state = before
-            for edit in together:
-                verdicts[edit.number] = "apart" if verdicts[edit.number] == "done" else verdicts[edit.number]
-    return verdicts, state
+    def __init__(self, track, number, text, together):
+        self.number, self.text, self.together = number, text, together
+        self.command, *fields = text.split("\t")
+        halves = track.halves(self.command, fields) or ()
+        self.good = bool(halves) and all(map(track.is_record, halves))
+        parts = [(tuple(half[:6]), tuple(half[6:]) or None) for half in halves]
+        self.old, self.old_tail = parts[0] if parts and self.command != "add" else (None, None)
+        self.new, self.new_tail = parts[-1] if parts and self.command != "remove" else (None, None)
 
 
 class Slow:
-    """Classifies lines. ignore: the places of the columns that may differ; default: the tail of a record without one; near: whether
-    an `add` isn't done beside a record of its name."""
+    """Classifies lines. ignore: the places of the columns that may differ; copies, near: as of a track"""
 
-    def __init__(self, records, script, lengths, ignore, copies, default, near=True):
-        self.script, self.lengths, self.ignore, self.copies, self.default, self.near = script, lengths, set(ignore), copies, default, near
-        self.verdicts, self.after = carried(records, script, copies, default, near)
-        self.state = State(records)
+    def __init__(self, text, script, lengths, ignore, copies, near=True):
+        self.lengths, self.ignore, self.copies = lengths, set(ignore), copies
+        self.state, self.after = (Track(text, lengths, "", copies, near) for _ in range(2))
+        self.verdicts, lines = self.after.run(script), script.split("\n")
+        groups = [group.numbers if group.together else () for group in paragraphs(lines) for number in group.numbers]
+        self.script = [Edit(self.state, number, lines[number - 1], group) for number, group in zip(self.verdicts, groups)]
         self.so = None  # the record, with its tail, that has what the last line changes
         self.events = []  # (line, "took" or "put" or "heir" or "pending", the record as the line has it, what it is about)
 
     def all(self):
         """For each line: the class, the record there, the line that it is about, the text of the mended line."""
         findings = []
-        for together in units(self.script):
-            before = deepcopy((self.state, self.events))
-            found = []
+        for _, together in groupby(self.script, key=lambda edit: edit.together or edit.number):
+            before, events, found, together = self.state.state(), list(self.events), [], list(together)
             for edit in together:
                 found.append(self.look(edit))
                 self.carry_out(edit, found[-1])
             wrong = [edit.number for edit, one in zip(together, found) if one[0] not in DOABLE]
-            if together[0].group is not None and wrong:
-                self.state, self.events = before
-                self.events += [(edit.number, "pending", edit.new, None) for edit in together if edit.good and edit.new]
+            if together[0].together and wrong:
+                self.state.restore(before)
+                self.events = events + [(edit.number, "pending", edit.new, None) for edit in together if edit.good and edit.new]
                 found = [("conflict", one[1], wrong[0], "") if one[0] in DOABLE and not one[0].startswith("already") else one for one in found]
             findings += found
         return [self.elsewhere(edit, finding) for edit, finding in zip(self.script, findings)]
@@ -145,20 +75,21 @@ class Slow:
             edit = self.below(edit, edit.new)
 
     def of_file(self, record, tail):
-        return next((entry[:2] for entry in self.state.now if entry[0] == record and tail in (None, entry[1]) and not entry[2]), None)
+        entries = [entry[:2] for entry in self.state.entries() if entry[0] == record and not entry[2]]
+        return next((entry for entry in entries if tail in (None, entry[1])), None)
 
     def look(self, edit):
         if not edit.good:
             return "bad line", None, None, ""
-        refused = self.verdicts[edit.number] not in ("done", "there")
+        refused = self.verdicts[edit.number] not in (DONE, THERE)
         so = next(filter(None, (self.of_file(*version) for version in self.outcomes(edit))), None)
         if edit.old is None:
             return self.added(edit, refused, so)
-        if self.state.entry(edit.old, edit.old_tail):
+        if self.state.find(edit.old + (edit.old_tail or ())):
             maker = self.last("put", edit.old)
             return ("follows", edit.old, maker and maker[0], "") if refused else ("fits", None, None, "")
         heir = self.last("heir", edit.old)
-        if heir and heir[3] and heir[3] in [entry[:2] for entry in self.state.now]:
+        if heir and heir[3] and heir[3] in [entry[:2] for entry in self.state.entries()]:
             maker = self.last("put", heir[3][0])
             return (*self.merged(edit, heir[3])[:2], maker and maker[0], self.merged(edit, heir[3])[3])
         pending = self.last("pending", edit.old)
@@ -175,9 +106,9 @@ class Slow:
 
     def added(self, edit, refused, so):
         plain = ("follows" if refused else "fits", None, None, "")
-        if self.copies or self.state.taken(edit.new):
+        if self.copies or self.state.out.get(edit.new):
             return plain
-        there = self.state.there(edit, self.near)
+        there = self.state.there(edit.new + (edit.new_tail or ()))
         if there and there[1]:
             return "already there", edit.new, None, ""
         if so:
@@ -187,7 +118,7 @@ class Slow:
     def free(self, edit):
         """The records of the file that overlap that of a line, and that no other line names."""
         found = []
-        for record, tail, line in self.state.now:
+        for record, tail, line in self.state.entries():
             others = [(other.old, other.old_tail) for other in self.script if other is not edit and other.good]
             others += [(other.new, other.new_tail) for other in self.script if other is not edit and other.good]
             named = any(one == record and (edit.old_tail is None or of in (None, tail)) for one, of in others)
@@ -195,7 +126,7 @@ class Slow:
             if not line and overlap(record, edit.old) and not named and (record if edit.old_tail is None else (record, tail)) not in known:
                 found.append((record, tail))
         first = {}
-        for record, tail, line in self.state.now:
+        for record, tail, line in self.state.entries():
             if not line:
                 first.setdefault(record, tail)
         return [(record, first[record]) for record, _ in found] if edit.old_tail is None else found
@@ -206,7 +137,7 @@ class Slow:
         agree = [one for one in beside if one[0] != old and all(one[0][at] == old[at] or at in may for at in range(6))]
         if len(agree) == 1:
             return self.merged(edit, agree[0])
-        if old[3] not in NAMELESS:
+        if old[3] != ".":
             likely = [one for one in self.free(edit) if one[0][3] == old[3]]
         else:
             likely = [one for one in self.free(edit) if edit.new and (one[0][:3] == old[:3] or one[0][3:] == old[3:])]
@@ -257,29 +188,25 @@ class Slow:
             self.events.append((edit.number, "heir", edit.new, self.so))
         if not mended and kind not in ("fits", "follows"):
             return
-        old, old_tail, new, new_tail = edit.old, edit.old_tail, edit.new, edit.new_tail
-        if mended:
-            columns = mended.split("\t")[1:]
-            width = 6 + (len(self.default) if edit.old_tail is not None else 0)
-            old, old_tail = tuple(columns[:6]), tuple(columns[6:width]) if edit.old_tail is not None else None
-            new, new_tail = tuple(columns[width:width + 6]) or None, tuple(columns[width + 6:]) if edit.new_tail is not None else None
-        taken = self.state.entry(old, old_tail) if old else None
-        self.state.do(edit.number, old, old_tail, new, new_tail, self.default)
-        if old:
+        columns = (mended or edit.text).split("\t")[1:]
+        taken = self.state.find(tuple(columns[:len(edit.old + (edit.old_tail or ()))])) if edit.old else None
+        self.state.do(mended or edit.text)
+        if edit.old:
             self.events.append((edit.number, "took", edit.old, None))
             heir = self.last("heir", edit.old)
-            if heir and heir[3] == taken[:2]:
+            if heir and heir[3] == (taken[:6], taken[6:]):
                 self.events.append((edit.number, "heir", edit.old, None))
-        if new:
-            self.events.append((edit.number, "put", new, None))
-            self.events.append((edit.number, "heir", edit.new, (new, self.state.now[-1][1])))
+        if edit.new:
+            put = max(self.state.now(), key=lambda copy: copy.put).row
+            self.events.append((edit.number, "put", put[:6], None))
+            self.events.append((edit.number, "heir", edit.new, (put[:6], put[6:])))
 
     def elsewhere(self, edit, finding):
         """A record that is gone, and of whose name one is elsewhere that moved as a whole: a conflict."""
-        if finding[0] != "gone" or edit.old[3] in NAMELESS:
+        if finding[0] != "gone" or edit.old[3] == ".":
             return finding
         named = [record for other in self.script if other.good for record in (other.old, other.new)]
-        records = [entry[0] for entry in self.after.now if entry[0][3] == edit.old[3] and entry[0] not in named]
+        records = [entry[0] for entry in self.after.entries() if entry[0][3] == edit.old[3] and entry[0] not in named]
         others = [one for one in records if not overlap(one, edit.old)]
         if not others or len(records) > 64:
             return finding

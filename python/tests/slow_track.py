@@ -5,7 +5,8 @@ there already, which lines are done together, and where each record is written.
 """
 from bed_checks import peak_problems, problems
 
-DONE, THERE, REFUSED = "done", "there", "refused"
+DONE, THERE = "done", "there"
+BAD, ABSENT, DIFFERS, APART = "bad", "absent", "differs", "apart"  # the others are refused
 VIEWS = ("open", "close", "print", "printall", "show", "showall")
 
 
@@ -16,6 +17,14 @@ def is_whole(text):
 def plain(columns):
     """The columns as the program prints them: numbers without leading zeros."""
     return (columns[0], str(int(columns[1])), str(int(columns[2])), *columns[3:])
+
+
+def distance(one, other):
+    return abs(int(one[1]) - int(other[1])) + abs(int(one[2]) - int(other[2]))
+
+
+def overlap(one, other):
+    return one[0] == other[0] and max(int(one[1]), int(other[1])) < min(int(one[2]), int(other[2]))
 
 
 class Copy:
@@ -50,11 +59,60 @@ def paragraphs(lines):
     return [group for group in groups if group.numbers]
 
 
-class Slow:
-    """A file, and what the lines of a script make of it."""
+def lists_of(start, blocks, comma=""):
+    """The last three columns of BED12, of blocks as lists of bases."""
+    sizes, starts = (",".join(map(str, numbers)) + comma for numbers in (map(len, blocks), (block[0] - start for block in blocks)))
+    return str(len(blocks)), sizes, starts
 
-    def __init__(self, text, lengths, format, copies=False):
-        self.lengths, self.format, self.allows_copies = lengths, format, copies
+
+class Bases:
+    """What becomes of the bases of a BED12 record whose ends move, by the rules in words."""
+
+    def __init__(self, old, thick, blocks, new):
+        (start, end), (self.first, self.last) = old, new
+        by = self.first - start
+        self.is_shift = by == self.last - end
+        if self.is_shift:
+            self.blocks = [[base + by for base in block] for block in blocks]
+        elif len(blocks) == 1:
+            self.blocks = [list(range(*new))]
+        else:
+            self.blocks = [list(range(self.first, blocks[0][-1] + 1)), *map(list, blocks[1:-1]), list(range(blocks[-1][0], self.last))]
+        self.cut = [[base for base in block if self.first <= base < self.last] for block in self.blocks]
+        self.cut = [block for block in self.cut if block]
+        self.thick = tuple(self.moved(place, start, end, by) for place in thick)
+        inside = all(not place or self.first <= place <= self.last for place in self.thick)
+        self.blocks_fit = all(self.blocks) and [base for block in self.cut for base in block] == [
+            base for block in self.blocks for base in block] and self.cut[0][0] == self.first and self.cut[-1][-1] == self.last - 1
+        self.fits = self.blocks_fit and inside and self.thick[0] <= self.thick[1]
+
+    def moved(self, place, start, end, by):
+        if not start <= place <= end:
+            return place
+        if self.is_shift:
+            return place + by
+        return {start: self.first, end: self.last}.get(place, place)
+
+    def offer(self):
+        """The bases that are left between the new ends, and the coding part within them."""
+        if not self.cut:
+            return None
+        start, end = self.cut[0][0], self.cut[-1][-1] + 1
+        thick = self.thick
+        if thick != (0, 0):
+            coding = [base for base in range(*thick) if start <= base < end]
+            thick = (coding[0], coding[-1] + 1) if coding else (start, start)
+        return start, end, thick, self.cut
+
+
+class Slow:
+    """A file, and what the lines of a script make of it.
+
+    copies: whether what is there is added; near: whether a record isn't added beside another one of its name, which it may be
+    """
+
+    def __init__(self, text, lengths, format, copies=False, near=True):
+        self.lengths, self.format, self.allows_copies, self.near = lengths, format, copies, near
         self.lines = text.split("\n")
         self.lines = [f"{line}\n" for line in self.lines[:-1]] + ([self.lines[-1]] if self.lines[-1] else [])
         self.rows = [self.row_of(line) for line in self.lines]
@@ -77,9 +135,9 @@ class Slow:
             before = self.state()
             for number in group.numbers:
                 verdicts[number] = self.do(lines[number - 1])
-            if group.together and REFUSED in [verdicts[number] for number in group.numbers]:
+            if group.together and not {verdicts[number] for number in group.numbers} <= {DONE, THERE}:
                 self.restore(before)
-                verdicts.update((number, REFUSED) for number in group.numbers if verdicts[number] == DONE)
+                verdicts.update((number, APART) for number in group.numbers if verdicts[number] == DONE)
         return verdicts
 
     def state(self):
@@ -95,25 +153,21 @@ class Slow:
         command, *fields = line.split("\t")
         halves = self.halves(command, fields)
         if not halves or not all(map(self.is_record, halves)):
-            return REFUSED
+            return BAD
         halves = [plain(half) for half in halves]
         old = None if command == "add" else self.find(halves[0])
         if command != "add" and old is None:
-            return REFUSED
+            return ABSENT
         if command == "remove":
             self.move(old, None)
             return DONE
-        new = halves[-1]
-        if command == "add":
-            if not self.allows_copies:
-                verdict = self.is_there(new)
-                if verdict:
-                    return verdict
-            new = new if len(new) == self.width else new + self.default(new)
-        elif len(new) < self.width:
-            new = self.followed(old, new)
+        new, there = halves[-1], self.there(halves[0]) if command == "add" else None
+        if there:
+            return THERE if there[1] else DIFFERS
+        if len(new) < self.width:
+            new = self.followed(old, new) if old else new + self.default(new)
         if new is None or self.is_wrong(new):
-            return REFUSED
+            return BAD
         self.move(old, new)
         return DONE
 
@@ -158,7 +212,7 @@ class Slow:
         """
         self.clock += 1
         if old:
-            copy = max((one for one in self.now() if one.row == old), key=lambda one: (one.put, -one.place))
+            copy = max((one for one in self.now() if one.row == old), key=self.turn)
             copy.taken = copy.taken or self.clock
         else:
             removed = [one for one in self.copies if not one.row and one.last == new]
@@ -169,71 +223,61 @@ class Slow:
             if row:
                 self.out[row[:6]] = max(self.out.get(row[:6], 0) + by, 0)
 
-    def net(self, six):
-        """The copies of a record that the lines put, less those that they took."""
-        return sum(copy.row[:6] == six for copy in self.now()) - sum(bool(row) and row[:6] == six for row in self.rows)
+    def turn(self, copy):
+        """Which of equal copies is taken: that for which this is the greatest."""
+        return copy.put, -copy.place
 
-    def is_there(self, new):
-        """Whether a record that is added is there, or another one of the file that it may be."""
+    def there(self, new):
+        """What keeps a record from being added: the record that is there, and whether it is exactly that one.
+
+        Another one of the file that overlaps may be it, if it has its name and no line took a copy of it that hasn't come back.
+        """
         six = new[:6]
-        if self.out.get(six):
+        if self.allows_copies or self.out.get(six):
             return None
         if any(copy.row[:len(new)] == new for copy in self.now()):
-            return THERE
-        name = new[3] if len(new) > 3 else "."
-        for row in self.rows:
-            if (name != "." and row and row[3] == name and row[0] == new[0] and int(row[1]) < int(new[2]) and int(new[1]) < int(row[2])
-                    and self.net(row[:6]) >= 0):
-                return REFUSED
-        return None
+            return six, True
+        if not self.near or new[3:4] in ((), (".",)):
+            return None
+        likely = {row[:6] for row in self.rows if row and row[3] == new[3] and overlap(row, new)}
+        likely &= {copy.row[:6] for copy in self.now()}
+        beside = [(distance(one, new), one) for one in likely if not self.out.get(one)]
+        return (min(beside)[1], False) if beside else None
 
     # The columns after the sixth
 
     def default(self, new):
         start, end = new[1:3]
         return {"BED9": (start, end, "0"), "narrowPeak": ("0", "-1", "-1", "-1"),
-                "BED12": (start, end, "0", "1", str(int(end) - int(start)), "0")}.get(self.format, ())
+                "BED12": (start, end, "0", "1", str(int(end) - int(start)), "0")}.get(self.format, (".",) * (self.width - 6))
 
     def is_wrong(self, row):
+        """Why columns after the sixth of these formats can't hold."""
         text = "\t".join(row)
         if self.format == "narrowPeak":
             return peak_problems(text)
-        return problems(text, self.width) if self.width > 6 else []
+        return problems(text, self.width) if self.format in ("BED9", "BED12") else []
 
     def followed(self, old, new):
         """The new record with the columns after the sixth of the old one as they follow, or None."""
         start, end, first, last = (int(row[place]) for row in (old, new) for place in (1, 2))
-        by = first - start if first - start == last - end else 0
-
-        def moved(text):
-            place = int(text)
-            if by and start <= place <= end:
-                return str(place + by)
-            return str({start: first, end: last}.get(place, place)) if not by else text
-
+        if self.format not in ("BED9", "BED12", "narrowPeak"):
+            return new + old[6:]
         if self.format == "narrowPeak":
-            if by or old[9] == "-1":
+            if old[9] == "-1" or first - start == last - end:
                 return new + old[6:]
             offset = start + int(old[9]) - first
             return new + old[6:9] + (str(offset),) if 0 <= offset < last - first else None
-        tail = [moved(old[6]), moved(old[7]), *old[8:]]
-        if self.format == "BED12" and not by:
-            blocks = self.blocks(old, start)
-            if len(blocks) == 1:
-                blocks = [set(range(first, last))]
-            else:
-                blocks[0] = set(range(first, max(blocks[0]) + 1))
-                blocks[-1] = set(range(min(blocks[-1]), last))
-            if not all(blocks):
-                return None
-            comma = "," if old[10].endswith(",") else ""
-            tail[4] = ",".join(str(len(block)) for block in blocks) + comma
-            tail[5] = ",".join(str(min(block) - first) for block in blocks) + comma
-        return (*new, *tail)
-
-    def blocks(self, row, start):
-        sizes, starts = (list(map(int, text.rstrip(",").split(","))) for text in row[10:12])
-        return [set(range(start + place, start + place + size)) for size, place in zip(sizes, starts)]
+        blocks = [range(start, end)]
+        if self.format == "BED12":
+            sizes, starts = (list(map(int, text.rstrip(",").split(","))) for text in old[10:12])
+            blocks = [range(start + place, start + place + size) for size, place in zip(sizes, starts)]
+        bases = Bases((start, end), (int(old[6]), int(old[7])), blocks, (first, last))
+        thick = tuple(map(str, bases.thick))
+        if self.format != "BED12":
+            return new + thick + old[8:]
+        comma = "," if old[10].endswith(",") else ""
+        return new + thick + old[8:9] + lists_of(first, bases.blocks, comma) if bases.blocks_fit else None
 
     # Where each record is written
 

@@ -63,15 +63,11 @@ class Commands(Corrected):
         return self.file("again.bed", tabs(text))
 
     def test_no_other_record_is_removed(self):
-        lines, status, rows, again = self.mended(
-            "chr1 100 200 isoB\nchr1 500 600 g2",
-            "# isoA is an artefact\nremove chr1 100 200 isoA\nreplace chr1 500 600 g2 chr1 500 620 g2\n")
-        self.assertEqual((lines, status, rows, again), ([
-            "# isoA is an artefact", "# dropped: remove chr1 100 200 isoA", "replace chr1 500 600 g2 chr1 500 620 g2"], 1,
-            ["chr1 100 200 isoB", "chr1 500 620 g2"], 0))
-        for bed, script in (("chr1 150 260", "remove chr1 100 200\n"), ("chr1 900 950 MIR1", "remove chr1 100 200 MIR1\n")):
-            lines, status, rows, again = self.mended(bed, script)
-            self.assertEqual((lines, status, rows, again), ([f"# dropped: {script[:-1]}"], 1, [bed], 0))
+        script = "# isoA is an artefact\nremove chr1 100 200 isoA\nreplace chr1 500 600 g2 chr1 500 620 g2\n"
+        self.assertEqual(self.mended("chr1 100 200 isoB\nchr1 500 600 g2", script), (
+            script.replace("remove", "# dropped: remove").splitlines(), 1, ["chr1 100 200 isoB", "chr1 500 620 g2"], 0))
+        for bed, script in ("chr1 150 260", "remove chr1 100 200"), ("chr1 900 950 MIR1", "remove chr1 100 200 MIR1"):
+            self.assertEqual(self.mended(bed, script), ([f"# dropped: {script}"], 1, [bed], 0))
         self.assertIn("one of its name is at chr1 900 950", self.corrected("replay", bed, script).out)
 
     def test_a_mended_line_moves_along_or_is_a_conflict(self):
@@ -82,47 +78,38 @@ class Commands(Corrected):
             "# begins earlier", "# conflict: base chr1 500 600 g2 (start 500)", "# conflict: mine chr1 490 600 g2 (start 490)",
             "# conflict: theirs chr1 510 600 g2 (start 510)", "# replace chr1 500 600 g2 chr1 490 600 g2", "add chr1 1 2 x"], 1,
             ["chr1 1 2 x", "chr1 510 600 g2"], 0))
+        self.assertEqual(self.mended("chr1 510 600 g2", "add chr1 500 600 g2"), ([
+            "# conflict: the file has one of its name there", "# conflict: mine chr1 500 600 g2 (start 500)",
+            "# conflict: theirs chr1 510 600 g2 (start 510)", "# add chr1 500 600 g2"], 1, ["chr1 510 600 g2"], 0))
 
-    def test_what_is_there_is_not_added_once_more(self):
-        outcome = self.corrected("apply", "chr1 390 500 geneC", "add chr1 390 500 geneC\nadd chr1 0390 500 geneC\n")
-        self.assertEqual((outcome.status, outcome.rows, outcome.messages), (0, ["chr1 390 500 geneC"], [
-            "line 1: already there: chr1 390 500 geneC", "line 2: already there: chr1 390 500 geneC"]))
-        outcome = self.corrected("apply", "chr1 390 500 geneC", "add chr1 391 500 geneC\n")
-        self.assertEqual((outcome.status, outcome.rows, outcome.messages), (1, ["chr1 390 500 geneC"], [
-            "line 1: there with another start: chr1 390 500 geneC",
-            "  this would fit: replace chr1 390 500 geneC chr1 391 500 geneC"]))
-        outcome = self.corrected("apply", "chr1 390 500 geneC", "add chr1 391 500 geneC\nadd chr1 390 500 geneC\n", "--copies")
-        self.assertEqual((outcome.status, outcome.rows), (0, ["chr1 390 500 geneC", "chr1 390 500 geneC", "chr1 391 500 geneC"]))
-        for bed, script in ("chr1 390 500", "add chr1 391 500\n"), ("chr1 390 500 .", "add chr1 391 500 .\n"):
-            self.assertEqual(self.corrected("apply", bed, script).status, 0)
-
-    def test_a_place_in_one_field(self):
-        self.assertEqual(self.corrected("apply", "chr1 1 2 x", "add chr1:10-20 x\n").messages,
-                         ["line 1: wrong number of columns: 2 fields; 4 are needed; chr1:10-20 is three fields"])
-
-    def test_what_was_taken_out_may_come_back(self):
-        """Also among copies, and beside a record of its name."""
-        bed = "chr1 390 500 geneC\nchr1 390 500 geneC\nchr1 400 500 geneC"
-        outcome = self.corrected("apply", bed, "remove chr1 390 500 geneC\nadd chr1 390 500 geneC\nadd chr1 390 500 geneC\n")
-        self.assertEqual((outcome.status, outcome.messages), (0, ["line 3: already there: chr1 390 500 geneC"]))
-        self.assertEqual(sorted(outcome.rows), sorted(bed.split("\n")))
-        outcome = self.corrected("apply", "chr1 100 200 A", "# together: two\nreplace chr1 100 200 A chr1 100 150 A\nadd chr1 140 200 A\n")
-        self.assertEqual((outcome.status, outcome.rows), (0, ["chr1 100 150 A", "chr1 140 200 A"]))
-
-    def test_what_an_edit_put_there_may_come_back(self):
-        """As the undo of another day writes it: beside a record of its name that overlaps."""
-        script = "replace chr1 100 200 A chr1 110 200 A\nremove chr1 110 200 A\nadd chr1 110 200 A\nadd chr1 110 200 A\n"
-        outcome = self.corrected("apply", "chr1 100 200 A\nchr1 150 300 A", script)
-        self.assertEqual((outcome.status, outcome.rows, outcome.messages), (0, ["chr1 110 200 A", "chr1 150 300 A"], [
-            "line 4: already there: chr1 110 200 A"]))
-
-    def test_a_group_puts_what_it_adds_again(self):
-        """With the columns after the sixth that followed."""
-        bed = "chr1 100 200 A 0 + 100 200 0 1 100 0\nchr1 500 600 B 0 + 500 600 0 1 100 0"
-        script = "# together: x\nreplace chr1 100 200 A 0 + chr1 110 200 A 0 +\nadd chr1 110 200 A 0 + 110 200 0 1 90 0\n"
-        outcome = self.corrected("apply", bed, script)
-        self.assertEqual((outcome.status, outcome.rows, outcome.messages), (0, [
-            "chr1 110 200 A 0 + 110 200 0 1 90 0", bed.split("\n")[1]], ["line 3: already there: chr1 110 200 A 0 +"]))
+    def test_what_apply_makes(self):
+        """A line that adds what is there isn't done; but what was taken out may come back."""
+        c, after, together = "chr1 390 500 geneC", "chr1 391 500 geneC", "# together: two\n"
+        a, shorter, other = "chr1 100 200 A", "chr1 110 200 A", "chr1 150 300 A"
+        wide, followed = f"{a} 0 + 100 200 0 1 100 0", f"{shorter} 0 + 110 200 0 1 90 0"
+        for bed, script, status, rows, *messages in (
+                (c, f"add {c}\nadd chr1 0390 500 geneC", 0, c, f"line 1: already there: {c}", f"line 2: already there: {c}"),
+                (c, f"add {after}", 1, c, f"line 1: there with another start: {c}", f"  this would fit: replace {c} {after}"),
+                ("chr1 390 500", "add chr1 391 500", 0, "chr1 390 500\nchr1 391 500"),  # without a name it may be another one
+                ("chr1 390 500 .", "add chr1 391 500 .", 0, "chr1 390 500 .\nchr1 391 500 ."),
+                # Among copies, and beside a record of its name.
+                (f"{c}\n{c}\nchr1 400 500 geneC", f"remove {c}\nadd {c}\nadd {c}", 0, f"{c}\n{c}\nchr1 400 500 geneC",
+                 f"line 3: already there: {c}"),
+                (a, f"{together}replace {a} chr1 100 150 A\nadd chr1 140 200 A", 0, "chr1 100 150 A\nchr1 140 200 A"),
+                # As the undo of another day writes it: beside a record of its name that overlaps.
+                (f"{a}\n{other}", f"replace {a} {shorter}\nremove {shorter}\nadd {shorter}\nadd {shorter}", 0, f"{shorter}\n{other}",
+                 f"line 4: already there: {shorter}"),
+                # With the columns after the sixth that followed.
+                (wide, f"{together}replace {a} 0 + {shorter} 0 +\nadd {followed}", 0, followed, f"line 3: already there: {shorter} 0 +"),
+                # A group is done whole or not at all.
+                (f"{a}\nchr1 300 400 B", "# together: split\nremove chr1 300 400 B\nadd chr1 101 200 A\nremove chr1 3O 400 C", 1,
+                 f"{a}\nchr1 300 400 B", "line 2: not done, since line 3 is refused", f"line 3: there with another start: {a}",
+                 f"  this would fit: replace {a} chr1 101 200 A", "line 4: start is not a number: '3O' (start, field 3)"),
+                ("chr1 1 2 x", "add chr1:10-20 x", 1, "chr1 1 2 x",
+                 "line 1: wrong number of columns: 2 fields; 4 are needed; chr1:10-20 is three fields")):
+            with self.subTest(script=script):
+                self.assertEqual(self.corrected("apply", bed, script).carried, (status, rows.split("\n"), messages))
+        self.assertEqual(self.corrected("apply", c, f"add {after}\nadd {c}", "--copies").track, (0, [c, c, after]))
 
     def test_columns_after_the_sixth_count(self):
         """A line that gives them names a record by all of them; the next release's are merged field by field."""
@@ -130,61 +117,39 @@ class Commands(Corrected):
         release = "chr1 100 200 g 0 + 110 190 0 3 10,30,20, 0,40,80,"
         script = f"replace {old} {mine}\n"
         outcome = self.corrected("apply", release, script)
-        self.assertEqual((outcome.status, outcome.rows), (1, [release]))
-        self.assertIn("line 1: no such record: chr1 100 200 g 0 +: the record is there with thickStart 110 instead of 120", outcome.messages[0])
-        lines, status, rows, again = self.mended(release, script)
-        self.assertEqual((lines, status, rows, again), ([f"# was: replace {old} {mine}", f"replace {release} {release.replace('g 0', 'g 5')}"],
-                                                        1, [release.replace("g 0", "g 5")], 0))
-        self.assertEqual(self.corrected("apply", release, f"remove {old}\n").status, 1)
+        self.assertEqual(outcome.track, (1, [release]))
+        self.assertIn("no such record: chr1 100 200 g 0 +: the record is there with thickStart 110 instead of 120", outcome.messages[0])
+        merged = release.replace("g 0", "g 5")
+        self.assertEqual(self.mended(release, script), ([f"# was: {script[:-1]}", f"replace {release} {merged}"], 1, [merged], 0))
+        self.assertEqual(self.corrected("apply", release, f"remove {old}\n").track, (1, [release]))
         both = mine.replace("120 180", "130 180")
-        lines, status, rows, again = self.mended(release, f"replace {old} {both}\n")
-        self.assertEqual((lines[-1], lines[1], status, rows), (f"# replace {old} {both}", f"# conflict: mine {both} (thickStart 130)", 1, [release]))
+        lines, status, rows, _ = self.mended(release, f"replace {old} {both}\n")
+        self.assertEqual((lines[1], lines[-1], status, rows),
+                         (f"# conflict: mine {both} (thickStart 130)", f"# replace {old} {both}", 1, [release]))
 
     def test_a_shift_that_the_release_made_too(self):
         """It isn't done twice, also in a chain."""
-        lines, status, rows, again = self.mended("chr1 141 161\nchr1 175 196", "replace chr1 175 195 chr1 171 191\nreplace chr1 171 191 chr1 141 161\n")
-        self.assertEqual((lines, rows), (["# dropped: replace chr1 175 195 chr1 171 191", "# dropped: replace chr1 171 191 chr1 141 161"],
-                                         ["chr1 141 161", "chr1 175 196"]))
-        script = ("replace chr1 37 87 e chr1 28 78 e\nreplace chr1 28 78 e chr1 37 87 e\nreplace chr1 37 87 e chr1 37 87 b\n"
-                  "replace chr1 37 87 b chr1 40 90 b\n")
-        lines, status, rows, again = self.mended("chr1 40 90 b", script)
-        self.assertEqual((lines, rows), ([f"# dropped: {line}" for line in script.split("\n")[:-1]], ["chr1 40 90 b"]))
-        lines, status, rows, again = self.mended("chr1 110 210 g 7", "replace chr1 100 200 g 5 chr1 110 210 g 5\n")
-        self.assertEqual((lines, rows), (["# dropped: replace chr1 100 200 g 5 chr1 110 210 g 5"], ["chr1 110 210 g 7"]))
-
-    def test_the_second_file(self):
-        second = self.file("second", tabs("chr1 1 5 a\nchr1 1 5 a\nchr1 1 5 b"))
-        script = "addb chr1 1 5 a\nremoveb chr1 1 5 a\naddb chr1 1 5 a\naddb chr1 1 5 a\naddb chr1 1 5 c\n"
-        outcome = self.corrected("apply", "chr1 1 2 x", script, "-b", second)
-        self.assertEqual((outcome.status, outcome.messages), (0, [
-            "line 1: already there: chr1 1 5 a", "line 4: already there: chr1 1 5 a"]))
-        self.assertIn("2 already there, 3 fits", self.corrected("replay", "chr1 1 2 x", script, "-b", second).out)
+        for bed, script in (
+                ("chr1 141 161\nchr1 175 196", "replace chr1 175 195 chr1 171 191\nreplace chr1 171 191 chr1 141 161"),
+                ("chr1 40 90 b", "replace chr1 37 87 e chr1 28 78 e\nreplace chr1 28 78 e chr1 37 87 e\n"
+                                 "replace chr1 37 87 e chr1 37 87 b\nreplace chr1 37 87 b chr1 40 90 b"),
+                ("chr1 110 210 g 7", "replace chr1 100 200 g 5 chr1 110 210 g 5")):
+            dropped = [f"# dropped: {line}" for line in script.split("\n")]
+            self.assertEqual(self.mended(bed, script), (dropped, 1, bed.split("\n"), 0))
 
     def test_a_group_is_done_whole_or_not_at_all(self):
-        script = "# together: one gene\nreplace chr1 100 200 A chr1 100 400 A\nremove chr1 300 400 B\n\nadd chr1 1 2 x\n"
-        bed = "chr1 100 210 A\nchr1 300 400 B"
-        outcome = self.corrected("apply", bed, script)
-        self.assertEqual((outcome.status, outcome.messages, outcome.rows), (1, [
-            "line 2: no such record: chr1 100 200 A", "line 3: not done, since line 2 is refused"], ["chr1 1 2 x", *bed.split("\n")]))
-        outcome = self.corrected("apply", "chr1 100 200 A\nchr1 300 400 B", script)
-        self.assertEqual((outcome.status, outcome.rows), (0, ["chr1 1 2 x", "chr1 100 400 A"]))
-        lines, status, rows, again = self.mended("chr1 100 410 A\nchr1 300 400 B", script)
-        self.assertEqual((lines, status, rows, again), ([
+        added, other = "chr1 1 2 x", "chr1 300 400 B"
+        script = f"# together: one gene\nreplace chr1 100 200 A chr1 100 400 A\nremove {other}\n\nadd {added}"
+        self.assertEqual(self.corrected("apply", f"chr1 100 210 A\n{other}", script).carried, (1, [added, "chr1 100 210 A", other], [
+            "line 2: no such record: chr1 100 200 A", "line 3: not done, since line 2 is refused"]))
+        self.assertEqual(self.corrected("apply", f"chr1 100 200 A\n{other}", script).track, (0, [added, "chr1 100 400 A"]))
+        self.assertEqual(self.mended(f"chr1 100 410 A\n{other}", script), ([
             "# together: one gene", "# conflict: base chr1 100 200 A (end 200)", "# conflict: mine chr1 100 400 A (end 400)",
             "# conflict: theirs chr1 100 410 A (end 410)", "# replace chr1 100 200 A chr1 100 400 A",
-            "# conflict: not done, since line 2 isn't", "# remove chr1 300 400 B", "", "add chr1 1 2 x"], 1,
-            ["chr1 1 2 x", "chr1 100 410 A", "chr1 300 400 B"], 0))
-        lines, status, rows, again = self.mended("chr1 90 200 A\nchr1 300 400 B", script)
-        self.assertEqual((lines[:4], rows, again), ([
+            "# conflict: not done, since line 2 isn't", f"# remove {other}", "", f"add {added}"], 1, [added, "chr1 100 410 A", other], 0))
+        self.assertEqual(self.mended(f"chr1 90 200 A\n{other}", script), ([
             "# together: one gene", "# was: replace chr1 100 200 A chr1 100 400 A", "replace chr1 90 200 A chr1 90 400 A",
-            "remove chr1 300 400 B"], ["chr1 1 2 x", "chr1 90 400 A"], 0))
-
-    def test_an_add_of_a_group_that_differs(self):
-        script = "# together: split\nremove chr1 300 400 B\nadd chr1 101 200 A\nremove chr1 3O 400 C\n"
-        outcome = self.corrected("apply", "chr1 100 200 A\nchr1 300 400 B", script)
-        self.assertEqual((outcome.status, outcome.rows, outcome.messages), (1, ["chr1 100 200 A", "chr1 300 400 B"], [
-            "line 2: not done, since line 3 is refused", "line 3: there with another start: chr1 100 200 A",
-            "  this would fit: replace chr1 100 200 A chr1 101 200 A", "line 4: start is not a number: '3O' (start, field 3)"]))
+            f"remove {other}", "", f"add {added}"], 1, [added, "chr1 90 400 A"], 0))
 
     def test_reasons_stay_with_their_lines(self):
         lines, *_ = self.mended("chr1 100 200 A\nchr1 390 500 geneC", "# lacks geneC\nadd chr1 390 500 geneC\n# A was cut\n"
@@ -246,9 +211,8 @@ class Options(Case):
         """If a line is refused, or there already, or done with a warning."""
         self.assertEqual((self.apply("--strict").status, self.out.exists()), (1, False))
         self.script.write_text(tabs("add chr1 100 200 geneA"))
-        outcome = self.apply("--strict")
-        self.assertEqual((outcome.status, self.out.exists(), outcome.err),
-                         (1, False, f"{self.script}: line 1: already there: chr1 100 200 geneA\nnothing is written\n"))
+        said = f"{self.script}: line 1: already there: chr1 100 200 geneA\nnothing is written\n"
+        self.assertEqual((self.apply("--strict").failed, self.out.exists()), ((1, said), False))
         self.assertEqual((self.apply().status, self.out.read_text()), (0, self.genes.read_text()))
         self.genes.write_text(tabs("chr1 100 200 a 0 + 100 200 0 2 10,10 0,90"))
         self.script.write_text(tabs("replace chr1 100 200 a 0 + chr1 100 195 a 0 +"))
@@ -270,25 +234,22 @@ class Options(Case):
         self.assertEqual(Outcome("replay", self.sizes, self.genes, self.script, "--refused", listed).status, 1)
         self.script.write_text("")
         self.assertEqual((self.apply("--refused", listed).status, listed.read_text()), (0, ""))
-        outcome = self.apply("--refused", self.genes)
-        self.assertEqual((outcome.status, outcome.err), (2, f"{self.genes}: an input is never written over\n"))
+        self.assertEqual(self.apply("--refused", self.genes).failed, (2, f"{self.genes}: an input is never written over\n"))
 
     def test_what_cannot_be_written_is_named(self):
         self.assertEqual(Outcome("apply", self.sizes, self.genes, self.script, "-o", "/dev/full").err, "/dev/full: no space left on device\n")
         with mock.patch("os.fsync", side_effect=OSError(5, "Input/output error")):
-            outcome = self.apply()
-            self.assertEqual((outcome.status, outcome.err, self.out.exists()), (2, f"{self.out}: input/output error\n", False))
-        outcome = Outcome("apply", self.sizes, self.folder / "none.bed", self.script)
-        self.assertEqual((outcome.status, outcome.err), (2, f"{self.folder}/none.bed: no such file\n"))
+            self.assertEqual((self.apply().failed, self.out.exists()), ((2, f"{self.out}: input/output error\n"), False))
+        none = self.folder / "none.bed"
+        self.assertEqual(Outcome("apply", self.sizes, none, self.script).failed, (2, f"{none}: no such file\n"))
 
     def test_a_mended_script_is_whole_or_not_there(self):
-        mend = self.folder / "mend"
+        mend, words = self.folder / "mend", ("replay", self.sizes, self.genes, self.script, "--mend")
         with mock.patch("os.fsync", side_effect=OSError(28, "No space left on device")):
-            outcome = Outcome("replay", self.sizes, self.genes, self.script, "--mend", mend)
-        self.assertEqual((outcome.status, outcome.err, mend.exists()), (2, f"{mend}: no space left on device\n", False))
-        outcome = Outcome("replay", self.sizes, self.genes, self.script, "--mend", "-")
-        self.assertEqual((outcome.status, outcome.err), (2, "--mend needs a file, since the report is on standard output\n"))
-        self.assertEqual(Outcome("replay", self.sizes, self.genes, self.script, "--mend", "/dev/full").err, "/dev/full is there already\n")
+            self.assertEqual(Outcome(*words, mend).failed, (2, f"{mend}: no space left on device\n"))
+        self.assertFalse(mend.exists())
+        self.assertEqual(Outcome(*words, "-").failed, (2, "--mend needs a file, since the report is on standard output\n"))
+        self.assertEqual(Outcome(*words, "/dev/full").failed, (2, "/dev/full is there already\n"))
 
     def test_nobody_reads_the_output(self):
         many = self.file("many.bed", "".join(f"chr1\t{n}\t{n + 1}\tname\n" for n in range(900)) * 100)

@@ -27,8 +27,7 @@ class CommandLine(Case):
             self.assertTrue(outcome.err.startswith(message))
         self.assertEqual(Outcome("--version").out, f"bedkeep {bedkeep.__version__}\n")
         for command in "apply", "diff", "replay", "curate":
-            self.assertEqual(Outcome(command, "--help").status, 0)
-            self.assertEqual(Outcome(command, "--no-such").status, 2)
+            self.assertEqual((Outcome(command, "--help").status, Outcome(command, "--no-such").status), (0, 2))
 
     def test_installed_it_is_beside_the_program(self):
         def make(target):
@@ -67,10 +66,8 @@ class Apply(Case):
         script = self.file("corrections", tabs("replace chr1 100 200 geneA chr1 100 250 geneA\nremove chr1 300 401 geneB\n"
                                                "add chr2 1 2 x").replace("remove", "# why\nremove"))
         more = self.file("more", tabs("open v merge\nprint v\nadd chr2 1 2"))
-        outcome = self.apply(bed, script, more)
-        self.assertEqual((outcome.status, outcome.out), (1, ""))
-        self.assertEqual(outcome.err, f"{script}: line 3: no such record: chr1 300 401 geneB\n"
-                                      f"{more}: line 3: wrong number of columns: 3 fields; 4 are needed\n")
+        self.assertEqual(self.apply(bed, script, more).all, (1, "", f"{script}: line 3: no such record: chr1 300 401 geneB\n"
+                                                                    f"{more}: line 3: wrong number of columns: 3 fields; 4 are needed\n"))
         self.assertEqual(self.corrected.read_bytes().decode(), "# genes\ntrack name=x\r\n" + tabs(
             "chr1 300 400 geneB\nchr2 1 2 x\nchr1 100 250 geneA") + "#end\n")
         self.apply(bed, script, "--sorted")
@@ -81,19 +78,11 @@ class Apply(Case):
         empty, second = self.file("empty.bed", "# nothing yet\n"), self.file("second.bed", "")
         for rows in "chr1 1 2", "chr1 1 2 x 0 +\nchr1 1 3 x 0 +", "chr1 1 2 x 0 + 1 2 0":
             script = self.file("corrections", tabs("\n".join(f"add {row}" for row in rows.split("\n"))) + tabs("add chr1 5 6 a\naddb chr1 5 6"))
-            for command in "apply", "replay", "review":
-                words = [self.sizes, empty, script, "-b", second, *(["-o", self.folder / "page.html"] if command == "review" else [])]
-                outcome = Outcome(command, *words)
-                self.assertEqual(outcome.status, 1, outcome.err)
-                if command == "apply":
-                    self.assertEqual(outcome.out, "# nothing yet\n" + tabs(rows))
+            words = self.sizes, empty, script, "-b", second
+            self.assertEqual(Outcome("apply", *words).gave, (1, "# nothing yet\n" + tabs(rows)))
+            self.assertEqual((Outcome("replay", *words).status, Outcome("review", *words, "-o", self.folder / "page.html").status), (1, 1))
         self.assertEqual(Outcome("apply", self.sizes, empty, script, "-b", second, "-b", self.mask).status, 1)
         self.assertEqual(self.apply(empty, self.file("corrections", "")).status, 0)
-
-    def test_all_done(self):
-        script = self.file("corrections", tabs("removeb chr1 150 350\nresize chr2 700\nadd chr2 1 700 x"))
-        outcome = Outcome("apply", self.sizes, self.genes, script, "-b", self.mask)
-        self.assertEqual((outcome.status, outcome.err, outcome.out), (0, "", self.genes.read_text() + "chr2\t1\t700\tx\n"))
 
     def test_bytes_that_are_no_text(self):
         bed = self.file("bytes.bed", b"#\xff\nchr1\t1\t2\t\xff\xfe\n")
@@ -113,50 +102,46 @@ class Apply(Case):
 
     def test_each_command_has_the_greatest_limit(self):
         script = self.file("corrections", "add\tchr1\t1\t2\tx\n")
-        for command, module in ("apply", "commands.input_files"), ("replay", "commands.input_files"), ("curate", "commands.core"), \
-                ("review", "review.run"):
+        for command, module in ("apply", "input_files"), ("replay", "input_files"), ("curate", "core"), ("review", "input_files"):
             files = [self.sizes, self.genes, *([] if command == "curate" else [script])]
-            with mock.patch(f"bedkeep.{module}.MOST", 1):
+            with mock.patch(f"bedkeep.commands.{module}.MOST", 1):
                 outcome = Outcome(command, *files, *(["-o", self.folder / "page.html"] if command == "review" else []))
             self.assertEqual((outcome.status, outcome.err.split("\n")[0]), (2, f"{self.genes}: line 2: too many (status 3)"))
         self.assertEqual(program.MOST, 100_000_000)
 
     def test_an_input_is_never_written_over(self):
-        script = self.file("corrections", "")
-        link = self.folder / "link"
-        link.symlink_to(self.genes)
-        for name in self.genes, link, script, self.sizes:
-            before = name.read_bytes()
-            outcome = Outcome("apply", self.sizes, self.genes, script, "-o", name)
-            self.assertEqual((outcome.status, name.read_bytes()), (2, before))
-            self.assertIn("an input is never written over", outcome.err)
-
-    def test_no_path_through_a_missing_folder_is_written(self):
-        before, link = self.genes.read_bytes(), self.folder / "link"
+        """Also through a link, or a path through a folder that isn't there."""
+        script, link, lost = self.file("corrections", ""), self.folder / "link", self.folder / "lost"
         astray = self.folder / "missing" / ".." / self.genes.name
-        link.symlink_to(astray)
-        for name in astray, link:
-            outcome = Outcome("apply", self.sizes, self.genes, self.file("corrections", "add\tchr1\t1\t2\n"), "-o", name)
-            self.assertEqual((outcome.status, self.genes.read_bytes()), (2, before))
-            self.assertIn("no such folder", outcome.err)
+        link.symlink_to(self.genes)
+        lost.symlink_to(astray)
+        before = [path.read_bytes() for path in (self.sizes, self.genes, script)]
+        for names, said in (((self.genes, link, script, self.sizes), "an input is never written over"), ((astray, lost), "no such folder")):
+            for name in names:
+                outcome = Outcome("apply", self.sizes, self.genes, script, "-o", name)
+                self.assertEqual((outcome.status, [path.read_bytes() for path in (self.sizes, self.genes, script)]), (2, before))
+                self.assertIn(said, outcome.err)
 
     def test_nothing_is_written_unless_all_is(self):
         self.corrected.write_text("as before\n")
-        damaged = self.file("damaged.bed", "chr1\t1\t2\nchr1\t2\t1\n")
-        outcome = self.apply(damaged, self.file("corrections", ""))
-        self.assertEqual(outcome.status, 2)
-        self.assertRegex(outcome.err, f"^{damaged}: line 2: start not below end \\(status 3\\)\n  line 2, field 2: .*\n  the start has to be below the end")
-        self.assertEqual(self.apply(self.folder / "missing", self.file("corrections", "")).status, 2)
-        self.assertEqual(self.apply(self.genes, self.folder / "missing").status, 2)
-        self.assertEqual(self.corrected.read_text(), "as before\n")
+        script, missing, packed = self.file("corrections", ""), self.folder / "missing", gzip.compress(self.genes.read_bytes())
+        damaged, short = self.file("damaged.bed", "chr1\t1\t2\nchr1\t2\t1\n"), self.file("short.gz", gzip.compress(b"chr1\t5\t6\nchr1\t2\n"))
+        for bed, corrections, said in (
+                (damaged, script, "line 2: start not below end \\(status 3\\)\n  line 2, field 2: .*\n  the start 2 isn't below the end 1"),
+                (short, script, "line 2: wrong number of columns \\(status 3\\)\n  line 2: .*\n  columns of this line: 2"),
+                (missing, script, ""), (self.file("cut.gz", packed[:-9]), script, ""), (self.genes, missing, None),
+                (self.genes, self.file("bad.gz", packed[:12] + b"\0\xff" + packed[14:]), None)):
+            outcome = self.apply(bed, corrections)
+            self.assertEqual((outcome.status, self.corrected.read_text()), (2, "as before\n"))
+            self.assertRegex(outcome.err, f"^{corrections if said is None else bed}: {said or ''}")
         self.assertEqual([name for name in os.listdir(self.folder) if name.startswith(".")], [])
 
     def test_a_device_is_written_and_no_file_made_of_it(self):
         pipe = self.folder / "pipe"
         os.mkfifo(pipe)
         with subprocess.Popen(["cat", pipe], stdout=subprocess.PIPE) as reader:
-            outcome = Outcome("apply", self.sizes, self.genes, self.file("corrections", ""), "-o", pipe)
-            self.assertEqual((outcome.status, reader.communicate()[0]), (0, self.genes.read_bytes()))
+            status = Outcome("apply", self.sizes, self.genes, self.file("corrections", ""), "-o", pipe).status
+            self.assertEqual((status, reader.communicate()[0]), (0, self.genes.read_bytes()))
         self.assertTrue(pipe.is_fifo())
 
     def test_packed_files_and_standard_input(self):
@@ -171,16 +156,7 @@ class Apply(Case):
         ):
             run = started("apply", *words, input=given)
             self.assertEqual((run.returncode, run.stdout.decode(), run.stderr), (0, expected, b""))
-        outcome = Outcome("apply", self.sizes, "-", "-")
-        self.assertEqual((outcome.status, outcome.err), (2, "only one file can be standard input\n"))
-
-    def test_a_packed_file_that_is_cut_or_damaged(self):
-        packed = gzip.compress(self.genes.read_bytes())
-        self.assertEqual(self.apply(self.file("cut.gz", packed[:-9]), self.file("corrections", "")).status, 2)
-        self.assertEqual(self.apply(self.genes, self.file("bad.gz", packed[:12] + b"\0\xff" + packed[14:])).status, 2)
-        damaged = self.file("damaged.gz", gzip.compress(b"chr1\t5\t6\nchr1\t2\n"))
-        outcome = self.apply(damaged, self.file("corrections", ""))
-        self.assertRegex(outcome.err, f"^{damaged}: line 2: wrong number of columns \\(status 3\\)\n  line 2: .*\n  columns of this line: 2")
+        self.assertEqual(Outcome("apply", self.sizes, "-", "-").failed, (2, "only one file can be standard input\n"))
 
 
 class Reports(Case):
@@ -218,35 +194,38 @@ class Reports(Case):
 
     def test_the_table(self):
         rows = [row.split("\t") for row in self.replay("--tsv").out.split("\n")[:-1]]
-        self.assertEqual([row[1:5] for row in rows], [
-            ["line", "class", "by", "differs"], ["3", "changed", "", "score"], ["5", "taken out", "4", ""],
-            ["6", "changed", "3", "score"], ["7", "bad line", "", ""], ["8", "already so", "", ""]])
-        self.assertEqual(rows[1][5:], ["chr1 10 30 a 4 +", "chr1 10 30 a 5 +",
-                                       "replace chr1 10 30 a 5 + chr1 11 30 a 5 +", ""])
+        self.assertEqual([",".join(row[1:5]) for row in rows], [
+            "line,class,by,differs", "3,changed,,score", "5,taken out,4,", "6,changed,3,score", "7,bad line,,", "8,already so,,"])
+        self.assertEqual(rows[1][5:], ["chr1 10 30 a 4 +", "chr1 10 30 a 5 +", "replace chr1 10 30 a 5 + chr1 11 30 a 5 +", ""])
         self.assertEqual({len(row) for row in rows}, {9})
 
     def test_mend_and_statuses(self):
         mend = self.folder / "mend"
         self.assertEqual(self.replay("--mend", mend).status, 1)
         text = mend.read_text()
-        first, second, third, fourth = (
-            tabs(line) for line in ("replace chr1 10 30 a 4 + chr1 11 30 a 4 +", "replace chr1 10 30 a 5 + chr1 11 30 a 5 +",
-                                    "replace chr1 11 30 a 4 + chr1 11 31 a 4 +", "replace chr1 11 30 a 5 + chr1 11 31 a 5 +"))
-        self.assertEqual(text, f"# why\nopen\tv\tmerge\n# was: {first}{second}" + tabs("remove chr1 50 60 b 1 +") * 2
-                         + f"# was: {third}{fourth}add\tchr1\t5\t6\n# dropped: remove\tchr1\t7\t8\tc\t0\t+\n")
-        outcome = self.replay("--mend", mend)
-        self.assertEqual((outcome.status, outcome.out, outcome.err, mend.read_text()), (2, "", f"{mend} is there already\n", text))
+        self.assertEqual(text.replace("\t", " "), """# why
+open v merge
+# was: replace chr1 10 30 a 4 + chr1 11 30 a 4 +
+replace chr1 10 30 a 5 + chr1 11 30 a 5 +
+remove chr1 50 60 b 1 +
+remove chr1 50 60 b 1 +
+# was: replace chr1 11 30 a 4 + chr1 11 31 a 4 +
+replace chr1 11 30 a 5 + chr1 11 31 a 5 +
+add chr1 5 6
+# dropped: remove chr1 7 8 c 0 +
+""")
+        self.assertEqual((self.replay("--mend", mend).all, mend.read_text()), ((2, "", f"{mend} is there already\n"), text))
         self.corrections.write_text(self.corrections.read_text().split("remove")[0])
         self.assertEqual(self.replay("--ignore", "score").status, 0)
         self.assertEqual(self.replay("--ignore", "start").status, 2)
 
     def test_copies(self):
-        self.corrections.write_text(tabs("add chr1 50 60 b 1 +"))
-        outcome = self.replay("--mend", self.folder / "mend")
-        self.assertEqual((outcome.status, (self.folder / "mend").read_text()), (0, tabs("add chr1 50 60 b 1 +").replace("add", "# dropped: add")))
+        line, mend, more = tabs("add chr1 50 60 b 1 +"), self.folder / "mend", self.folder / "more"
+        self.corrections.write_text(line)
+        outcome = self.replay("--mend", mend)
+        self.assertEqual((outcome.status, mend.read_text()), (0, f"# dropped: {line}"))
         self.assertIn("line 1: already there\n", outcome.out)
-        outcome = self.replay("--copies", "--mend", self.folder / "more")
-        self.assertEqual((outcome.status, outcome.out, (self.folder / "more").read_text()), (0, "1 fits\n", tabs("add chr1 50 60 b 1 +")))
+        self.assertEqual((self.replay("--copies", "--mend", more).gave, more.read_text()), ((0, "1 fits\n"), line))
         self.corrections.write_text("# nothing\n")
         self.assertEqual(self.replay().out, "no corrections\n")
 

@@ -15,18 +15,13 @@ from bedkeep.commands.core import Stale, Unwell, opened
 from bedkeep.commands.corrections import read_text
 from bedkeep.commands.journal import Journal
 from bedkeep.commands.prompt_files import Given
-from helpers import Case, Outcome, tabs
+from helpers import Case, Outcome, lines, script_of, tabs
 from random_tracks import LENGTHS, Maker
 
 A, B = "chr1 100 200 geneA", "chr1 300 400 geneB"
 VIEWS = ["merge", "genomecov -bg"]
 GENES = """chr1 100 400 g1 0 + 100 400 0 2 50,60, 0,240,
 chr1 500 900 g2 0 - 550 800 0 3 100,100,50, 0,150,350,"""
-
-
-def lines(*texts):
-    """Lines of a script, with TABs for spaces."""
-    return ["\t".join(text.split()) for text in texts]
 
 
 class Cores(Case):
@@ -69,53 +64,40 @@ class Tried(Cores):
         self.assertEqual([(change["before"], change["after"]) for change in answer["changes"][1:]], [(2, 1), (2, 1)])
         self.assertEqual((self.records(core), self.path.read_text(), core.version), ([A, B], "", 0))
 
-    def test_several_lines_are_tried_together(self):
+    def test_what_is_refused_or_there_changes_nothing(self):
+        """Also if an inverse of it would be possible: of a record that isn't there to one that is."""
         core = self.core()
-        two = lines(f"replace {A} chr1 100 150 geneA", "add chr1 150 200 geneX")
-        self.assertEqual(self.changed(core.attempt(two))["records"], (lines(A), lines("chr1 100 150 geneA", "chr1 150 200 geneX")))
-        answer = core.attempt([two[0], *lines("add chr1 150 120 geneX")])
-        self.assertEqual(self.why(answer), ["start not below end: '150' (start, field 3)"])
-        self.assertEqual((self.records(core), core.script()), ([A, B], b""))
-
-    def test_the_inverse_of_a_refused_line_is_not_done(self):
-        """A record that isn't there to one that is: its inverse would be possible."""
-        core = self.core()
-        for one in f"replace chr1 1 2 x {A}", f"remove chr1 1 2 {'x'}", f"replace chr1 1 2 x {A} 7", "resize chr3 9", "replace":
-            self.assertTrue(core.attempt(lines(one))["refused"], one)
-        self.assertTrue(core.attempt(lines(f"replace chr1 1 2 x {A}", f"replace {B} {A}"))["refused"])
-        self.assertEqual(self.records(core), [A, B])
+        for texts, *why in (
+                ([f"replace chr1 1 2 x {A}"], "no such record: chr1 1 2 x"),
+                ([f"replace chr1 1 2 x {A}", f"replace {B} {A}"], "no such record: chr1 1 2 x"),
+                ([f"replace {A} chr1 100 150 geneA", "add chr1 150 120 geneX"], "start not below end: '150' (start, field 3)"),
+                (["add chr2 1 2 x", "add chr1 100 210 geneA"], f"there with another end: {A}")):
+            for call in core.attempt, core.edit:
+                self.assertEqual(self.why(call(lines(*texts))), why)
+        for call in core.attempt, core.edit:
+            self.assertEqual((call(lines(f"add {A}"))["there"], core.entries), ([tuple(A.split())], []))
         self.assertEqual(core.attempt(lines("resize chr1 400"))["changes"], [])
-        self.assertEqual(core.session.length("chr1"), 1000)
-
-    def test_what_is_there_is_not_added(self):
-        core = self.core()
-        self.assertEqual(core.attempt(lines(f"add {A}"))["there"], [tuple(A.split())])
-        for texts in ["add chr1 100 210 geneA"], ["add chr2 1 2 x", "add chr1 100 210 geneA"]:
-            self.assertEqual(self.why(core.edit(lines(*texts))), [f"there with another end: {A}"])
-        answer = core.edit(lines(f"add {A}"))
-        self.assertEqual((answer["there"], "entry" in answer, self.records(core), core.entries), ([tuple(A.split())], False, [A, B], []))
+        self.assertEqual((core.session.length("chr1"), self.records(core), core.script()), (1000, [A, B], b""))
 
     def test_columns_after_the_sixth(self):
         self.bed = self.file("wide.bed", tabs(GENES))
         core = self.core()
         answer = core.attempt(lines("replace chr1 100 400 g1 0 + chr1 90 400 g1 0 +"))
         self.assertEqual(self.changed(answer)["records"][1], lines("chr1 90 400 g1 0 + 90 400 0 2 60,60, 0,250,"))
-        self.assertEqual(core.attempt(lines("replace chr1 100 400 g1 0 + chr1 200 400 g1 0 +"))["refused"][0]["reason"],
-                         "the start 200 is between blocks 1 and 2 of 2")
         self.assertIn("the record is there with", self.why(core.attempt(lines("remove chr1 100 400 g1 0 + 100 399 0 2 50,60, 0,240,")))[0])
         self.assertEqual(core.region("chr1", 0, 450)["views"]["records"], tabs(GENES.split("\n")[0]))
+        cut = lines("replace chr1 100 400 g1 0 + chr1 200 400 g1 0 +")
+        self.assertEqual(core.attempt(cut)["refused"][0]["reason"], "the start 200 is between blocks 1 and 2 of 2")
         core = self.core(script=None, leave_blocks=True)
-        answer = core.attempt(lines("replace chr1 100 400 g1 0 + chr1 200 400 g1 0 +"))
-        self.assertEqual(len(answer["warnings"]), 1)
-        self.assertEqual(core.edit(lines("replace chr1 100 400 g1 0 + chr1 200 400 g1 0 +"))["warnings"], answer["warnings"])
+        warnings = core.attempt(cut)["warnings"]
+        self.assertEqual((len(warnings), core.edit(cut)["warnings"]), (1, warnings))
         state = core.state()
         self.assertEqual((state["format"], state["columns"][6:8], len(state["columns"])), ("BED12", ["thickStart", "thickEnd"], 12))
 
     def test_no_line_of_a_script(self):
         core = self.core()
-        for text in "", "# why", "open\tx\tmerge", "add\tchr1\n", "add\tchr1\0", " ":
-            self.assertRaises(ValueError, core.attempt, [text])
-        self.assertRaises(ValueError, core.edit, [])
+        for texts in [""], ["# why"], ["open\tx\tmerge"], ["add\tchr1\n"], ["add\tchr1\0"], [" "], []:
+            self.assertRaises(ValueError, core.attempt, texts)
         self.assertRaisesRegex(bedkeep.Error, "--view 'nonsense': ", self.core(["nonsense"], script=None).watch)
 
 
@@ -138,11 +120,6 @@ class Done(Cores):
         core = self.core()
         core.edit(lines(f"remove {A}"), "was: wrong\nadd\tx\0")
         self.assertEqual(self.script(), ['# "was: wrong"', "# add x", f"remove {A}"])
-
-    def test_one_of_several_is_refused(self):
-        core = self.core()
-        self.assertTrue(core.edit(lines(f"remove {A}", "remove chr1 1 2 x"))["refused"])
-        self.assertEqual((self.records(core), core.script(), core.entries), ([A, B], b"", []))
 
     def test_undo_and_redo(self):
         core = self.core()
@@ -172,14 +149,11 @@ class Done(Cores):
         core = core.again()
         self.assertEqual(core.take_back(3, "is real")["entry"]["takes"], 3)
         self.assertEqual(self.script()[-2:], ["# taken back: is real", f"add {B}"])
-        self.assertIn("entry", core.take_back(4))
-        self.assertIn("entry", core.take_back(2))
-        self.assertEqual(core.session.length("chr2"), 500)
-        self.assertIn("entry", core.take_back(1))
-        self.assertIn("entry", core.take_back(5))
-        self.assertEqual((self.records(core), core.region("chr1", 0, 20)["second"]), ([A, B], ""))
-        self.assertRaises(Stale, core.take_back, 1)
-        self.assertRaises(Stale, core.take_back, 99)
+        for number in 4, 2, 1, 5:
+            self.assertIn("entry", core.take_back(number))
+        self.assertEqual((self.records(core), core.region("chr1", 0, 20)["second"], core.session.length("chr2")), ([A, B], "", 500))
+        for number in 1, 99:
+            self.assertRaises(Stale, core.take_back, number)
         core.undo()
         self.assertEqual((core.entries[4].verdict, core.region("chr1", 0, 20)["second"]), ("done", "chr1\t1\t9\n"))
         core.redo()
@@ -194,8 +168,7 @@ class Done(Cores):
         for text in "add chr2 1 9 x", "replace chr2 1 9 x chr2 2 9 x", f"replace {B} chr2 1 9 x":
             core.edit(lines(text))
         self.assertEqual(self.why(core.take_back(1)), ["correction 2 stands on it: replace\tchr2\t1\t9\tx\tchr2\t2\t9\tx"])
-        self.assertIn("entry", core.take_back(2))
-        self.assertIn("entry", core.take_back(1))
+        self.assertTrue("entry" in core.take_back(2) and "entry" in core.take_back(1))
         self.assertEqual(self.records(core), [A, "chr2 1 9 x"])
 
     def test_another_reason(self):
@@ -251,14 +224,6 @@ class Found(Cores):
         for text in "chr3", "chr1:2000-3000", "nobody", "":
             self.assertRaises(ValueError, core.find, text)
 
-    def test_the_session_is_searched_and_not_the_file(self):
-        core = self.core()
-        core.edit(lines(f"replace {A} chr1 100 200 other"))
-        self.bed.write_text("chr1\t7\t8\tnew\n")
-        self.assertEqual(self.found(core, "other"), [("named other", ["other"])])
-        self.assertEqual(self.found(core, "GENE"), [("with GENE in the name", ["geneB"])])
-        self.assertRaises(ValueError, core.find, "new")
-
     def test_too_many(self):
         self.bed = self.file("many.bed", "".join(f"chr1\t{start}\t{start + 1}\tsame\n" for start in range(60)))
         [found] = self.core().find("same")["found"]
@@ -280,9 +245,9 @@ class Drawn(Cores):
         core.edit(lines("addb chr1 300 310"))
         self.assertEqual(core.region("chr1", 300, 310)["second"], "chr1\t150\t350\nchr1\t300\t310\n")
         self.assertEqual([row[2] for row in core.state()["sequences"]], [601, 0])
-        overview = core.overview("chr1", 10)  # a part begins after its first base
+        overview = core.overview("chr1", 10)
         self.assertEqual((overview["starts"], overview["marks"]), (
-            [101, 100, 100, 100, 100, 99, 1, 0, 0, 0], [[1, 700, 710, "done"], [2, 300, 310, "done"]]))
+            [100, 100, 100, 100, 100, 100, 0, 1, 0, 0], [[1, 700, 710, "done"], [2, 300, 310, "done"]]))
         core.undo()
         core.undo()
         self.assertEqual([row[2] for row in core.state()["sequences"]], [600, 1])
@@ -326,8 +291,7 @@ replace chr2 100 200 geneC chr2 100 210 geneC
     def setUp(self):
         super().setUp()
         self.bed = self.file("release.bed", tabs("chr1 105 205 geneA\nchr1 310 410 geneB\nchr2 100 200 geneC"))
-        text = "".join(line if line.startswith("#") else "\t".join(line.split(" ")) for line in self.OLD.splitlines(keepends=True))
-        self.old = self.file("old", text)
+        self.old = self.file("old", script_of(self.OLD))
 
 
 class Decisions(Released):
@@ -335,19 +299,17 @@ class Decisions(Released):
         return super().core(*words, **{"replayed": [str(self.old)], "second": None, **given})
 
     def states(self, core):
-        deadline = time.monotonic() + 30
-        while core.worklist is None and time.monotonic() < deadline:
-            core.wait(core.version, 1)
-        return [(item["number"], item["kind"], item["state"], [" ".join(line.split("\t")) for line in item["offered"]])
-                for item in core.state()["worklist"]["items"]]
+        core.join()
+        return [item["state"] for item in core.state()["worklist"]["items"]]
 
     def test_what_fits_is_written_and_the_rest_is_asked(self):
         core = self.core()
         self.assertEqual(self.script(), ["# fits", "replace chr2 100 200 geneC chr2 100 210 geneC"])
-        self.assertEqual(self.states(core), [
-            (2, "moved", "open", ["replace chr1 105 205 geneA chr1 115 205 geneA"]),
-            (4, "moved", "open", ["remove chr1 310 410 geneB", "add chr1 500 600 new"]), (7, "already so", "open", [])])
-        self.assertEqual((core.state()["worklist"]["count"], core.overview("chr1", 4)["open"]), (4, [[2, 105, 205], [4, 310, 410]]))
+        worklist = core.state()["worklist"]
+        self.assertEqual([[item[name] for name in ("number", "kind", "state", "offered")] for item in worklist["items"]], [
+            [2, "moved", "open", lines("replace chr1 105 205 geneA chr1 115 205 geneA")],
+            [4, "moved", "open", lines("remove chr1 310 410 geneB", "add chr1 500 600 new")], [7, "already so", "open", []]])
+        self.assertEqual((worklist["count"], core.overview("chr1", 4)["open"]), (4, [[2, 105, 205], [4, 310, 410]]))
         core.edit(core.worklist.items[2].offered, "as before", 2)
         core.edit(lines("remove chr1 310 410 geneB"), "", 4)
         self.assertRaises(ValueError, core.drop, 7, " ")
@@ -358,12 +320,11 @@ class Decisions(Released):
             "replace chr1 105 205 geneA chr1 115 205 geneA",
             "# both", "# was: remove chr1 300 400 geneB", "# was: add chr1 500 600 new", "remove chr1 310 410 geneB",
             "# an artefact", "# not there any more", "# dropped: remove chr2 5 9 gone"])
-        self.assertEqual([state for _, _, state, _ in self.states(core)], ["taken", "other", "dropped"])
+        self.assertEqual(self.states(core), ["taken", "other", "dropped"])
         core = core.again()
-        self.assertEqual([state for _, _, state, _ in self.states(core)], ["decided"] * 3)
+        self.assertEqual(self.states(core), ["decided"] * 3)
         self.assertEqual([(one.verdict, one.answers) for one in core.entries], [("done", None), ("done", 2), ("done", 4), ("dropped", 7)])
-        outcome = Outcome("apply", self.sizes, self.bed, self.path)
-        self.assertEqual((outcome.status, outcome.out), (0, tabs("chr1 115 205 geneA\nchr2 100 210 geneC")))
+        self.assertEqual(Outcome("apply", self.sizes, self.bed, self.path).gave, (0, tabs("chr1 115 205 geneA\nchr2 100 210 geneC")))
         self.assertEqual(Outcome("replay", self.sizes, self.bed, self.path).status, 0)
 
     def test_a_decision_is_taken_back(self):
@@ -375,11 +336,11 @@ class Decisions(Released):
         self.assertEqual((len(core.worklist.open_items()), len(self.script())), (3, 2))
         core.redo()
         core.redo()
-        self.assertEqual([state for _, _, state, _ in self.states(core)], ["open", "taken", "dropped"])
+        self.assertEqual(self.states(core), ["open", "taken", "dropped"])
         core.take_back(2)
         self.assertEqual(self.script()[-2:], ["# taken back: an artefact gone", "# reopened, was: remove chr2 5 9 gone"])
         core.undo()
-        self.assertEqual([state for _, _, state, _ in self.states(core)], ["open", "taken", "dropped"])
+        self.assertEqual(self.states(core), ["open", "taken", "dropped"])
         core = core.again()
         self.states(core)
         core.take_back(2)
@@ -389,21 +350,21 @@ class Decisions(Released):
         self.assertEqual(self.script()[-5:], [
             "# together: taken back: both", "# reopened, was: remove chr1 300 400 geneB", "# reopened, was: add chr1 500 600 new",
             "remove chr1 500 600 new", "add chr1 310 410 geneB"])
-        self.assertEqual([state for _, _, state, _ in self.states(core)], ["open"] * 3)
+        self.assertEqual(self.states(core), ["open"] * 3)
         core = core.again()
-        self.assertEqual([state for _, _, state, _ in self.states(core)], ["open"] * 3)
+        self.assertEqual(self.states(core), ["open"] * 3)
         core.undo()
-        self.assertEqual([state for _, _, state, _ in self.states(core.again())], ["open", "decided", "open"])
+        self.assertEqual(self.states(core.again()), ["open", "decided", "open"])
 
     def test_refused_lines_of_the_script_itself(self):
         core = self.core(replayed=())
         self.assertIsNone(core.worklist)
         self.path.write_bytes(self.old.read_bytes())
         core = core.again()
-        self.assertEqual([state for _, _, state, _ in self.states(core)], ["open"] * 3)
+        self.assertEqual(self.states(core), ["open"] * 3)
         self.assertEqual([entry.verdict for entry in core.entries], ["refused", "refused", "refused", "done"])
         core.drop(7, "gone")
-        self.assertEqual([state for _, _, state, _ in self.states(core.again())], ["open", "open", "decided"])
+        self.assertEqual(self.states(core.again()), ["open", "open", "decided"])
 
 
 class Well(Cores):
@@ -447,26 +408,23 @@ class Well(Cores):
             self.assertGreater(core.wait(version, 0), version)
             version = core.version
             self.assertEqual(self.records(core), [B])
-            if self.path.exists():
-                self.path.write_text(text)
-                core.edit(lines("add chr2 1 2 x"))
-                self.assertEqual(core.state()["unwell"], "")
-                core.undo()
-            else:
-                self.path.write_text(text)
+            is_there = self.path.exists()
+            self.path.write_text(text)
+            if not is_there:
                 core = core.again()
                 version = core.version
+                continue
+            core.edit(lines("add chr2 1 2 x"))
+            self.assertEqual(core.state()["unwell"], "")
+            core.undo()
 
     def test_a_script_that_somebody_else_holds(self):
         core = self.core()
         core.edit(lines(f"remove {A}"))
-        with self.assertRaisesRegex(bedkeep.Error, "another prompt has it open"):
-            self.core()
-        with self.assertRaisesRegex(bedkeep.Error, "is a file of this session"):
-            self.core(script=str(self.bed))
-        self.file("data", "chr1\t1\t2\n")
-        with self.assertRaisesRegex(bedkeep.Error, "line 1 is no correction"):
-            self.core(script=str(self.folder / "data"))
+        data = self.file("data", "chr1\t1\t2\n")
+        for path, said in ((self.path, "another prompt has it open"), (self.bed, "is a file of this session"),
+                           (data, "line 1 is no correction")):
+            self.assertRaisesRegex(bedkeep.Error, said, self.core, script=str(path))
 
     def test_a_full_disk_and_a_read_only_script(self):
         core = self.core()
@@ -595,8 +553,7 @@ class Killed(Released):
             self.check(texts[-1]["text"], rows[-1].get("next"), before)
             answers += len(texts) - 1
         self.assertGreater(answers, kills)
-        outcome = Outcome("apply", self.sizes, self.bed, self.path)
-        self.assertEqual((outcome.status, outcome.err), (0, ""))
+        self.assertEqual(Outcome("apply", self.sizes, self.bed, self.path).failed, (0, ""))
 
     def session_to_kill(self, number, writing):
         """A random session, which says what it begins, and the script on the disk after each answer."""
@@ -634,10 +591,9 @@ class Random(Cores):
                 pick = random.Random(number)
                 maker = Maker(pick, pick.choice(["BED4", "BED6", "BED12", "narrowPeak"]))
                 self.sizes = self.file("sizes", "".join(f"{name}\t{length}\n" for name, length in LENGTHS.items()))
-                self.bed = self.file(f"track{number}.bed", maker.text(maker.file(12)))
-                self.old = self.file("old", "".join("\t".join(maker.line(maker.file(9))) + "\n" for _ in range(6)))
-                self.path = self.folder / f"script{number}"
-                core = self.core(second=None, replayed=[str(self.old)])
+                self.bed, self.path = self.file(f"track{number}.bed", maker.text(maker.file(12))), self.folder / f"script{number}"
+                old = self.file("old", "".join("\t".join(maker.line(maker.file(9))) + "\n" for _ in range(6)))
+                core = self.core(second=None, replayed=[str(old)])
                 for count in range(60):
                     if count % 25 == 24:
                         core = core.again()
@@ -648,8 +604,8 @@ class Random(Cores):
                     call(*words)
                 pieces = []
                 core.stream(pieces.append)
-                outcome = Outcome("apply", self.sizes, self.bed, self.path)
-                self.assertEqual((outcome.status, outcome.out.encode()), (0, b"".join(pieces)), self.path.read_text())
+                track = b"".join(pieces).decode()
+                self.assertEqual(Outcome("apply", self.sizes, self.bed, self.path).gave, (0, track), self.path.read_text())
                 counts = {row[0]: row[2] for row in core.state()["sequences"]}
                 self.assertEqual(counts, {name: sum(row[0] == name for row in self.rows(core)) for name in LENGTHS})
 

@@ -8,12 +8,11 @@ import select
 import subprocess
 import sys
 import time
-import types
 from unittest import mock
 
 from bedkeep.commands import curate
 from bedkeep.commands.prompt_help import HELP
-from helpers import Outcome, Prompt, Prompted
+from helpers import Outcome, Prompt, Prompted, lines, script_of
 
 
 class Curate(Prompt):
@@ -45,17 +44,14 @@ class Curate(Prompt):
                              ("add chr1 20 10 x", "start not below end"), ("add chr1 x 20 y", "start is not a number"),
                              ("resize chr1", "no such command or wrong fields"), ("resize chr1 50", "records past the new end")):
             with self.subTest(line):
-                said = self.typed(line)
-                self.assertEqual([one for one in said if " takes: " not in one], [f"refused: {reason}", *self.hints(line)])
-        self.assertEqual(self.typed("set end geneA 2000")[:-2],
-                         ["named geneA: chr1 100 200 geneA", "refused: end past the sequence's end",
-                          *self.hints("replace chr1 100 200 geneA chr1 100 2000 geneA")])
-        said = self.typed("merge -x")
-        self.assertEqual(said[0], "refused: bad options")
-        self.assertIn("-x", said[1])
+                said = [one for one in self.typed(line) if " takes: " not in one]
+                self.assertEqual(said, [f"refused: {reason}", *self.hints(line)])
+        hints = self.hints("replace chr1 100 200 geneA chr1 100 2000 geneA")
+        self.assertEqual(self.typed("set end geneA 2000")[1:-2], ["refused: end past the sequence's end", *hints])
+        self.assertRegex("\n".join(self.typed("merge -x")), "^refused: bad options\n.*-x")
 
     def test_lines_that_the_prompt_does_not_know(self):
-        for line, *said in (
+        self.listed(self.typed, (
                 ("add chr1 10 20", "refused: wrong number of columns", "   4 columns are needed: chromosome, start, end, name",
                  "   1 takes: add chr1 10 20 ."),
                 ("replace chr1 100 200 geneA chr1 100 250", "refused: wrong number of columns",
@@ -69,9 +65,7 @@ class Curate(Prompt):
                 ("undo 2", "there is no correction 2 that could be taken back"),
                 ("redo 2", "redo does one correction again: write it again for the next one"),
                 ("redo", "nothing to do again"), ("why", "why TEXT: the reason for the last correction"), ("why so", "nothing to take back"),
-                ("take", "no line needs a decision"), ("later", "no line needs a decision"), ("next", "no line needs a decision")):
-            with self.subTest(line):
-                self.assertEqual(self.typed(line), said)
+                ("take", "no line needs a decision"), ("later", "no line needs a decision"), ("next", "no line needs a decision")))
 
     def test_a_record_to_remove_by_its_name_or_its_place(self):
         self.assertEqual(
@@ -101,17 +95,16 @@ class Curate(Prompt):
         self.assertEqual(script.read_text(), "# why\nadd\tchr1\t1\t2\tx\n")
 
     def test_quit_asks_once_for_edits_that_are_not_written(self):
-        self.assertEqual(self.typed("quit", "undo"), [])
-        asked = "The edits aren't written: save FILE, script FILE, or quit again."
-        self.assertEqual(self.typed("add chr1 1 2 x", "quit", "undo", "quit", "undo"),
-                         ["done", asked, "undone: add chr1 1 2 x"])
-        self.assertEqual(self.typed("add chr1 1 2 x", "quit", "quit", "undo"), ["done", asked])
-        self.assertEqual(self.typed("add chr1 1 2 x", f"save {self.folder}/x", "quit", "undo"), ["done", "saved"])
+        asked, add = "The edits aren't written: save FILE, script FILE, or quit again.", "add chr1 1 2 x"
+        for typed, *said in (
+                (["quit"],), ([add, "quit", "undo", "quit"], "done", asked, f"undone: {add}"), ([add, "quit", "quit"], "done", asked),
+                ([add, f"save {self.folder}/x", "quit"], "done", "saved")):
+            self.assertEqual(self.typed(*typed, "undo"), said)
 
     def test_show_says_what_a_place_was_taken_for(self):
         """The answers of `show` that said "no record is there" of a record that is there."""
         there = "chr1\t100\t200\tgeneA"
-        for place, *said in (
+        self.listed(lambda place: self.typed(f"show {place}".strip()), (
                 ("chr1:101-150", "chr1:101-150, from 1:", there), ("chr1:200", "chr1:200, one base, from 1:", there),
                 ("chr1:100", "chr1:100, one base, from 1: no record is there"), ("chr1 100 101", "chr1 100 101, from 0:", there),
                 ("chr1 99 100", "chr1 99 100, from 0: no record is there"), ("chr1\t100\t101", "chr1 100 101, from 0:", there),
@@ -125,21 +118,17 @@ class Curate(Prompt):
                 ("chr9", "no record has chr9 in its name, and the genome has no chr9; it has chr1, chr2"),
                 ("", "a place is chr1:101-200 (from 1), chr1 100 200 (from 0), chr1:150 (one base) or chr1"),
                 ("chr1:,-5", "no record has chr1:,-5 in its name, and a place is chr1:101-200 (from 1), chr1 100 200 (from 0), "
-                             "chr1:150 (one base) or chr1")):
-            with self.subTest(place):
-                self.assertEqual(self.typed(f"show {place}".strip()), said)
+                             "chr1:150 (one base) or chr1")))
         self.assertEqual(self.typed("resize chr1 2000", "show chr1:1001-2,000")[1:], ["chr1:1001-2000, from 1: no record is there"])
 
     def test_find_in_any_case_and_by_a_part(self):
-        genes = self.file("named.bed", "".join(f"chr1\t{start}\t{start + 5}\t{name}\n" for start, name in (
-            (10, "uc002yip.1"), (20, "UC002YIP.1"), (30, "uc002yip.12"), (40, "x"))))
-        rows = {name: f"chr1\t{start}\t{start + 5}\t{name}" for start, name in ((10, "uc002yip.1"), (20, "UC002YIP.1"), (30, "uc002yip.12"))}
-        one, upper, twelve = rows.values()
+        rows = lines("chr1 10 15 uc002yip.1", "chr1 20 25 UC002YIP.1", "chr1 30 35 uc002yip.12", "chr1 40 45 x")
+        genes, (one, upper, twelve, x) = self.file("named.bed", "\n".join(rows)), rows
         self.assertEqual(
             self.typed("find uc002yip.1", "find Uc002yip.12", "find 002YIP", "find chr1:41-45", "find nobody", words=(self.sizes, genes)),
             ["named uc002yip.1:", one, "named uc002yip.1 in any case:", upper, "with uc002yip.1 in the name:", twelve,
              "named Uc002yip.12 in any case:", twelve, "with 002YIP in the name:", one, upper, twelve,
-             "chr1:41-45, from 1:", "chr1\t40\t45\tx", "no record has nobody in its name, and the genome has no nobody; it has chr1, chr2"])
+             "chr1:41-45, from 1:", x, "no record has nobody in its name, and the genome has no nobody; it has chr1, chr2"])
 
     def test_near(self):
         far, near = "chr1\t300\t400\tgeneB", "chr1\t100\t200\tgeneA"
@@ -164,7 +153,7 @@ class Curate(Prompt):
         columns = "the columns are chromosome, start, end, name"
         usage = "set COLUMN RECORD VALUE, such as set end geneA 250 or set end chr1:101-200 250"
         there = "chr1\t100\t200\tgeneA"
-        for line, *said in (
+        self.listed(lambda line: self.typed(line, "script"), (
                 ("set end geneA 200", "named geneA: chr1 100 200 geneA", "nothing changes"),
                 ("set end geneA 0200", "named geneA: chr1 100 200 geneA", "nothing changes"),
                 ("set end geneA", usage), ("set", usage), ("set name geneA new name", usage),
@@ -179,9 +168,7 @@ class Curate(Prompt):
                 ("set end chr2:1-50 250", "no record is at chr2:1-50, from 1"),
                 ("set end 1:101-200 250", "the genome has no 1, and has chr1"),
                 ("set end gene 250", "2 records are with gene in the name: give the place of one, or all its columns", there,
-                 "chr1\t300\t400\tgeneB", "   1 takes: set end chr1 100 200 250", "   2 takes: set end chr1 300 400 250")):
-            with self.subTest(line):
-                self.assertEqual(self.typed(line, "script"), said)
+                 "chr1\t300\t400\tgeneB", "   1 takes: set end chr1 100 200 250", "   2 takes: set end chr1 300 400 250")))
 
     def test_the_rows_of_a_view_at_a_place(self):
         self.assertEqual(
@@ -257,24 +244,19 @@ class Curate(Prompt):
                                  (b"quit\n", b"quit again.\r\nbedkeep> ")):
                 types(text, wanted)
 
-    def test_a_reason_at_a_terminal(self):
+    def test_reasons_and_a_paste_at_a_terminal(self):
+        """Of four pasted lines two were done, and the other two became their reasons."""
         script = self.folder / "corrections"
         with self.terminal(self.sizes, self.genes, "--script", script) as types:
             for text, wanted in ((b"", b"bedkeep> "), (b"add chr1 1 2 x\n", b"why? "), (b"the track lacks it\n", b"bedkeep> "),
                                  (b"remove chr1 1 2 y\n", b"bedkeep> "), (b"remove chr1 1 2 x\n", b"why? "), (b"\x04", b"bedkeep> ")):
                 types(text, wanted)
-        self.assertEqual(script.read_text(), "# the track lacks it\nadd\tchr1\t1\t2\tx\n\nremove\tchr1\t1\t2\tx\n")
-
-    def test_a_paste_at_a_terminal(self):
-        """Of four pasted lines two were done, and the other two became their reasons."""
-        script = self.folder / "corrections"
-        with self.terminal(self.sizes, self.genes, "--script", script) as types:
-            types(b"", b"bedkeep> ")
             said = types(b"add chr1 1 2 x\nadd chr1 3 4 x\nset end geneA 250\nremove chr1 300 400 geneB\n\nfind nobody\n",
                          b"no record has nobody in its name")
         self.assertEqual(said.count(b"no reason is kept for the line above, since a command came"), 3)
-        self.assertEqual(script.read_text(), "add\tchr1\t1\t2\tx\n\nadd\tchr1\t3\t4\tx\n\n"
-                         "replace\tchr1\t100\t200\tgeneA\tchr1\t100\t250\tgeneA\n\nremove\tchr1\t300\t400\tgeneB\n")
+        self.assertEqual(script.read_text(), script_of(
+            "# the track lacks it\nadd chr1 1 2 x\n\nremove chr1 1 2 x\n\nadd chr1 1 2 x\n\nadd chr1 3 4 x\n\n"
+            "replace chr1 100 200 geneA chr1 100 250 geneA\n\nremove chr1 300 400 geneB"))
 
     def test_names_of_any_bytes_in_any_locale(self):
         genes = self.file("bytes.bed", b"chr1\t1\t2\tg\xc3\xa8ne\nchr1\t3\t4\tg\xe8ne\n")
@@ -301,35 +283,33 @@ class Kept(Prompted):
             shown = [f"   merge: nothing -> chr1 {start} {start + 1}" for start in (1, 3, 5)]
             self.assertEqual(says("add chr1 1 2 x", "add chr1 3 4 x", "# typed", "# twice", "add chr1 5 6 x"),
                              [row for one in shown for row in (one, "done")])
-            lines = "# the track lacks it\nadd\tchr1\t1\t2\tx\n\nadd\tchr1\t3\t4\tx\n"
-            self.assertEqual(self.path.read_text(), f"{lines}# typed\n# twice\nadd\tchr1\t5\t6\tx\n")
+            first = "# the track lacks it", "add chr1 1 2 x", "", "add chr1 3 4 x"
+            self.has(*first, "# typed", "# twice", "add chr1 5 6 x")
             self.assertEqual(says("script"), self.path.read_text().splitlines())
             says("undo")
-            self.assertEqual(self.path.read_text(), lines)
+            self.has(*first)
             self.assertEqual(says("# too short", "add chr1 1 2 1 2", "add chr1 7 8 x")[2:],
                              ["   1 takes: add chr1 1 2 1", "   its reason isn't kept for the next line", "   merge: nothing -> chr1 7 8", "done"])
-            self.assertEqual(self.path.read_text(), f"{lines}\nadd\tchr1\t7\t8\tx\n")
+            self.has(*first, "", "add chr1 7 8 x")
             self.assertEqual(says("# a look between", "show chr1:1-2", "add chr1 9 10 x")[-1], "done")
-            self.assertEqual(self.path.read_text(), f"{lines}\nadd\tchr1\t7\t8\tx\n# a look between\nadd\tchr1\t9\t10\tx\n")
-            self.assertEqual(says("why it is new", "undo", "why seen in the cells", "script")[-2:],
-                             ["# seen in the cells", "add\tchr1\t7\t8\tx"])
-            self.assertEqual(self.path.read_text(), f"{lines}# seen in the cells\nadd\tchr1\t7\t8\tx\n")
+            self.has(*first, "", "add chr1 7 8 x", "# a look between", "add chr1 9 10 x")
+            says("why it is new", "undo", "why seen in the cells")
+            self.has(*first, "# seen in the cells", "add chr1 7 8 x")
             self.assertEqual(says("undo", "undo", "undo", "undo")[-1], "nothing to take back")
-            self.assertEqual((self.path.read_text(), says("script")), ("", []))
+            self.has()
+            self.assertEqual(says("script"), [])
             says("# for nothing")
             says.curator.leave()
-        self.assertEqual(self.path.read_text(), "# for nothing\n")
         with self.prompt(asked=False) as says:
             says("# of the next day", "add chr1 1 2 x")
-        self.assertEqual(self.path.read_text(), "# for nothing\n\n# of the next day\nadd\tchr1\t1\t2\tx\n")
+        self.has("# for nothing", "", "# of the next day", "add chr1 1 2 x")
 
     def test_the_reason_of_a_refused_line(self):
         """It went to the next accepted line."""
         with self.prompt(asked=False) as says:
             says("# geneA is too short", "set end geneA 9999999", "set end geneB 450")
             says("# no such gene", "set end geneQ 5", "remove chr1 300 450 geneB", "# a typo", "ad chr1 1 2 x", "add chr1 1 2 x")
-        self.assertEqual(self.path.read_text(), "replace\tchr1\t300\t400\tgeneB\tchr1\t300\t450\tgeneB\n\n"
-                                                "remove\tchr1\t300\t450\tgeneB\n\nadd\tchr1\t1\t2\tx\n")
+        self.has("replace chr1 300 400 geneB chr1 300 450 geneB", "", "remove chr1 300 450 geneB", "", "add chr1 1 2 x")
 
     def test_a_command_is_never_a_reason(self):
         """A paste of four lines at the terminal made two edits, and reasons of the other two."""
@@ -338,11 +318,10 @@ class Kept(Prompted):
             one, other = "   merge: nothing -> chr1 1 2", "   merge: nothing -> chr1 3 4"
             self.assertEqual(says("add chr1 1 2 x"), [one, said, "done", other, said, "done"])
             self.assertEqual(says("add chr1 5 6 z"), ["   merge: nothing -> chr1 5 6", "done"])
-            self.assertEqual(self.path.read_text(), "add\tchr1\t1\t2\tx\n\nadd\tchr1\t3\t4\ty\n# so\nadd\tchr1\t5\t6\tz\n")
             self.assertEqual(says("add chr1 7 8 z"), ["   merge: nothing -> chr1 7 8", said, "done", "named geneA: chr1 100 200 geneA",
                                                       "   merge: chr1 100 200 -> chr1 100 250", "done"])
-        self.assertEqual(self.path.read_text().splitlines()[-4:], [
-            "", "add\tchr1\t7\t8\tz", "# It ends there.", "replace\tchr1\t100\t200\tgeneA\tchr1\t100\t250\tgeneA"])
+        self.has("add chr1 1 2 x", "", "add chr1 3 4 y", "# so", "add chr1 5 6 z", "", "add chr1 7 8 z", "# It ends there.",
+                 "replace chr1 100 200 geneA chr1 100 250 geneA")
 
     def test_it_goes_on(self):
         """On another day the inverse of a line is a paragraph of its own, with the reason of the line, or the line itself."""
@@ -372,7 +351,7 @@ class Kept(Prompted):
                            ("# mine\n\nadd\tchr1\t1\t2\tx\nadd chr1 5 9 x\n", "line 4 has spaces for TABs: add chr1 5 9 x")):
             self.path.write_text(text)
             outcome = Outcome("curate", self.sizes, self.genes, "--script", self.path, typed=["remove chr1 100 200 geneA"])
-            self.assertEqual((outcome.status, outcome.err, outcome.out, self.path.read_text()), (2, f"{self.path}: {said}\n", "", text))
+            self.assertEqual((outcome.all, self.path.read_text()), ((2, "", f"{self.path}: {said}\n"), text))
 
     def test_no_empty_file_is_left(self):
         with self.prompt(asked=False):
@@ -386,8 +365,7 @@ class Kept(Prompted):
                 file.write("# mine")
             self.assertEqual(says("why so"), [f"{self.path}: its last line isn't of this prompt, so the reason isn't there"])
             self.assertEqual(says("undo"), ["undone: add chr1 1 2 x"])
-        self.assertEqual(self.path.read_text(),
-                         "add\tchr1\t1\t2\tx\n# mine\n\n# taken back: add chr1 1 2 x\nremove\tchr1\t1\t2\tx\n")
+        self.has("add chr1 1 2 x", "# mine", "", "# taken back: add chr1 1 2 x", "remove chr1 1 2 x")
 
     def test_an_interrupt_of_an_edit(self):
         with self.prompt(asked=False) as says, mock.patch.object(says.session, "edit_seen", side_effect=KeyboardInterrupt):
@@ -395,15 +373,13 @@ class Kept(Prompted):
 
     def test_review(self):
         pages = []
-        module = types.ModuleType("bedkeep.review.output")
 
         def write_page(genome, bed, scripts, page, second, copies, leave_blocks):
             self.assertFalse(copies or leave_blocks)
             pages.append((genome, bed, page, second, pathlib.Path(scripts[0]).read_text()))
             pathlib.Path(page).touch()
 
-        module.write_page = write_page
-        page = f"{self.path}.html"
+        page, module = f"{self.path}.html", mock.Mock(write_page=write_page)
         with mock.patch.dict("sys.modules", {"bedkeep.review.output": module}), mock.patch("webbrowser.open") as browser:
             with self.prompt(asked=False) as says:
                 self.assertEqual(says("add chr1 1 2 x", "review", "review"), ["done", f"written: {page}", f"written: {page}"])
@@ -421,19 +397,17 @@ class Kept(Prompted):
 
     def test_the_command_line(self):
         words = "curate", self.sizes, self.genes, "--script"
-        outcome = Outcome(*words, self.path, typed=["add chr1 1 2 x", "# later", "quit"])
-        self.assertEqual((outcome.status, outcome.out), (0, "2 records of 4 columns; `help` lists the commands\ndone\n"))
-        self.assertEqual(self.path.read_text(), "add\tchr1\t1\t2\tx\n# later\n")
+        said = "2 records of 4 columns; `help` lists the commands\ndone\n"
+        self.assertEqual(Outcome(*words, self.path, typed=["add chr1 1 2 x", "# later", "quit"]).gave, (0, said))
+        self.has("add chr1 1 2 x", "# later")
         for script, message in (self.genes, f"{self.genes} is a file of this session"), (self.folder, "it is a folder"):
             outcome = Outcome(*words, script)
             self.assertEqual((outcome.status, message in outcome.err), (2, True))
 
     def test_an_answer_that_is_none(self):
-        for failure, answer in (KeyboardInterrupt, None), (EOFError, ""):
-            with mock.patch("builtins.input", side_effect=failure), contextlib.redirect_stdout(io.StringIO()):
+        for given, answer in (KeyboardInterrupt, None), (EOFError, ""), (["so"], "so"):
+            with mock.patch("builtins.input", side_effect=given), contextlib.redirect_stdout(io.StringIO()):
                 self.assertEqual(curate.Typed().answer("why? "), answer)
-        with mock.patch("builtins.input", return_value="so"):
-            self.assertEqual(curate.Typed().answer("why? "), "so")
 
     def test_lines_that_come_at_once(self):
         """A terminal may hand in a paste of several lines as one."""

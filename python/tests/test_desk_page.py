@@ -163,6 +163,9 @@ class Page(Case):
             self.assertEqual(len(desk.lines()), left)
         tab.key("u")
         tab.wait("document.getElementById('hand').innerText.includes('Nothing to take back')")
+        tab.key("U", "U", "u", "u")  # faster than the answers
+        tab.wait("document.getElementById('hand').innerText.includes('Taken back') && desk.state.can_undo === null")
+        self.assertEqual(desk.lines(), [])
 
     def test_no_reason_asks_twice(self):
         desk = self.desk()
@@ -251,7 +254,7 @@ class Page(Case):
         self.save(tab, "by the reads")
         self.assertEqual({tuple(line.split("\t")[8:10]) for line in desk.lines()[1:]}, {("1000", value), (value, "3000")})
         tab.key("b")
-        tab.wait("document.activeElement.id === 'value'")
+        tab.wait("document.activeElement.id === 'value' && document.getElementById('verdict').innerText === 'Nothing changes.'")
         tab.type("2100")
         self.save(tab, "by more reads")
         self.assertEqual(tab.run("desk.picked.map(one => one[1]).sort().join()"), "1000,2100")
@@ -328,7 +331,8 @@ class Page(Case):
         self.assertEqual(tab.run(shown), 300)
         self.assertEqual(tab.text("#list .more"), "Show 300 more of 700 earlier ones")
         for count in (600, 900, 1000):
-            tab.click("(document.querySelector('#list .more').scrollIntoView(), document.querySelector('#list .more'))")
+            tab.run("document.querySelector('#list .more').scrollIntoView()")
+            tab.click("document.querySelector('#list .more')")
             tab.wait(f"{shown} === {count}")
         self.assertFalse(tab.run("Boolean(document.querySelector('#list .more'))"))
 
@@ -509,6 +513,48 @@ class Page(Case):
         self.assertIn("All 3 lines have their decisions", tab.text("#hand"))
         self.assertEqual(desk.lines()[-1].split("\t")[8:10], ["2900", "4100"])
         self.assertIn("# dropped: remove\tchr1\t7000\t7100\tgeneX\t0\t+", desk.lines())
+
+    def test_other_lines_are_offered(self):
+        """One that both changed as the old line has it, and one whose record is gone as a new record; and one that the release has."""
+        fits = "replace\tchr1\t3900\t4500\tgeneC\t5\t+\tchr1\t3900\t4600\tgeneC\t5\t+"
+        self.write("old", "replace\tchr1\t3000\t3900\tgeneB\t0\t-\tchr1\t3000\t4100\tgeneB\t0\t-\n\n"
+                   f"replace\tchr1\t7000\t7100\tgeneX\t0\t+\tchr1\t7000\t7050\tgeneX\t0\t+\n\nreplace\tchr1\t900\t2000\tgeneA\t0\t+\tchr1\t900\t2100\tgeneA\t0\t+\n\n{fits}\n")
+        desk = self.desk("--replay", "old")
+        desk.edit("replace\tchr1\t1000\t2000\tgeneA\t0\t+\tchr1\t1000\t2100\tgeneA\t0\t+", reason="before its decision")
+        tab = self.tab(desk)
+        tab.key("2", "j")
+        for left, line in (2, "replace\tchr1\t3000\t4000\tgeneB\t0\t-\tchr1\t3000\t4100\tgeneB\t0\t-"), (1, "add\tchr1\t7000\t7050\tgeneX\t0\t+"):
+            tab.wait("document.querySelector('#hand .offers button')")
+            tab.click("document.querySelector('#hand .offers button')")
+            self.save(tab, "as it was asked for")
+            tab.wait(f"desk.state.worklist.open === {left}")
+            self.assertEqual(desk.lines()[-1], line)
+        tab.wait("document.querySelector('#hand.refused') && document.getElementById('hand').innerText.includes('after an earlier decision')")
+        tab.key("x")
+        tab.wait("document.activeElement.id === 'why'")
+        tab.type("done already")
+        tab.key("Enter")
+        tab.wait("desk.state.worklist.open === 0")
+
+    def test_another_paragraph_is_written_whole(self):
+        self.write("old", "# together: two genes\nreplace\tchr1\t7000\t7100\tgeneX\t0\t+\tchr1\t7000\t7050\tgeneX\t0\t+\nadd\tchr1\t7050\t7100\tgeneY\t0\t+\n")
+        desk = self.desk("--replay", "old")
+        tab = self.tab(desk)
+        tab.wait("desk.state.worklist")
+        tab.key("2", "j", "w")
+        tab.wait("document.activeElement.id === 'raw'")
+        self.assertEqual(len(tab.run("document.activeElement.value").split("\n")), 2)
+        tab.key("Escape")
+        tab.wait("!document.getElementById('raw')")
+        tab.key("w")
+        tab.wait("document.activeElement.id === 'raw'")
+        tab.run("document.activeElement.select()")
+        tab.type("add chr1 7000 7050 geneX 0 +\nadd chr1 7050 7100 geneY 0 +")
+        tab.key("Enter")
+        self.save(tab, "new ones")
+        tab.wait("desk.state.worklist.open === 0")
+        self.assertEqual([line for line in desk.lines() if not line.startswith("# was: ")],
+                         ["# together: two genes", "# new ones", "add\tchr1\t7000\t7050\tgeneX\t0\t+", "add\tchr1\t7050\t7100\tgeneY\t0\t+"])
 
     # How it looks
 

@@ -11,8 +11,11 @@ from helpers import Case, Outcome, tabs
 from test_replay import LENGTHS, altered, some_record
 
 
-
 class Diff(Case):
+    def setUp(self):
+        super().setUp()
+        self.sizes = self.file("sizes", "".join(f"{name}\t{length}\n" for name, length in LENGTHS.items()))
+
     def files(self, old, new):
         return self.file("old.bed", tabs(old) if old else ""), self.file("new.bed", tabs(new) if new else "")
 
@@ -31,6 +34,8 @@ class Changes(Diff):
         self.assertEqual(self.script("", "chr1 01 2"), ["", "add chr1 1 2"])
         self.assertEqual(self.script("chr1 5 9 a 0 +", "chr2 5 9 a 0 +\nchr1 50 90 a 0 -\nchr1 70 90 a 0 +"), [
             "", "replace chr1 5 9 a 0 + chr1 70 90 a 0 +", "add chr2 5 9 a 0 +", "add chr1 50 90 a 0 -"])
+        wide = "chr1 5 9 a 0 + 5 9 0"
+        self.assertEqual(self.script(f"{wide}\n{wide}", f"{wide}\n{wide[:-1]}9"), ["", f"replace {wide} {wide[:-1]}9"])
 
     def test_numbers_and_line_ends_are_no_difference(self):
         old = self.file("old.bed", "track name=x\nchr1\t1\t2\ta\r\n\r\nchr1\t05\t6\tb\n")
@@ -57,18 +62,13 @@ class Changes(Diff):
 
     def test_what_cannot_be_compared(self):
         old, new = self.files("chr1 1 2 a", "chr1 1 2 a 0 +")
-        self.assertEqual(Outcome("diff", "-", "-").status, 2)
-        for first, second in (old, new), (new, old):
+        spaces, ragged = self.file("spaces.bed", "chr1 1 2 a\n"), self.file("ragged", tabs("chr1 1 2 a\nchr1 1 2"))
+        for first, second, said in (
+                ("-", "-", "only one file can be standard input"), (old, new, f"cut -f1-4 {new}"), (new, old, f"cut -f1-4 {new}"),
+                (old, spaces, f"{spaces}: record 1 has spaces instead of TABs"), (old, ragged, f"{ragged}: record 2: wrong number of columns\n")):
             outcome = Outcome("diff", first, second)
-            self.assertEqual((outcome.status, outcome.out), (2, ""))
-            self.assertIn(f"cut -f1-4 {new}", outcome.err)
-        spaces = self.file("spaces.bed", "chr1 1 2 a\n")
-        outcome = Outcome("diff", old, spaces)
-        self.assertEqual(outcome.status, 2)
-        self.assertIn(f"{spaces}: record 1 has spaces instead of TABs", outcome.err)
-        ragged = self.file("ragged", tabs("chr1 1 2 a\nchr1 1 2"))
-        outcome = Outcome("diff", old, ragged)
-        self.assertEqual((outcome.status, outcome.err), (2, f"{ragged}: record 2: wrong number of columns\n"))
+            self.assertEqual(outcome.gave, (2, ""))
+            self.assertIn(said, outcome.err)
 
     def test_a_reader_that_has_enough_is_no_failure(self):
         old, new = self.file("old.bed", ""), self.file("new.bed", "".join(f"chr1\t{at}\t{at + 1}\n" for at in range(50_000)))
@@ -130,32 +130,26 @@ class Copies(Diff):
         self.assertEqual(self.copies("chr1 1 9 a", "chr1 1 9 a\nchr1 9 12 a"), "")
 
     def test_it_is_what_apply_leaves_out(self):
-        sizes = self.file("sizes", "chr1\t1000\n")
         for seed in range(60):
             pick = random.Random(seed)
             width = pick.choice([3, 4, 6])
-
-            def some():
-                start = pick.randrange(300)
-                return ["chr1", str(start), str(start + pick.choice([20, 50, 90])), pick.choice("abcd."), "0", pick.choice("+-")][:width]
-
-            old = [some() for _ in range(pick.randint(1, 12))]
-            new = [some() for _ in range(pick.randint(0, 4))] + [pick.choice(old) for _ in range(pick.randint(0, 2))]
+            old, more = ([some_record(pick)[:width] for _ in range(count)] for count in (pick.randint(1, 12), pick.randint(0, 4)))
+            new = more + [pick.choice(old) for _ in range(pick.randint(0, 2))]
             for one in old:
-                middle = str(int(one[1]) + 8)
-                chance = pick.random()
-                new += [[*one[:2], middle, *one[3:]], [one[0], middle, *one[2:]]] if chance < 0.15 else [one] if chance < 0.85 else []
+                chance, (start, end) = pick.random(), map(int, one[1:3])
+                middle = str((start + end) // 2)
+                split = [(*one[:2], middle, *one[3:]), (one[0], middle, *one[2:])] if end - start > 1 else []
+                new += split if chance < 0.15 else [one] if chance < 0.85 else []
             files = ["\n".join(map(" ".join, records)) for records in (old, new)]
             script = self.file("script", Outcome("diff", *self.files(*files)).out)
             counted = re.match("([0-9]*)", self.copies(*files))[0] or 0
-            left = re.findall("already there:|there with another", Outcome("apply", sizes, self.folder / "old.bed", script).err)
+            left = re.findall("already there:|there with another", Outcome("apply", self.sizes, self.folder / "old.bed", script).err)
             self.assertEqual(len(left), int(counted), seed)
 
 
 class Replayed(Diff):
     def test_replayed_it_gives_the_second_file(self):
         """Also if copies of a record have other columns after the sixth."""
-        sizes = self.file("sizes", "".join(f"{name}\t{length}\n" for name, length in LENGTHS.items()))
         for seed in range(80):
             with self.subTest(seed=seed):
                 pick = random.Random(seed)
@@ -167,7 +161,7 @@ class Replayed(Diff):
                 pick.shuffle(new)
                 first, second = self.files("\n".join(old), "\n".join(new))
                 script = self.file("script", Outcome("diff", first, second).out)
-                outcome = Outcome("apply", sizes, first, script, "--strict", "--copies")
+                outcome = Outcome("apply", self.sizes, first, script, "--strict", "--copies")
                 self.assertEqual((outcome.status, outcome.err), (0, ""))
                 self.assertEqual(sorted(outcome.out.split("\n")), sorted(second.read_text().split("\n")))
 

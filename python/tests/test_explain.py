@@ -39,7 +39,7 @@ class Offers(Case):
         return ["; ".join(offer["lines"]).replace("\t", " ") + (f" ({offer['note']})" if offer["note"] else "") for offer in offers]
 
     def test_what_a_field_may_mean(self):
-        for line, *offers in (
+        self.listed(self.offers, (
                 ("add 1 10 20 x 0 +", "add chr1 10 20 x 0 + (as the genome file calls it)"),
                 ("add CHR2 10 20 x 0 +", "add chr2 10 20 x 0 + (as the genome file calls it)"), ("add chr9 10 20 x 0 +",),
                 ("replace chr1 100 200 geneA 5 + 1 100 250 geneA 5 +",
@@ -56,23 +56,19 @@ class Offers(Case):
                 ("remove chr1 100 200 geneB",), ("remove chr1 100 x",),
                 ("replace chr1 100 200 chr1 100 250", "replace chr1 100 200 geneA 5 + chr1 100 250 geneA 5 +"),
                 ("resize 2 600", "resize chr2 600 (as the genome file calls it)"), ("resize chr2 6,00", "resize chr2 600"),
-                ("resize chr1 50", "resize chr1 420 (where its last record ends)"), ("resize chr2",)):
-            with self.subTest(line):
-                self.assertEqual(self.offers(line), offers)
+                ("resize chr1 50", "resize chr1 420 (where its last record ends)"), ("resize chr2",)))
 
-    def test_an_end_past_that_of_the_sequence(self):
-        self.assertEqual(self.offers("add chr2 450 600 x 0 +"),
-                         ["add chr2 450 500 x 0 + (to the end of chr2)", "resize chr2 600; add chr2 450 600 x 0 + (chr2 is longer by now)"])
-        self.assertEqual(self.offers("add chr2 550 600 x 0 +"), ["resize chr2 600; add chr2 550 600 x 0 + (chr2 is longer by now)"])
+    def test_an_end_past_that_of_the_sequence_and_one_fault_after_another(self):
+        self.listed(self.offers, (
+                ("add chr2 450 600 x 0 +", "add chr2 450 500 x 0 + (to the end of chr2)",
+                 "resize chr2 600; add chr2 450 600 x 0 + (chr2 is longer by now)"),
+                ("add chr2 550 600 x 0 +", "resize chr2 600; add chr2 550 600 x 0 + (chr2 is longer by now)"),
+                ("add 1 1,90 180 x 0 +", "add chr1 180 190 x 0 + (as the genome file calls it)"),
+                ("remove 1 300 401 geneB 7 -", "remove chr1 300 400 geneB 7 - (as the genome file calls it, end 1 base earlier)")))
         self.assertEqual(self.refused("add chr2 450 600 x 0 +")[0]["reason"], "end past the sequence's end")
 
-    def test_one_fault_after_another(self):
-        self.assertEqual(self.offers("add 1 1,90 180 x 0 +"), ["add chr1 180 190 x 0 + (as the genome file calls it)"])
-        self.assertEqual(self.offers("remove 1 300 401 geneB 7 -"),
-                         ["remove chr1 300 400 geneB 7 - (as the genome file calls it, end 1 base earlier)"])
-
     def test_a_record_that_is_not_there(self):
-        for line, *offers in (
+        self.listed(self.offers, (
                 ("remove chr1 300 401 geneB 7 -", "remove chr1 300 400 geneB 7 - (end 1 base earlier)"),
                 ("replace chr1 100 201 geneA 5 + chr1 100 250 geneA 5 +",
                  "replace chr1 100 200 geneA 5 + chr1 100 250 geneA 5 + (end 1 base earlier)"),
@@ -82,9 +78,7 @@ class Offers(Case):
                  "replace chr1 100 200 geneA 5 + chr1 100 250 geneA 5 + (name geneX → geneA)"),
                 ("remove chr2 30 41 . 0 .", "remove chr2 30 40 . 0 . (end 1 base earlier)"),
                 ("remove chr1 700 800 geneQ 0 +",),  # No record of another name and place.
-                ("replace chr1 100 200 geneA 9 + chr1 100 200 geneA 5 +",)):  # It is so already.
-            with self.subTest(line):
-                self.assertEqual(self.offers(line), offers)
+                ("replace chr1 100 200 geneA 9 + chr1 100 200 geneA 5 +",)))  # It is so already.
         near = [as_text(note) for note in self.refused("remove chr1 700 800 geneQ 0 +")[0]["says"]]
         self.assertEqual(near, ["near: chr1 300 420 geneC 0 -", "near: chr1 300 400 geneB 7 -", "near: chr1 100 200 geneA 5 +"])
 
@@ -111,9 +105,8 @@ class Offers(Case):
 
     def test_a_line_of_the_second_file(self):
         """Its records aren't those of the track."""
-        self.assertEqual(self.offers("removeb chr1 100 200"), [])
-        self.assertEqual(self.offers("addb chr1 20 10"), ["addb chr1 10 20"])
-        self.assertEqual(self.offers("removeb 1 150 350"), ["removeb chr1 150 350 (as the genome file calls it)"])
+        self.listed(self.offers, (("removeb chr1 100 200",), ("addb chr1 20 10", "addb chr1 10 20"),
+                                  ("removeb 1 150 350", "removeb chr1 150 350 (as the genome file calls it)")))
         self.core.region("chr1", 0, 1000)  # It holds the second file's records from here on.
         self.assertEqual(self.offers("removeb chr1 150 351"), ["removeb chr1 150 350 (end 1 base earlier)"])
 
@@ -129,10 +122,8 @@ class Wide(Offers):
 
     def test_what_a_field_may_mean(self):
         self.assertEqual(self.offers("add chr1 10 20 x 0 + 7"), ["add chr1 10 20 x 0 +"])
-
-    def test_a_block_that_would_be_cut(self):
-        self.assertEqual(self.offers("replace chr1 100 200 geneA 5 + chr1 100 105 geneA 5 +"),
-                         ["replace chr1 100 200 geneA 5 + 120 180 0 2 10,20, 0,80, chr1 100 105 geneA 5 + 100 100 0 1 5, 0,"])
+        cut = "replace chr1 100 200 geneA 5 + 120 180 0 2 10,20, 0,80, chr1 100 105 geneA 5 + 100 100 0 1 5, 0,"
+        self.assertEqual(self.offers("replace chr1 100 200 geneA 5 + chr1 100 105 geneA 5 +"), [cut])
 
     def test_a_mistyped_field_of_the_new_record(self):
         old = "replace chr1 300 400 geneB 7 - 300 300 0 1 100, 0,"
@@ -182,7 +173,3 @@ class Parts(unittest.TestCase):
         self.assertEqual([part["kind"] for part in as_json(note)],
                          ["bold", "text", "code", "text", "link", "text", "line", "records"])
         self.assertEqual(as_json(note)[4], {"kind": "link", "text": "line 2", "number": 2})
-
-
-if __name__ == "__main__":
-    unittest.main()

@@ -1,4 +1,4 @@
-"""What is asked of a session without a print of all its records."""
+"""What is looked for in a session."""
 import gc
 import gzip
 import os
@@ -12,7 +12,7 @@ from collections import Counter
 from unittest import mock
 
 import bedkeep
-from helpers import Case, children, many
+from helpers import Case, children
 
 ODD = ("track name=genes\n#c\n\n\r\nbrowser\nchr1\t0100\t200\tgeneA\r\nbrowsers\t5\t6\tgeneA\n# \tgeneA\n"
        "chr1\t300\t400\tgeneB\ntrack\nchr1\t7\t8\tgeneA2")
@@ -22,52 +22,48 @@ class Looks(Case):
     def test_len_iteration_and_in(self):
         with self.session() as session:
             self.assertEqual((len(session), list(session), bool(session)), (2, session.records(), True))
-            session.add("chr2", 5, 10, "x")
-            session.replace(("chr2", 5, 10, "x"), ("chr2", 6, 10, "x"))
-            session.remove("chr1", 100, 200, "geneA")
+            session.replace(("chr1", 100, 200, "geneA"), ("chr2", 6, 10, "x"))
             self.assertEqual(len(session), 2)
-            script = session.script()
             self.assertIn(("chr2", "06", 10, "x"), session)
-            for record in ("chr2", 5, 10, "x"), ("chr1", 100, 200, "geneA"), ("chr1", 300, 400), ("chr9", 1, 2, "x"):
+            for record in ("chr1", 100, 200, "geneA"), ("chr1", 300, 400), ("chr9", 1, 2, "x"):
                 self.assertNotIn(record, session)
             with self.assertRaises(TypeError):
                 "chr1" in session
-            session.undo()
-            self.assertEqual((len(session), session.script().count("\n")), (3, script.count("\n") - 1))
         with bedkeep.Session(self.sizes, os.devnull) as session:
             self.assertEqual((len(session), list(session), bool(session)), (0, [], True))
 
     def test_lines_that_are_no_records(self):
         self.sizes = self.file("sizes", "#x\nchrom\tsize\nchr1\t1000\nbrowsers\t10\nchr2\t500\n")
         self.genes = self.file("odd.bed", ODD)
-        with self.session() as session, mock.patch.object(session, "_print_track", side_effect=AssertionError):
+        with self.session() as session:
             self.assertEqual(len(session), 4)
             self.assertEqual(session.find("geneA"), [("chr1", 100, 200, "geneA"), ("browsers", 5, 6, "geneA")])
-            self.assertEqual(session.find("geneA2"), [("chr1", 7, 8, "geneA2")])
-            self.assertEqual(session.find("gene"), [])
+            self.assertEqual((session.find("geneA2"), session.find("gene")), ([("chr1", 7, 8, "geneA2")], []))
             self.assertEqual(session.region("chr1", 8, 101), [("chr1", 100, 200, "geneA")])
             self.assertEqual(session.region("chr1", -5, 8)[0].name, "geneA2")
-        for text, count in (("", 0), ("\n", 0), ("#\n", 0), ("chr1\t1\t2\n\n\n\n", 1), ("track\tx\t1\n", None), ("tracks 1\n", None)):
-            if count is not None:
-                with bedkeep.Session(self.sizes, self.file("few.bed", text), width=3) as session:
-                    self.assertEqual((len(session), session.find("x")), (count, []))
+        for text, count in ("", 0), ("\n", 0), ("#\n", 0), ("chr1\t1\t2\n\n\n\n", 1):
+            with bedkeep.Session(self.sizes, self.file("few.bed", text), width=3) as session:
+                self.assertEqual((len(session), session.find("x")), (count, []))
 
     def test_files_that_cannot_be_looked_at_again(self):
-        """A pipe, a table in memory, a file that was written again: then all records are printed if they have to be."""
+        """A pipe, or a file that was written again."""
         before = [("chr1", 100, 200, "geneA"), ("chr1", 300, 400, "geneB")]
         program = self.script("program", f'exec "$BEDKEEP" session -g "$3" -i <(cat {self.genes})')
         piped = bedkeep.Session(self.sizes, "/dev/fd/99", program=program)
-        genome = bedkeep.Session("/dev/fd/99", self.genes, program=self.script(
-            "other", f'exec "$BEDKEEP" session -g <(cat {self.sizes}) -i "$5"'))
+        end, begin = os.pipe()
+        with os.fdopen(begin, "wb") as pipe:
+            pipe.write(self.sizes.read_bytes())
+        genome = bedkeep.Session(f"/dev/fd/{end}", self.genes)
+        os.close(end)
         changed = self.session()
-        begun = self.session(program=self.script(
-            "third", f'cp {self.sizes} {self.sizes}2; mv {self.sizes}2 {self.sizes}; exec "$BEDKEEP" "$@"'))
-        self.assertIsNone(begun._lookup.lengths)
+        with self.assertRaisesRegex(bedkeep.Error, "sizes was written while it was read"):
+            self.session(program=self.script(
+                "third", f'cp {self.sizes} {self.sizes}2; mv {self.sizes}2 {self.sizes}; exec "$BEDKEEP" "$@"'))
         self.genes, given = self.file("others.bed", self.genes.read_text()), self.genes
         other = self.session()
         given.write_text("chr1\t7\t8\tgeneC\n")
         self.sizes.write_text("chr1\t9\n")
-        for session in piped, genome, changed, begun, other:
+        for session in piped, genome, changed, other:
             with session:
                 self.assertEqual((len(session), session.find("geneA"), session.search("ENEa")), (2, before[:1], before[:1]))
                 self.assertEqual(session.named(["geneB", "x"]), {"geneB": [("chr1", "300", "400", "geneB")], "x": []})
@@ -75,8 +71,7 @@ class Looks(Case):
                 self.assertEqual(session.near("chr1", 310, 400), before[::-1])
                 self.assertEqual(session.around([("chr1", 0, 2), ("chr1", 350, 9000)]), {("chr1", "300", "400", "geneB"): 1})
                 for place in ("chr9",), ("chr1", 1000, 1001):
-                    with self.assertRaises(ValueError):
-                        session.region(*place)
+                    self.assertRaises(ValueError, session.region, *place)
 
     def test_places_that_are_not_there(self):
         with self.session() as session:
@@ -88,16 +83,13 @@ class Looks(Case):
                 with self.subTest(place), self.assertRaisesRegex(ValueError, message):
                     session.region(*place)
                 if len(place) == 3 and "below" not in message:
-                    with self.assertRaisesRegex(ValueError, message):
-                        session.near(*place)
-                    with self.assertRaises(ValueError):
-                        session.show("records", *place)
+                    self.assertRaisesRegex(ValueError, message, session.near, *place)
+                    self.assertRaises(ValueError, session.show, "records", *place)
             self.assertEqual(session.region("chr1", 350, 10 ** 9), [("chr1", 300, 400, "geneB")])
             session.resize("chr2", 501)
             self.assertEqual((session.region("chr2", 500, 501), session.lengths), ([], {"chr1": 1000, "chr2": 501}))
             self.assertEqual((session.length("chr2"), session.undo(), session.length("chr2")), (501, "resize\tchr2\t501", 500))
-            with self.assertRaisesRegex(ValueError, "no chr9"):
-                session.length("chr9")
+            self.assertRaisesRegex(ValueError, "no chr9", session.length, "chr9")
 
     def test_records_and_looks_beside_a_model(self):
         """Which counts the records of a list, after any edits, refused ones, undos and a longer sequence."""
@@ -128,8 +120,7 @@ class Looks(Case):
                     session.resize("chr1", 3000)
                 order = sorted(model.elements(), key=lambda record: (record[0], int(record[1]), int(record[2]), record[3].encode()))
                 self.assertEqual([tuple(map(str, row)) for row in session.records()], order)
-                with mock.patch.object(session, "_print_track", side_effect=AssertionError):
-                    self.check_looks(session, order, chance)
+                self.check_looks(session, order, chance)
                 self.assertEqual([session.net(record) for record in order], [model[record] - file[record] for record in order])
 
     def check_looks(self, session, order, chance):
@@ -143,11 +134,9 @@ class Looks(Case):
         def texts(rows):
             return [tuple(map(str, row)) for row in rows]
 
-        self.assertEqual(len(session), len(order))
-        self.assertEqual(session.around(regions), Counter(within(*regions)))
+        self.assertEqual((len(session), session.around(regions)), (len(order), Counter(within(*regions))))
         for names in ["Ab", "x"], ["a", "Ab", "é", "É", "b.c", "new"]:
-            with mock.patch("bedkeep.file_search.FEW", chance.choice([2, 12])):
-                self.assertEqual(session.named(iter(names)), {name: [one for one in order if one[3] == name] for name in names})
+            self.assertEqual(session.named(iter(names)), {name: [one for one in order if one[3] == name] for name in names})
             self.assertEqual(texts(session.find(names[0])), [one for one in order if one[3] == names[0]])
         for part in "a", "AB", "é", ".", "", "chr":
             self.assertEqual(texts(session.search(part)), [one for one in order if part.lower() in one[3].lower()])
@@ -161,13 +150,11 @@ class Looks(Case):
     def test_copies_that_were_taken_and_came_back(self):
         x, y = ("chr1", 100, 200, "geneA"), ("chr1", 5, 9, "y")
         with self.session() as session:
-            for edit, taken in (
-                (lambda: session.remove(x), (1, 0)), (lambda: session.add(x), (0, 0)), (lambda: session.add(x), (0, 0)),
-                (lambda: session.replace(x, y), (1, 0)), (lambda: session.replace(y, y), (1, 0)), (lambda: session.remove(y), (1, 1)),
-                (session.undo, (1, 0)), (session.undo, (1, 0)), (lambda: session.replace(y, x), (0, 1)), (session.undo, (1, 0)),
-                (session.undo, (0, 0)), (session.undo, (0, 0)), (session.undo, (1, 0)), (session.undo, (0, 0)),
-            ):
-                edit()
+            for call, *words, taken in (
+                    ("remove", x, (1, 0)), ("add", x, (0, 0)), ("add", x, (0, 0)), ("replace", x, y, (1, 0)), ("replace", y, y, (1, 0)),
+                    ("remove", y, (1, 1)), ("undo", (1, 0)), ("undo", (1, 0)), ("replace", y, x, (0, 1)), ("undo", (1, 0)),
+                    ("undo", (0, 0)), ("undo", (0, 0)), ("undo", (1, 0)), ("undo", (0, 0))):
+                getattr(session, call)(*words)
                 self.assertEqual((session.taken(x), session.taken(y)), taken)
             self.assertEqual((session.net(x), len(session.find("geneA")), session.script()), (0, 1, ""))
 
@@ -183,13 +170,6 @@ class Looks(Case):
         self.genes = self.file("far.bed", "chr1\t5\t9\ta\nchr1\t3999999000\t4000000000\tb\n")
         with self.session() as session:
             self.assertEqual([row.name for row in session.near("chr1", 2_000_000_000, 2_000_000_001)], ["b", "a"])
-
-    def test_a_million_records(self):
-        self.sizes, self.genes = many(self.folder, 1_000_000)
-        with self.session() as session, mock.patch.object(session, "_print_track", side_effect=AssertionError):
-            self.assertEqual(len(session), 1_000_000)
-            self.assertEqual([row.start for row in session.near("chr1", 5_000_003, 5_000_015)], [5_000_000, 5_000_010, 4_999_990])
-            self.assertEqual(len(session.find("g77")), 10_000)
 
 
 class Held(Case):
@@ -238,14 +218,12 @@ class Shared(Case):
             status = 1
             try:
                 for call in session.records, session.script, lambda: session.add("chr1", 1, 2, "x"), lambda: len(session):
-                    with self.assertRaisesRegex(bedkeep.Error, f"belongs to process {os.getppid()}"):
-                        call()
+                    self.assertRaisesRegex(bedkeep.Error, f"belongs to process {os.getppid()}", call)
                 session.close()
                 status = 0
             finally:
                 os._exit(status)
-        self.assertEqual(os.waitpid(child, 0)[1], 0)
-        self.assertEqual(len(session.records()), 2)
+        self.assertEqual((os.waitpid(child, 0)[1], len(session.records())), (0, 2))
 
     def test_a_forked_process_leaves_the_files(self):
         """They are those of the process that began the session, also if the other one ends as Python does."""
@@ -274,8 +252,7 @@ class Shared(Case):
                 thread.start()
             for thread in threads:
                 thread.join()
-            self.assertEqual(failures, [])
-            self.assertEqual(sum(row.name.startswith("t") for row in session.records()), 300)
+            self.assertEqual((failures, sum(row.name.startswith("t") for row in session.records())), ([], 300))
             with bedkeep.Session(self.sizes, self.genes) as again:
                 self.assertEqual((again.edit(session.script()), again.records()), ([], session.records()))
 
@@ -291,9 +268,8 @@ class Shown(Case):
         with self.session() as session:
             session.edit(["add\tchr1\t1\t2\t<x>", "remove\tchr1\t1\t2\t&"])
             shown = session._repr_html_()
-            self.assertIn("<td>&lt;x&gt;</td>", shown)
-            self.assertIn("1 refused", shown)
-            self.assertIn("<td>no such record</td><td>remove\tchr1\t1\t2\t&amp;</td>", shown)
+            for part in "<td>&lt;x&gt;</td>", "1 refused", "<td>no such record</td><td>remove\tchr1\t1\t2\t&amp;</td>":
+                self.assertIn(part, shown)
             session.edit("")
             self.assertNotIn("refused", session._repr_html_())
 
@@ -307,10 +283,8 @@ class Types(Case):
                 for call in session.add, session.remove:
                     with self.subTest(record), self.assertRaises(TypeError):
                         call(*record)
-                with self.assertRaises((TypeError, ValueError, bedkeep.Refused)):
-                    session.replace(("chr1", 100, 200, "geneA"), record)
-            with self.assertRaises(TypeError):
-                session.resize("chr1", 5.5)
+                self.assertRaises((TypeError, ValueError, bedkeep.Refused), session.replace, ("chr1", 100, 200, "geneA"), record)
+            self.assertRaises(TypeError, session.resize, "chr1", 5.5)
             self.assertEqual((session.script(), len(session.records())), ("", 2))
 
     def test_scores_with_a_fraction(self):
@@ -325,11 +299,9 @@ class Types(Case):
             for lines in self.folder / "corrections", b"add\tchr1\t1\t2\tx", {"add\tchr1\t1\t2\tx": 1}, [("add", "chr1")], 5:
                 with self.subTest(lines), self.assertRaises(TypeError):
                     session.edit(lines)
-            with self.assertRaisesRegex(TypeError, "text with TABs, and not .'add'"):
-                session.edit([("add", "chr1", 1, 2)])
+            self.assertRaisesRegex(TypeError, "text with TABs, and not .'add'", session.edit, [("add", "chr1", 1, 2)])
             for lines in "corrections", str(self.folder / "corrections"):
-                with self.assertRaisesRegex(ValueError, "no line of a script"):
-                    session.edit(lines)
+                self.assertRaisesRegex(ValueError, "no line of a script", session.edit, lines)
             self.assertEqual(session.edit("# a comment"), [])
             with open(self.genes, "rb") as file, self.assertRaises(TypeError):
                 session.edit(file)
@@ -343,10 +315,33 @@ class Types(Case):
             self.assertEqual(session.script(), "add\tchr1\t1\t2\tx\nadd\tchr1\t1\t3\tx\n")
             self.assertEqual(session.edit("add\tchr1\t1\t2\tx", strict=True), [])
 
+    def test_what_is_said_of_other_types(self):
+        genome, bed = self.sizes, self.genes
+        with self.session() as session:
+            for call, error, said in (
+                (lambda: bedkeep.merge(genome, 5), TypeError, "a path is text, and not 5"),
+                (lambda: bedkeep.merge({"chr1": 1.5}, bed), TypeError, "text or a whole number, and not 1.5"),
+                (lambda: bedkeep.merge(genome, bed, d=2.5), TypeError, "d is a whole number.*not 2.5"),
+                (lambda: bedkeep.merge(genome, bed, c=[4.0]), TypeError, "c is a whole number.*not .4.0"),
+                (lambda: bedkeep.merge(genome, bed, program="absent"), bedkeep.NotFound, "no program 'absent'.*give program="),
+                (lambda: bedkeep.Session(genome, "/dev/stdin"), ValueError, "standard input of a session is its script"),
+                (lambda: session.open("m\tn", "merge"), ValueError, "a TAB"),
+                (lambda: session.open("m", ["merge"]), TypeError, "a view is a text.*'merge -d 10'"),
+                (lambda: session.view("genomecov"), bedkeep.Refused, "bad options: 'genomecov': .*one of -bg, -bga and -d"),
+                (lambda: session.show("merge", "chr1:10-20"), TypeError, "'start' and 'end'"),
+                (lambda: session.add("chr1 10 20 a"), TypeError, "a record is its columns.*'chr1 10 20 a'"),
+                (lambda: session.replace("a", "b"), TypeError, "a record is its columns, and not 'a'"),
+                (lambda: session.replace("chr1", 10, 20), TypeError, "4 were given"),
+                (lambda: session.edit("open\tm\tmerge\n"), ValueError, "edits alone.*not open"),
+                (session.undo, IndexError, "nothing to undo"),
+                (lambda: session.save("absent/out.bed"), FileNotFoundError, "absent"),
+            ):
+                with self.subTest(said), self.assertRaisesRegex(error, said):
+                    list(call() or ())
+
     def test_paths_of_other_types(self):
         for bed in b"genes.bed", 5, ["genes.bed"], None:
-            with self.assertRaises(TypeError):
-                bedkeep.Session(self.sizes, bed)
+            self.assertRaises(TypeError, bedkeep.Session, self.sizes, bed)
 
 
 class Scripts(Case):
@@ -365,6 +360,5 @@ class Scripts(Case):
         with self.session(second=self.mask) as session:
             session.add("chr1", 1, 2, "x")
             for path in self.genes, other, link, self.mask, str(self.sizes), pathlib.Path(os.path.relpath(self.genes)):
-                with self.assertRaisesRegex(ValueError, "is a file of this session"):
-                    session.save(path)
+                self.assertRaisesRegex(ValueError, "is a file of this session", session.save, path)
         self.assertEqual((self.genes.read_bytes(), link.is_symlink()), (before, True))

@@ -15,8 +15,8 @@ from bedkeep import commands
 from bedkeep.commands.input_files import Inputs
 from helpers import Case, Outcome
 from random_tracks import LENGTHS, WIDTHS, Maker, moved
-from slow_classes import overlap
-from slow_track import DONE, REFUSED, THERE, Slow, plain
+from slow_track import ABSENT, BAD, DONE, THERE, Slow, overlap, plain
+from test_replay import verdict
 
 COUNT = int(os.environ.get("HISTORIES", "60"))
 FIRST = int(os.environ.get("FIRST_HISTORY", "0"))
@@ -49,7 +49,7 @@ class Histories(Case):
             with self.subTest(seed=seed):
                 self.history(seed)
         if COUNT > 50:  # so that it is no test of nothing
-            self.assertGreater(min(self.seen[what] for what in (DONE, REFUSED, THERE, "mended", "conflict", "dropped", "kill")), 5, self.seen)
+            self.assertGreater(min(self.seen[what] for what in (DONE, ABSENT, BAD, THERE, "mended", "conflict", "dropped", "kill")), 5, self.seen)
 
     def history(self, seed):
         pick = random.Random(seed)
@@ -151,7 +151,7 @@ class Histories(Case):
         with Inputs(self.sizes, bed, [script]) as inputs, inputs.session() as session:
             inputs.carry(session)
             inputs.save(session, out)
-            done = {line.number: REFUSED if line.refusal else THERE if line.there else DONE for line in inputs.lines if line.is_run}
+            done = {line.number: verdict(line) for line in inputs.lines if line.is_run}
         self.assertEqual(done, verdicts, lines)
         self.seen.update(verdicts.values())
         self.assertEqual(out.read_bytes().decode(), slow.text(), lines)

@@ -1,6 +1,6 @@
 """The file's own order, beside the slow model."""
-import gzip
 import io
+import os
 import random
 from collections import Counter
 from unittest import mock
@@ -8,7 +8,7 @@ from unittest import mock
 import bedkeep
 from bedkeep import placement
 from bedkeep.regions import Order
-from helpers import Case, many, tabs
+from helpers import Case, many
 from slow_track import Slow
 
 LENGTHS = {"chr2": 300, "chrom": 50, "chr1": 400, "chrLast": 90}
@@ -58,8 +58,6 @@ class Random(Case):
 
     def placed(self, path, slow, moves):
         track = Counter(copy.row[:6] for copy in slow.now())
-        net = Counter(new[:6] for _, new in moves if new)
-        net.subtract(old[:6] for old, _ in moves if old)
 
         def around(regions):
             listed = list(regions)
@@ -67,7 +65,7 @@ class Random(Case):
                 record[0] == sequence and int(record[1]) < end and start < int(record[2]) for sequence, start, end in listed)})
 
         out = io.BytesIO()
-        looks = placement.Looks(around, net.__getitem__, Order(LENGTHS))
+        looks = placement.Looks(around, Order(LENGTHS))
         texts = ((old and "\t".join(old), new and "\t".join(new)) for old, new in moves)
         placement.write_placed(path, texts, looks, out.write)
         return out.getvalue().decode()
@@ -80,7 +78,7 @@ class Random(Case):
             slow = Slow(text, LENGTHS, "")
             moves = list(some_moves(chance, slow, width, chance.choice([0, 1, 2, 5, 9, 14]), few))
             path = self.file("random.bed", text)
-            sizes = {"SMALL": chance.choice([0, 1 << 22]), "PIECE": chance.choice([1, 40, 1 << 16]), "REACH": chance.choice([1, 64, 4096])}
+            sizes = {"FEW": chance.choice([0, 12]), "PIECE": chance.choice([1, 40, 1 << 16]), "REACH": chance.choice([1, 64, 4096])}
             with self.subTest(number, text=text, moves=moves), mock.patch.multiple(placement, **sizes):
                 self.assertEqual(Counter(copy.row for copy in Slow(slow.text(), LENGTHS, "").now()), Counter(copy.row for copy in slow.now()))
                 self.assertEqual(self.placed(path, slow, moves), slow.text())
@@ -99,14 +97,7 @@ class Random(Case):
 
 
 class Placed(Case):
-    """Each rule by an example."""
-
-    def saved(self, text, *edits, **options):
-        bed = self.file("given.bed", text)
-        with bedkeep.Session(self.sizes, bed, **options) as session:
-            self.assertEqual(session.edit(edits), [])
-            session.save(self.folder / "saved.bed")
-        return (self.folder / "saved.bed").read_bytes().decode()
+    """What the model doesn't know."""
 
     def test_sorted(self):
         text = "track a\nchr2\t5\t6\tz\n\n# c\nchr1\t1\t2\tx\r\nbrowsers\t5\t6\ty\n"
@@ -117,33 +108,25 @@ class Placed(Case):
         self.assertEqual((self.folder / "saved.bed").read_text(),
                          "track a\n# c\nchr1\t0\t3\tw\nchr1\t1\t2\tx\nbrowsers\t5\t6\ty\nchr2\t5\t6\tz\n")
 
-    def test_wide_files(self):
-        self.sizes = self.file("sizes", "chr1\t1000\n")
-        text = tabs("""chr1 300 400 b 0 - 300 400 0
-                       chr1 0100 200 a 0 + 100 200 0""") + "# end\n"
-        for packed in text, gzip.compress(text.encode()):
-            saved = self.saved(packed, "replace\tchr1\t300\t400\tb\t0\t-\tchr1\t300\t400\tc\t5\t-", "add\tchr1\t150\t160\td\t0\t+", wide=True)
-            self.assertEqual(saved, tabs("""chr1 300 400 c 5 - 300 400 0
-                                            chr1 0100 200 a 0 + 100 200 0
-                                            chr1 150 160 d 0 + 150 160 0""") + "# end\n")
-
     def test_inputs_that_have_no_order(self):
         """A pipe has none that could be read again, and a file that was written again has another."""
-        program = self.script("program", f'exec "$BEDKEEP" session -g "$3" -i <(printf "chr1\\t5\\t6\\ty\\nchr1\\t1\\t2\\tx\\n")')
+        program = self.script("program", 'exec "$BEDKEEP" session -g "$3" -i <(printf "chr1\\t5\\t6\\ty\\nchr1\\t1\\t2\\tx\\n")')
         with bedkeep.Session(self.sizes, "/dev/fd/99", program=program) as session:
             session.save(self.folder / "saved.bed")
         self.assertEqual((self.folder / "saved.bed").read_text(), "chr1\t1\t2\tx\nchr1\t5\t6\ty\n")
         with self.session() as session:
             session.remove("chr1", 100, 200, "geneA")
             self.genes.write_text("chr1\t100\t200\tgeneA\n")
-            with self.assertRaisesRegex(ValueError, "written again"):
-                session.save(self.folder / "other.bed")
+            self.assertRaisesRegex(ValueError, "written again", session.save, self.folder / "other.bed")
         self.assertFalse((self.folder / "other.bed").exists())
 
     def test_a_genome_that_cannot_be_read_again(self):
         self.genes = self.file("given.bed", "chr2\t5\t6\ty\nchr1\t5\t6\tx\n")
-        program = self.script("program", f'exec "$BEDKEEP" session -g <(cat {self.sizes}) -i "$5"')
-        with bedkeep.Session("/dev/fd/99", self.genes, program=program) as session:
+        reader, writer = os.pipe()
+        self.addCleanup(os.close, reader)
+        os.write(writer, self.sizes.read_bytes())
+        os.close(writer)
+        with bedkeep.Session(f"/dev/fd/{reader}", self.genes) as session:
             session.add("chr2", 1, 2, "z")
             session.save(self.folder / "saved.bed")
         self.assertEqual((self.folder / "saved.bed").read_text(), "chr2\t5\t6\ty\nchr1\t5\t6\tx\nchr2\t1\t2\tz\n")
@@ -162,7 +145,7 @@ class Large(Case):
         edits.append("add\tchr1\t900000000\t900000009\tfar")
         with bedkeep.Session(self.sizes, self.genes) as session:
             session.edit(edits, strict=True)
-            for small in 0, 1 << 30:
-                with mock.patch.object(placement, "SMALL", small):
+            for few in 0, 1 << 30:
+                with mock.patch.object(placement, "FEW", few):
                     session.save(self.folder / "saved.bed")
                 self.assertEqual((self.folder / "saved.bed").read_text(), "".join(lines) + "chr1\t900000000\t900000009\tfar\n")

@@ -1,5 +1,5 @@
 """The prompt over a worklist, offers that a number takes, and corrections that are taken back by their numbers."""
-from helpers import Outcome, Prompted, tabs
+from helpers import Outcome, Prompted, line, tabs
 
 HEAD = "`take` does this, `drop REASON` leaves the line out, and any other correction is taken instead"
 
@@ -13,23 +13,17 @@ class Reasons(Prompted):
                                                          "   merge: chr1 100 200, chr1 300 400 -> chr1 100 400", "done"])
             self.assertEqual(says("remove geneB"), ["named geneB: chr1 300 400 geneB", "   merge: chr1 100 400 -> chr1 100 350", "nothing is done"])
             self.assertEqual(says("resize chr2 600"), ["done"])
-        self.assertEqual(self.path.read_text(), "# it ends later\nreplace\tchr1\t100\t200\tgeneA\tchr1\t100\t350\tgeneA\n\nresize\tchr2\t600\n")
+        self.has("# it ends later", "replace chr1 100 200 geneA chr1 100 350 geneA", "", "resize chr2 600")
 
-    def test_each_view(self):
+    def test_each_view_and_columns_that_follow(self):
+        """These weren't typed, so they are shown."""
         with self.prompt("", "", views=["merge -d 50", "intersect"], second=str(self.mask)) as says:
             self.assertEqual(says("add chr1 200 300 x")[0], "   merge -d 50: chr1 100 200, chr1 300 400 -> chr1 100 400")
             self.assertEqual(says("addb chr1 100 110"), ["   intersect: nothing -> chr1 100 110 geneA", "done"])
-
-    def test_many_rows(self):
-        genes = self.file("many.bed", "".join(f"chr1\t{at}\t{at + 5}\tg\n" for at in range(0, 60, 10)))
-        with self.prompt("", genes=genes) as says:
-            self.assertEqual(says("add chr1 0 60 all")[0], "   merge: chr1 0 5, chr1 10 15, chr1 20 25, 3 more -> chr1 0 60")
-
-    def test_columns_that_follow(self):
-        """They weren't typed, so they are shown."""
-        genes = self.file("wide.bed", tabs("chr1 100 200 g 0 + 100 200 0 1 100, 0,"))
-        with self.prompt("", genes=genes, views=()) as says:
-            self.assertEqual(says("set end g 210")[1], "   records: chr1 100 200 g 0 + 100 200 0 1 100, 0, -> chr1 100 210 g 0 + 100 210 0 1 110, 0,")
+        self.path.unlink()
+        old, new = "chr1 100 200 g 0 + 100 200 0 1 100, 0,", "chr1 100 210 g 0 + 100 210 0 1 110, 0,"
+        with self.prompt("", genes=self.file("wide.bed", tabs(old)), views=()) as says:
+            self.assertEqual(says("set end g 210")[1], f"   records: {old} -> {new}")
 
     def test_a_refused_line_is_not_asked_about(self):
         with self.prompt("so") as says:
@@ -37,7 +31,7 @@ class Reasons(Prompted):
                              ["refused: no such record", "   1 takes: remove chr1 100 200 geneA (end 1 base earlier)"])
             self.assertEqual(says("1"), ["   merge: chr1 100 200 -> nothing", "done"])
             self.assertEqual(says("add chr1 300 400 geneB"), ["already there, so nothing is done: chr1 300 400 geneB"])
-        self.assertEqual(self.path.read_text(), "# so\nremove\tchr1\t100\t200\tgeneA\n")
+        self.has("# so", "remove chr1 100 200 geneA")
 
     def test_what_another_program_appended(self):
         with self.prompt("", "") as says:
@@ -65,14 +59,15 @@ class Back(Prompted):
             self.assertEqual(says("undo"), ["undone: remove chr1 1 2 x"])
             self.assertEqual(says("undo 3", "undo 2"), ["undone: replace chr1 100 250 geneA chr1 100 260 geneA",
                                                         "undone: replace chr1 100 200 geneA chr1 100 250 geneA"])
-        self.assertEqual(self.path.read_text(), "# one\nadd\tchr1\t1\t2\tx\n")
+        self.has("# one", "add chr1 1 2 x")
 
-    def test_many_lines(self):
+    def test_many_lines_and_rows(self):
         genes = self.file("many.bed", "".join(f"chr1\t{at}\t{at + 5}\tg\n" for at in range(0, 60, 10)))
-        with self.prompt("", genes=genes) as says:
+        with self.prompt("", "", genes=genes) as says:
             says("rename g h")
             self.assertEqual(says("history"), ["1: done: replace chr1 0 5 g chr1 0 5 h and 5 more # rename g h"])
             self.assertEqual(says("undo")[-1], ".. and 3 more lines")
+            self.assertEqual(says("add chr1 0 60 all")[0], "   merge: chr1 0 5, chr1 10 15, chr1 20 25, 3 more -> chr1 0 60")
 
 
 class Decisions(Prompted):
@@ -110,19 +105,11 @@ add chr1 500 600 geneC""").replace("replace", "# it ends later\nreplace").replac
             self.assertEqual(says("next")[-1], "   1 takes: add chr1 700 810 geneQ (as a new record)")
             self.assertEqual(says("drop"), ["0 of 4 need a decision"])
             self.assertEqual(says("next"), ["no line needs a decision"])
-        self.assertEqual(self.path.read_text(), f"""# new
-add\tchr1\t500\t600\tgeneC
-# it ends later
-# was: replace\tchr1\t100\t200\tgeneA\tchr1\t100\t250\tgeneA
-{self.moved}
-# it ends later
-# was: replace\tchr1\t300\t400\tgeneB\tchr1\t300\t450\tgeneB
-replace\tchr1\t300\t420\tgeneB\tchr1\t300\t460\tgeneB
-# it ends later
-# its gene was withdrawn
-# dropped: replace\tchr1\t700\t800\tgeneQ\tchr1\t700\t810\tgeneQ
-""")
-        self.assertEqual((self.applied().status, self.applied().err), (0, ""))
+        old = self.old.splitlines()
+        self.assertEqual(self.path.read_text().splitlines(), [
+            *old[6:], "# it ends later", f"# was: {old[1]}", self.moved, "# it ends later", f"# was: {old[3]}",
+            line("replace chr1 300 420 geneB chr1 300 460 geneB"), "# it ends later", "# its gene was withdrawn", f"# dropped: {old[5]}"])
+        self.assertEqual(self.applied().failed, (0, ""))
         with self.prompt(**self.options) as says:  # On another day.
             self.assertEqual(says()[1:], ["0 of 4 need a decision"])
 
@@ -146,11 +133,11 @@ replace\tchr1\t300\t420\tgeneB\tchr1\t300\t460\tgeneB
             self.assertEqual(says()[-1], "1 of 1 needs a decision; `next` shows one")
             said = says("next")
             self.assertIn(f"{self.corrections}: line 3: conflict (both changed end)", said)
-            self.assertEqual(said[-1], f"   1 takes: {self.moved}; replace chr1 300 420 geneB chr1 300 450 geneB (as the line has it)"
-                             .replace("\t", " "))
+            both = f"{self.moved}; replace chr1 300 420 geneB chr1 300 450 geneB".replace("\t", " ")
+            self.assertEqual(said[-1], f"   1 takes: {both} (as the line has it)")
             self.assertEqual(says("1")[-1], "0 of 1 need a decision")
         self.assertEqual(self.path.read_text().splitlines()[0], "# together: one gene")
-        self.assertEqual((self.applied().status, self.applied().out), (0, "chr1\t90\t250\tgeneA\nchr1\t300\t450\tgeneB\n"))
+        self.assertEqual(self.applied().gave, (0, tabs("chr1 90 250 geneA\nchr1 300 450 geneB")))
 
     def test_what_is_so_already_and_what_can_be_no_line(self):
         self.corrections = self.file("old", tabs("replace chr1 90 190 geneA chr1 90 200 geneA\nadd chr2 450 600 x"))
@@ -161,16 +148,14 @@ replace\tchr1\t300\t420\tgeneB\tchr1\t300\t460\tgeneB
             self.assertEqual(says("1")[-2:], ["done", "0 of 2 need a decision"])
         self.assertEqual(self.path.read_text(), "# it is so already\n# dropped: replace\tchr1\t90\t190\tgeneA\tchr1\t90\t200\tgeneA\n\n"
                                                 "# was: add\tchr2\t450\t600\tx\nadd\tchr2\t450\t500\tx\n")
-
-    def test_all_fit(self):
-        self.corrections = self.file("old", "# new\nadd\tchr1\t500\t600\tgeneC\n")
+        self.path.unlink()
+        self.corrections.write_text("# new\nadd\tchr1\t500\t600\tgeneC\n")
         with self.prompt(**self.options) as says:
             self.assertEqual(says()[-1], "each line fits")
 
     def test_options(self):
-        outcome = Outcome("curate", self.sizes, self.genes, "--replay", self.corrections, typed=[])
-        self.assertEqual((outcome.status, outcome.err), (2, "--replay needs --script FILE, for the new script\n"))
-        outcome = Outcome("curate", self.sizes, self.genes, "--view", "merge -x", typed=[])
-        self.assertEqual((outcome.status, outcome.err), (2, "--view 'merge -x': bad options\n"))
-        outcome = Outcome("curate", self.sizes, self.genes, "--script", self.path, "--replay", self.corrections, typed=["next", "take"])
+        words, replay = ("curate", self.sizes, self.genes), ("--replay", self.corrections)
+        self.assertEqual(Outcome(*words, *replay, typed=[]).failed, (2, "--replay needs --script FILE, for the new script\n"))
+        self.assertEqual(Outcome(*words, "--view", "merge -x", typed=[]).failed, (2, "--view 'merge -x': bad options\n"))
+        outcome = Outcome(*words, "--script", self.path, *replay, typed=["next", "take"])
         self.assertEqual(outcome.out.splitlines()[-2:], ["done", "2 of 4 need a decision; `next` shows one"])

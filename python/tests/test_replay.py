@@ -1,24 +1,23 @@
 import random
+import re
 from collections import Counter
 
 import bedkeep
 from helpers import Case, tabs
-from slow_classes import DOABLE, Edit, Slow, carried, overlap
+from slow_classes import DOABLE, Slow, Track
+from slow_track import overlap
 
 LENGTHS = {"chr1": 60, "chr2": 60}
 
 
 class Replays(Case):
-    def bed(self, name, records):
-        return self.file(name, "".join("\t".join(record) + "\n" for record in records))
-
-    def reasons(self, sizes, bed, lines, second=None):
-        """Why a session refuses lines, by their numbers from 1."""
-        with bedkeep.Session(sizes, bed, second) as session:
-            return {refused.number: refused.reason for refused in session.edit(lines)}
-
     def kinds(self, replayed):
         return Counter(finding.kind for finding in replayed.findings)
+
+
+def rows_of(records):
+    """The text of a file."""
+    return "".join("\t".join(record) + "\n" for record in records)
 
 
 def some_record(pick):
@@ -52,31 +51,23 @@ def some_script(pick, records):
     return lines
 
 
-def some_edits(pick, records, wide):
-    """The same as edits of the slow model, some of them in groups; of a wide track with tails of two columns, or without."""
-    edits, group = [], 0
-    for number, (command, *columns) in enumerate(some_script(pick, records), 1):
-        half = len(columns) // 2 if command == "replace" else len(columns)
-        halves = [tuple(columns[:half]), tuple(columns[half:])] if command == "replace" else [tuple(columns)]
-        tails = [some_tail(pick) if wide and pick.random() < 0.6 else None] * len(halves)
+def some_text(pick, records, wide):
+    """The text of such a script in paragraphs, some of them done together; over a wide track some with tails of two columns."""
+    rows, group = [], 0
+    for command, *columns in some_script(pick, records):
+        if not rows or pick.random() < 0.5:
+            rows += ["", f"# together: {group}"] if wide != (group % 3 == 0) else [""]
+            group += 1
+        halves = [columns[:6], columns[6:]] if command == "replace" else [columns]
+        tails = [some_tail(pick) if wide and pick.random() < 0.6 else ()] * len(halves)
         if tails[0] and len(tails) > 1:
-            tails = [tails[0] if pick.random() < 0.8 else None, some_tail(pick) if pick.random() < 0.4 else tails[0]]
-        old = (halves[0], tails[0]) if command != "add" else (None, None)
-        new = (halves[-1], tails[-1]) if command != "remove" else (None, None)
-        group += pick.random() < 0.5
-        edits.append(Edit(number, command, *old, *new, all(map(is_good, halves)), group if wide != (group % 3 == 0) else None))
-    return edits
+            tails = [tails[0] if pick.random() < 0.8 else (), some_tail(pick) if pick.random() < 0.4 else tails[0]]
+        rows.append("\t".join([command, *(column for half, tail in zip(halves, tails) for column in (*half, *tail))]))
+    return "\n".join(rows)
 
 
 def some_tail(pick):
     return pick.choice("xy"), pick.choice("pq")
-
-
-def is_good(record):
-    """Whether these six columns are a record."""
-    sequence, start, end, name, score, strand = record
-    numbers = start.isdigit() and end.isdigit()
-    return sequence in LENGTHS and numbers and int(start) < int(end) <= LENGTHS[sequence] and "" not in record and strand in "+-."
 
 
 class RandomScripts(Replays):
@@ -92,34 +83,33 @@ class RandomScripts(Replays):
 
     def one(self, pick):
         wide = pick.random() < 0.4
-        default = (".", ".") if wide else ()
         records = [some_record(pick) for _ in range(pick.choice([1, 3, 8, 20]))]
         records += [pick.choice(records) for _ in range(pick.choice([0, 0, 2, 4]))]
-        edits = some_edits(pick, records, wide)
-        release = [(altered(pick, one) if pick.random() < 0.4 else one, some_tail(pick) if wide else ())
-                   for one in records if pick.random() < 0.85] or [(records[0], ("x", "p") if wide else ())]
+        script = some_text(pick, records, wide)
+        release = [(*(altered(pick, one) if pick.random() < 0.4 else one), *(some_tail(pick) if wide else ()))
+                   for one in records if pick.random() < 0.85] or [(*records[0], *("xp" if wide else ""))]
         if pick.random() < 0.3:
-            release = [entry[:2] for entry in carried(release, [edit for edit in edits if pick.random() < 0.7], True, default)[1].now] or release
+            track = Track(rows_of(release), LENGTHS, "", True)
+            track.run("\n".join(row for row in script.split("\n") if pick.random() < 0.7))
+            release = [copy.row for copy in track.now()] or release
         ignore, copies = pick.choice([[], [], ["score"], ["name"], ["strand", "name"]]), pick.random() < 0.3
         second = not wide and pick.random() < 0.3
-        slow = Slow(release, edits, LENGTHS, [bedkeep.printed_rows.RECORD.index(name) for name in ignore], copies, default, not second)
-        expected = slow.all()
-        self.bed, self.other = self.bed_of("release", release), self.bed_of("other", [(("chr1", "1", "2"), ())])
+        places = [bedkeep.printed_rows.RECORD.index(name) for name in ignore]
+        slow = Slow(rows_of(release), script, LENGTHS, places, copies, not second)
+        self.bed, self.other = self.file("release", rows_of(release)), self.file("other", "chr1\t1\t2\n")
         if second:
             self.bed, self.other = self.other, self.bed
-        script = self.file("corrections", script_of(edits, second, pick))
-        replayed = bedkeep.replay(self.sizes, self.bed, [script], self.other, ignore, copies)
-        self.assertEqual([verdict(finding.line) for finding in replayed.findings], list(slow.verdicts.values()))
-        for finding, (kind, found, by, mended), edit in zip(replayed.findings, expected, edits):
-            self.assertEqual((finding.kind, of_track(finding.mended), finding.by and of_track(finding.by.text)),
-                             (kind, mended, edits[by - 1].text if by else None), finding.line.text)
+            script = re.sub(r"^(add|remove|replace)\t", r"\1b\t", script, flags=re.MULTILINE)
+        corrections = self.file("corrections", "".join(f"{row}{pick.choice(['', chr(13)])}\n" for row in script.split("\n")))
+        replayed = bedkeep.replay(self.sizes, self.bed, [corrections], self.other, ignore, copies)
+        self.assertEqual({finding.line.number: verdict(finding.line) for finding in replayed.findings}, slow.verdicts)
+        for finding, (kind, found, by, mended) in zip(replayed.findings, slow.all()):
+            mended = mended.replace("\t", "b\t", 1) if second else mended
+            self.assertEqual((finding.kind, finding.mended, finding.by and finding.by.number), (kind, mended, by), finding.line.text)
             if found:
                 self.assertEqual(finding.found, found, finding.line.text)
         self.check_mended(replayed, ignore, copies)
         return self.kinds(replayed)
-
-    def bed_of(self, name, entries):
-        return self.file(name, "".join("\t".join([*record, *tail]) + "\n" for record, tail in entries))
 
     def check_mended(self, replayed, ignore, copies):
         """Replayed again, the mended script fits except for the lines that couldn't be mended; and what is mended is like its base."""
@@ -145,85 +135,40 @@ def verdict(line):
     return {"": "done", "no such record": "absent"}.get(line.refusal, "apart" if line.refusal.startswith("not done") else "bad")
 
 
-def of_track(text):
-    """A line of the second file as one of the track."""
-    command, _, rest = text.partition("\t")
-    return f"{command.removesuffix('b')}\t{rest}" if text else ""
+class Large(Replays):
+    """3,000 records, beside others at their places and of their names; 45 lines that replace or remove one, and 5 that add one."""
 
-
-def script_of(edits, second, pick):
-    """The text of a script, with comments above groups."""
-    rows, group = [], None
-    for edit in edits:
-        if edit.group != group:
-            rows += ["", f"# together: {edit.group}"] if edit.group is not None else [""]
-        group = edit.group
-        rows.append(edit.text.replace("\t", "b\t", 1) if second else edit.text)
-    return "".join(f"{row}{pick.choice(['', chr(13)])}\n" for row in rows)
-
-
-class Releases(Replays):
-    """3,000 records; 45 lines that replace or remove one, and 5 that add one."""
-
-    def setUp(self):
-        super().setUp()
+    def test_other_releases_and_the_own_corrected_track(self):
         pick = random.Random(7)
         self.sizes = self.file("sizes", "chr1\t9000000\nchr2\t9000000\n")
-        self.records = [(f"chr{1 + n % 2}", str(n * 2000 + 100), str(n * 2000 + 100 + pick.randrange(50, 900)), f"gene{n}",
-                         str(n % 900), pick.choice("+-")) for n in range(3000)]
-        self.lines = []
-        for n, record in enumerate(pick.sample(self.records, 45)):
-            start, end = int(record[1]), int(record[2])
-            new = (record[0], str(start - 7), str(end), *record[3:]) if n % 2 else (*record[:2], str(end + 30), *record[3:])
-            self.lines.append("\t".join(["remove", *record] if n % 5 == 0 else ["replace", *record, *new]))
-        self.lines += [f"add\tchr2\t{7000000 + n * 100}\t{7000050 + n * 100}\tnew{n}\t0\t+" for n in range(5)]
-        self.corrections = self.file("corrections", "# why\n" + "\n".join(self.lines) + "\n")
-        self.rescored = [(*one[:4], str(int(one[4]) + 1), one[5]) for one in self.records]
-
-    def replay(self, release, **options):
-        self.release = self.bed("release", release)
-        return bedkeep.replay(self.sizes, self.release, [self.corrections], **options)
-
-    def refused_when_mended(self, replayed):
-        return len(self.reasons(self.sizes, self.release, list(replayed.mended())))
-
-    def test_a_release_that_was_rescored(self):
-        replayed = self.replay(self.rescored)
-        self.assertEqual(self.kinds(replayed), Counter({"changed": 45, "fits": 5}))
-        scores = {one[3]: one[4] for one in self.rescored}
-        for finding in replayed.findings[:45]:
-            self.assertEqual(finding.differing, ["score"])
-            fields = finding.mended.split("\t")
-            self.assertEqual(fields[5::6], [scores[fields[4]]] * (1 if fields[0] == "remove" else 2))
-        self.assertEqual(self.refused_when_mended(replayed), 0)
-        replayed = self.replay(self.rescored, ignore="score")
-        self.assertEqual((self.kinds(replayed), replayed.is_refused), (Counter({"fits but for": 45, "fits": 5}), False))
-        self.assertEqual(self.refused_when_mended(replayed), 0)
-
-    def test_the_own_corrected_track(self):
-        """Also if other records are at the places of those that are corrected, or have their names."""
-        others = [(*one[:3], f"{one[3]}b", *one[4:]) for one in self.records[::3]]
-        others += [("chr2", str(8000000 + n), str(8000001 + n), *one[3:]) for n, one in enumerate(self.records[::2])]
-        with bedkeep.Session(self.sizes, self.bed("before", self.records + others)) as session:
-            self.assertEqual(session.edit(self.lines), [])
+        records = [(f"chr{1 + n % 2}", str(n * 2000 + 100), str(n * 2000 + 100 + pick.randrange(50, 900)), f"gene{n}",
+                    str(n % 900), pick.choice("+-")) for n in range(3000)]
+        others = [(*one[:3], f"{one[3]}b", *one[4:]) for one in records[::3]]
+        others += [("chr2", str(8000000 + n), str(8000001 + n), *one[3:]) for n, one in enumerate(records[::2])]
+        lines = [f"add\tchr2\t{7000000 + n * 100}\t{7000050 + n * 100}\tnew{n}\t0\t+" for n in range(5)]
+        for n, record in enumerate(pick.sample(records, 45)):
+            new = (record[0], str(int(record[1]) - 7), *record[2:]) if n % 2 else (*record[:2], str(int(record[2]) + 30), *record[3:])
+            lines.append("\t".join(["remove", *record] if n % 5 == 0 else ["replace", *record, *new]))
+        with bedkeep.Session(self.sizes, self.file("before", rows_of(records + others))) as session:
+            self.assertEqual(session.edit(lines), [])
             corrected = [tuple(map(str, row)) for row in session.records()]
-        replayed = self.replay(corrected, copies=False)
-        self.assertEqual(self.kinds(replayed), Counter({"already so": 45, "already there": 5}))
-        self.assertEqual(list(replayed.mended()), ["# why", *(f"# dropped: {line}" for line in self.lines)])
-
-    def test_releases_that_move_and_drop_records(self):
-        for seed in range(3):
-            pick, release, fates = random.Random(seed), [], {}
-            for one in self.records:
-                fates[one[3]] = fate = pick.choices(["fits", "moved", "gone"], [80, 12, 8])[0]
-                if fate != "gone":
-                    release.append((one[0], str(int(one[1]) + 3), *one[2:]) if fate == "moved" else one)
-            replayed = self.replay(release)
-            for n, finding in enumerate(replayed.findings[:45]):
-                fate, command = fates[finding.line.fields[3]], finding.line.command
-                expected = {("gone", "remove"): "already so", ("moved", "replace"): "conflict" if n % 2 else "moved"}
-                self.assertEqual(finding.kind, expected.get((fate, command), fate))
-            self.assertEqual(self.refused_when_mended(replayed), self.kinds(replayed)["gone"])
+        rescored = [(*one[:4], str(int(one[4]) + 1), one[5]) for one in records]
+        fates = {one: pick.choices(["fits", "moved", "gone"], [80, 12, 8])[0] for one in records}
+        left = [one for one in records if fates[one] != "gone"]
+        changed = [(one[0], str(int(one[1]) + 3), *one[2:]) if fates[one] == "moved" else one for one in left]
+        kinds = Counter()
+        for n, line in enumerate(lines):
+            fate = fates.get(tuple(line.split("\t")[1:7]), "fits")
+            kind = {"gone": "already so"} if line[:6] == "remove" else {"moved": "moved" if n % 2 else "conflict"}
+            kinds[kind.get(fate, fate)] += 1
+        for release, expected in ((rescored, {"changed": 45, "fits": 5}), (changed, kinds),
+                                  (corrected, {"already so": 45, "already there": 5})):
+            bed, script = self.file("release", rows_of(release)), self.file("corrections", "\n".join(["# why", *lines]))
+            replayed = bedkeep.replay(self.sizes, bed, [script])
+            self.assertEqual(self.kinds(replayed), Counter(expected))
+            with bedkeep.Session(self.sizes, bed) as session:
+                self.assertEqual(len(session.edit(replayed.mended())), expected.get("gone", 0))
+        self.assertEqual(list(replayed.mended()), ["# why", *(f"# dropped: {line}" for line in lines)])
 
 
 class Particular(Replays):
@@ -294,13 +239,6 @@ class Particular(Replays):
         self.assertEqual(self.of("chr1 12 30 a", "replace chr1 10 30 a chr1 11 30 a").findings[0].unlike, ("start",))
         self.assertEqual(list(self.of("chr1 1 2", "add chr1 01 2").mended()), ["# dropped: add\tchr1\t01\t2"])
         self.assertEqual(list(self.of("chr1 1 2", "add chr1 01 2", copies=True).mended()), ["add\tchr1\t01\t2"])
-
-    def test_a_chain_over_a_conflict(self):
-        """What would come of a line that isn't settled isn't settled either."""
-        script = "replace chr1 10 30 a chr1 10 31 a\nreplace chr1 10 31 a chr1 9 31 a\nreplace chr1 9 31 a chr1 8 31 a"
-        replayed = self.of("chr1 10 40 a", script)
-        self.assertEqual([(one.kind, one.by and one.by.number) for one in replayed.findings], [("conflict", None), ("conflict", 1), ("conflict", 2)])
-        self.assertEqual([line for line in replayed.mended() if not line.startswith("#")], [])
 
     def test_bad_lines(self):
         script = ("replace chr1 10 30 chr1 3O 40\nadd chr1 5 1001\nresize chr1 2000\nadd chr1 5 1001\nadd chr7 1 2\naddb chr1 1 2\n"

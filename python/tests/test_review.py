@@ -1,24 +1,23 @@
-"""`review`: the page, what comes with it, and that none is written whose pictures don't arrive at the program's track."""
+"""`review`: the page, what comes with it, and that none is written if the program does otherwise than it did at first."""
 import hashlib
 import io
 import os
 import random
 import re
-import tempfile
 import unittest
 import xml.etree.ElementTree as ElementTree
-from pathlib import Path
 from unittest import mock
 
-from helpers import PROGRAM, Case, Outcome, tabs
+from helpers import PROGRAM, Case, Outcome, line, script_of, tabs
 from pages import Page
 
+import bedkeep
+from bedkeep.commands.corrections import Line
 from bedkeep.review.drawing import Picture
-from bedkeep.review.intervals import Interval, Stretch, Windows, blocks_of, stretches_of
+from bedkeep.review.intervals import Interval, Stretch, blocks_of, stretches_of
 from bedkeep.review.markup import bases, escaped, is_whole, shortened
 from bedkeep.review.neighbours import Neighbours
-from bedkeep.review.printed import BINS, Side
-from bedkeep.review.reviewer import Differs, Reviewer
+from bedkeep.review.totals import BINS, Totals
 
 SCRIPT = tabs("""
 #5_bases_later
@@ -77,9 +76,9 @@ class Written(Case):
     def test_counts_before_and_after(self):
         # Blocks by distance 10, and bases. Before: [100,200) [300,400) [550,560) [700,800) [850,900).
         # After: [100,205) [300,400), [390,500), [550,560) [850,900).
-        self.assertTrue("records<b>5 <small>as before</small></b>" in self.text)
-        self.assertTrue("blocks<b>5 → 4 <small>-1</small></b>" in self.text)
-        self.assertTrue("bases covered<b>360 → 365 <small>+5</small></b>" in self.text)
+        for part in ("records<b>5 <small>as before</small></b>", "blocks<b>5 → 4 <small>-1</small></b>",
+                     "bases covered<b>360 → 365 <small>+5</small></b>"):
+            self.assertTrue(part in self.text, part)
         row = re.search(r'<tr data-sequence="chr1">.*?</tr>', self.text, re.DOTALL)[0]
         columns = re.sub(r"<svg.*?</svg>", "", row, flags=re.DOTALL)
         self.assertEqual(re.findall(r">([^<>\n]*)</t[dh]>", columns), ["chr1", "", "4", "7", "5", "", "4", "-1", "365", "+5"])
@@ -131,21 +130,17 @@ class Files(Case):
         return page
 
     def test_several_scripts_are_one(self):
-        one = self.file("one", tabs("add chr1 1 2 a"))
-        other = self.file("other", tabs("remove chr1 1 2 a\nremove chr1 1 2 a"))
+        one, other = self.file("one", tabs("add chr1 1 2 a")), self.file("other", tabs("remove chr1 1 2 a\nremove chr1 1 2 a"))
         page = self.review(self.sizes, self.genes, one, other, status=1)
         self.assertEqual(list(page.articles), ["L1", "L2", "L3"])
         self.assertIn(f"{other}: line 2", page.texts["L3"])
-
-    def test_nothing_to_correct(self):
         self.review(self.sizes, self.genes, self.file("empty", ""))
 
     def test_bases_between_the_records_of_a_block_are_not_covered(self):
-        script = self.file("corrections", tabs("add chr1 205 300 geneC"))
-        self.review(self.sizes, self.genes, script, "-d", "10")
+        self.review(self.sizes, self.genes, self.file("corrections", tabs("add chr1 205 300 geneC")), "-d", "10")
         text = (self.folder / "page.html").read_text()
-        self.assertTrue("blocks<b>2 → 1 <small>-1</small></b>" in text)
-        self.assertTrue("bases covered<b>200 → 295 <small>+95</small></b>" in text)
+        for part in "blocks<b>2 → 1 <small>-1</small></b>", "bases covered<b>200 → 295 <small>+95</small></b>":
+            self.assertTrue(part in text, part)
 
     def test_an_input_is_never_written_over(self):
         corrections = self.file("page.corrections.bed", tabs("add chr1 1 2 a"))
@@ -193,18 +188,19 @@ class Cards(Case):
     """Which lines share a card, and what it shows."""
 
     def page(self, bed, script, *words):
-        path = self.folder / "page.html"
-        self.outcome = Outcome("review", self.file("long", "chr1\t100000000\nchr2\t500\n"), self.file("bed", bed),
-                               self.file("script", script), "-o", path, *words)
+        """The page of a BED file and a script, with spaces for TABs."""
+        path, texts = self.folder / "page.html", (tabs(bed), script_of(script) if script else "")
+        files = [self.file(name, text) for name, text in zip(("long", "bed", "script"), ("chr1\t100000000\nchr2\t500\n", *texts))]
+        self.outcome = Outcome("review", *files, "-o", path, *words)
         self.text = path.read_text()
         page = Page(self.text)
         self.assertEqual(page.faults, [])
         return page
 
     def test_many_shifts_by_one_distance_are_one_card(self):
-        rows = [f"chr1\t{1000 * at}\t{1000 * at + 50}\tg{at}" for at in range(4000)]
-        moved = [f"replace\t{row}\tchr1\t{1000 * at + 7}\t{1000 * at + 57}\tg{at}" for at, row in enumerate(rows)]
-        page = self.page("\n".join(rows), "# a patched contig\n" + "\n".join(moved) + "\n\nremove\tchr2\t5\t9\tx\n")
+        rows = [f"chr1 {1000 * at} {1000 * at + 50} g{at}" for at in range(4000)]
+        moved = [f"replace {row} chr1 {1000 * at + 7} {1000 * at + 57} g{at}" for at, row in enumerate(rows)]
+        page = self.page("\n".join(rows), "# a patched contig\n" + "\n".join(moved) + "\n\nremove chr2 5 9 x\n")
         self.assertEqual(list(page.articles), ["L2", "L4003"])
         text = page.texts["L2"]
         self.assertIn("4,000 records shifted by 7", text)
@@ -217,14 +213,13 @@ class Cards(Case):
         self.assertTrue("corrections<b>4,001</b>" in self.text and "done<b>4,000</b>" in self.text)
 
     def lines_of(self, script):
-        rows = "".join(f"chr1\t{1000 * at}\t{1000 * at + 50}\tg{at}\t{at}\t+\n" for at in range(30))
-        page = self.page(rows, script)
-        return [named["data-lines"] for named in page.articles.values()]
+        rows = "".join(f"chr1 {1000 * at} {1000 * at + 50} g{at} {at} +\n" for at in range(30))
+        return [named["data-lines"] for named in self.page(rows, script).articles.values()]
 
     def changed(self, change, count=25):
         """Lines that change so many records. change: the columns from the second on, of the record at its place"""
-        return "".join("\t".join(["replace", "chr1", *map(str, (1000 * at, 1000 * at + 50, f"g{at}", at, "+")), "chr1",
-                                  *map(str, change(1000 * at, 1000 * at + 50, f"g{at}", at))]) + "\n" for at in range(count))
+        rows = [(1000 * at, 1000 * at + 50, f"g{at}", at) for at in range(count)]
+        return "".join(" ".join(map(str, ["replace", "chr1", *row, "+", "chr1", *change(*row)])) + "\n" for row in rows)
 
     def test_what_is_the_same_change(self):
         same = [lambda start, end, name, score: (start + 5, end + 5, name, score, "+"),
@@ -232,13 +227,12 @@ class Cards(Case):
                 lambda start, end, name, score: (start, end, name, score, "-"),
                 lambda start, end, name, score: (start, end + 20, f"new_{name}.1"[4:], score, "+"),
                 lambda start, end, name, score: (start, end, f"x{name}", score, "+")]
-        for change in same:
-            self.assertEqual(self.lines_of(self.changed(change)), ["1-25"])
-        self.assertEqual(self.lines_of(self.changed(same[0], 20)), [f"{at}-{at}" for at in range(1, 21)])  # too few
         different = [lambda start, end, name, score: (start + score + 1, end + score + 1, name, score, "+"),
                      lambda start, end, name, score: (start, end, name, score + 1, "+")]
-        for change in different:
-            self.assertEqual(len(self.lines_of(self.changed(change))), 25)
+        for changes, cards in (same, 1), (different, 25):
+            for change in changes:
+                self.assertEqual(len(self.lines_of(self.changed(change))), cards)
+        self.assertEqual(self.lines_of(self.changed(same[0], 20)), [f"{at}-{at}" for at in range(1, 21)])  # too few
 
     def test_another_reason_is_another_card(self):
         lines = self.changed(lambda start, end, name, score: (start, end, name, 777, "+"), 30).split("\n")
@@ -246,9 +240,8 @@ class Cards(Case):
                          ["2-23", *(f"{at}-{at}" for at in range(25, 33))])
 
     def test_lines_that_are_done_together_are_one_card(self):
-        bed = "chr1\t100\t200\tA\nchr1\t300\t400\tB\n"
-        page = self.page(bed, "# together: one gene\nreplace\tchr1\t100\t200\tA\tchr1\t100\t400\tA\nremove\tchr1\t300\t400\tB\n"
-                              "\nremove\tchr1\t100\t400\tA\n")
+        page = self.page("chr1 100 200 A\nchr1 300 400 B", "# together: one gene\nreplace chr1 100 200 A chr1 100 400 A\n"
+                                                           "remove chr1 300 400 B\n\nremove chr1 100 400 A")
         self.assertEqual({name: named["data-lines"] for name, named in page.articles.items()}, {"L2": "2-3", "L5": "5-5"})
         self.assertIn("<p class=reason>one gene</p>", self.text)
         self.assertEqual(page.articles["L2"]["data-groups"], "done|together")
@@ -257,9 +250,7 @@ class Cards(Case):
 
     def test_exons_and_coding_part(self):
         # Exons 100 to 120, 150 to 160, 180 to 200, the coding part from 110 to 190. The picture shows 18 to 292 in 830 units from 62.
-        bed = "chr1\t100\t200\tg\t0\t+\t110\t190\t0\t3\t20,10,20,\t0,50,80,\n"
-        script = "replace\tchr1\t100\t200\tg\t0\t+\tchr1\t100\t210\tg\t0\t+\n"
-        self.page(bed, script)
+        self.page("chr1 100 200 g 0 + 110 190 0 3 20,10,20, 0,50,80,", "replace chr1 100 200 g 0 + chr1 100 210 g 0 +")
 
         def at(position):
             return f"{62 + (position - 18) * 830 / 274:.1f}"
@@ -272,41 +263,36 @@ class Cards(Case):
         self.assertEqual(width, (at(190), f"{20 * 830 / 274:.1f}"))  # The last exon ends with the gene.
 
     def test_genome_for_igv(self):
-        self.page("chr1\t1\t5\n", "")
-        self.assertEqual((self.folder / "page.chrom.sizes").read_text(), "chr1\t100000000\nchr2\t500\n")
-        self.assertEqual(ElementTree.parse(self.folder / "page.session.xml").getroot().get("genome"), "page.chrom.sizes")
-        (self.folder / "page.chrom.sizes").unlink()
-        self.page("chr1\t1\t5\n", "", "--igv", "hg38")
-        self.assertEqual(ElementTree.parse(self.folder / "page.session.xml").getroot().get("genome"), "hg38")
-        self.assertFalse((self.folder / "page.chrom.sizes").exists())
-
+        sizes, session = self.folder / "page.chrom.sizes", self.folder / "page.session.xml"
+        self.page("chr1 1 5", "")
+        self.assertEqual(sizes.read_text(), "chr1\t100000000\nchr2\t500\n")
+        self.assertEqual(ElementTree.parse(session).getroot().get("genome"), "page.chrom.sizes")
+        sizes.unlink()
+        self.page("chr1 1 5", "", "--igv", "hg38")
+        self.assertEqual((ElementTree.parse(session).getroot().get("genome"), sizes.exists()), ("hg38", False))
 
     def test_a_conflict_shows_all_three(self):
-        page = self.page("chr1\t100\t230\tA\n", "replace\tchr1\t100\t200\tA\tchr1\t100\t250\tA\n")
+        page = self.page("chr1 100 230 A", "replace chr1 100 200 A chr1 100 250 A")
         self.assertIn("conflict", page.articles["L1"]["data-groups"].split("|"))
         for row in "was      chr1  100  200  A", "asked    chr1  100  250  A", "there    chr1  100  230  A":
             self.assertIn(row, page.texts["L1"])
         self.assertIn("<mark>230</mark>", self.text)
 
     def test_an_addition_that_is_there_with_other_columns(self):
-        page = self.page("chr1\t100\t200\tA\n", "add\tchr1\t100\t210\tA\n")
+        page = self.page("chr1 100 200 A", "add chr1 100 210 A")
         self.assertEqual((page.articles["L1"]["class"], self.outcome.status), ("refused", 1))
         self.assertIn('data-text="replace\tchr1\t100\t200\tA\tchr1\t100\t210\tA"', self.text)
         self.assertEqual(page.texts["L1"].count("there    chr1  100  200  A"), 1)
-        page = self.page("chr1\t100\t200\tA\n", "add\tchr1\t100\t200\tA\n", "--copies")
+        page = self.page("chr1 100 200 A", "add chr1 100 200 A", "--copies")
         self.assertEqual(page.articles["L1"]["data-groups"], "done|copies|without a reason")
 
     def test_a_bad_line_with_all_columns_of_the_new_record(self):
-        bed = "chr1\t100\t200\tg\t0\t+\t100\t200\t0\t1\t100,\t0,\n"
-        script = "replace\tchr1\t100\t200\tg\t0\t+\tchr1\t210\t190\tg\t0\t+\t190\t210\t0\t1\t20,\t0,\n"
-        self.page(bed, script)
-        self.assertIn('data-text="replace\tchr1\t100\t200\tg\t0\t+\tchr1\t190\t210\tg\t0\t+\t190', self.text)
-        self.page(bed, script.replace("chr1\t210\t190", "1\t190\t210"))
-        self.assertIn('data-text="replace\tchr1\t100\t200\tg\t0\t+\tchr1\t190\t210\tg\t0\t+\t190', self.text)
+        for place in "chr1 210 190", "1 190 210":
+            self.page("chr1 100 200 g 0 + 100 200 0 1 100, 0,", f"replace chr1 100 200 g 0 + {place} g 0 + 190 210 0 1 20, 0,")
+            self.assertIn('data-text="' + line("replace chr1 100 200 g 0 + chr1 190 210 g 0 + 190"), self.text)
 
     def test_a_warning_has_a_chip(self):
-        bed = "chr1\t100\t200\tg\t0\t+\t100\t100\t0\t2\t10,20,\t0,80,\n"
-        script = "# cut\nreplace\tchr1\t100\t200\tg\t0\t+\tchr1\t100\t190\tg\t0\t+\n"
+        bed, script = "chr1 100 200 g 0 + 100 100 0 2 10,20, 0,80,", "# cut\nreplace chr1 100 200 g 0 + chr1 100 190 g 0 +"
         self.assertEqual(self.page(bed, script).articles["L2"]["data-groups"], "done")  # The last block ends there too.
         script = script.replace("190", "150")
         refused = self.folder / "refused"
@@ -314,13 +300,12 @@ class Cards(Case):
         self.assertEqual((page.articles["L2"]["class"], refused.read_text().count("\n")), ("refused", 1))
         page = self.page(bed, script, "--leave-blocks")
         self.assertEqual(page.articles["L2"]["data-groups"], "done|warnings")
-        self.assertIn('<span class="kind warned">warning</span>', self.text)
-        self.assertIn("<p class=warning>", self.text)
-        self.assertTrue("warnings<b>1</b>" in self.text)
+        for part in '<span class="kind warned">warning</span>', "<p class=warning>", "warnings<b>1</b>":
+            self.assertIn(part, self.text)
 
 
 class Arrival(Case):
-    """No page is written unless its pictures arrive at what the program printed."""
+    """No page is written if the program does otherwise than it did at first."""
 
     def test_program_that_prints_another_track(self):
         """The second session of a review reads another BED file than the first."""
@@ -333,82 +318,70 @@ class Arrival(Case):
         self.assertEqual((outcome.status, outcome.err), (2, "lines that were done are refused without the others\n"))
         self.assertEqual(list(self.folder.glob("page*")), [])
 
-    def sides(self):
-        windows = Windows([Stretch("chr1", 100, 300)], 11)
-        before = Side(windows)
-        before.near = [Interval("chr1", 100, 150, ("a",)), Interval("chr1", 155, 200, ("b",))]
-        before.near_blocks = [Interval("chr1", 100, 200)]
-        return windows, before, Reviewer(before, None, {"chr1": 1000}, 10)
-
-    def test_a_missing_record_and_another_block(self):
-        windows, before, reviewer = self.sides()
-        reviewer.check(windows, before, None)
-        for near, blocks, said in ((before.near[:1], before.near_blocks, "the pictures of chr1 from 89 to 311"),
-                                   (before.near, before.near[:2], "the blocks of chr1 from 100 to 300")):
-            after = Side(windows)
-            after.near, after.near_blocks = near, blocks
-            with self.assertRaisesRegex(Differs, said):
-                reviewer.check(windows, after, None)
+    def test_other_blocks_than_the_pictures_have(self):
+        script = self.file("corrections", tabs("remove chr1 300 400 geneB"))
+        with mock.patch("bedkeep.review.neighbours.blocks_of", return_value=[]):
+            outcome = Outcome("review", self.sizes, self.genes, script, "-o", self.folder / "page.html")
+        self.assertEqual((outcome.status, outcome.err), (2, "the blocks of chr1 from 300 to 400 aren't those that the program printed\n"))
+        self.assertEqual(list(self.folder.glob("page*")), [])
 
 
-class Pieces(unittest.TestCase):
-    """What the page is made of, beside slow versions of it."""
+class Tracks(Case):
+    """What is read of a session, beside lists of its records."""
 
     def intervals(self, chance, count):
         for _ in range(count):
             start = chance.randrange(2000)
             yield Interval(chance.choice("ab"), start, start + chance.choice([1, 3, 40, 700]), (str(chance.randrange(3)),))
 
-    def test_neighbours(self):
-        for seed in range(40):
+    def edited(self, command, interval):
+        return Line(1, "", 1, "\t".join([command, interval.sequence, str(interval.start), str(interval.end), *interval.rest]))
+
+    def test_records_and_totals_after_each_edit(self):
+        lengths = {"a": 2700, "b": 2700, "c": 10}
+        for seed in range(8):
             chance = random.Random(seed)
             listed = list(self.intervals(chance, 60))
-            neighbours = Neighbours(listed)
-            for interval in self.intervals(chance, 20):
-                listed.append(interval)
-                neighbours.add(interval)
-            for interval in [*chance.sample(listed, 30), Interval("c", 1, 2)]:
-                self.assertEqual(neighbours.has(interval), interval in listed)
-                self.assertEqual(neighbours.remove(interval), interval in listed)
-                if interval in listed:
-                    listed.remove(interval)
-            for _ in range(20):
-                low = chance.randrange(2000)
-                stretch, margin = Stretch(chance.choice("abc"), low, low + chance.randrange(300)), chance.choice([0, 0, 7])
-                wide = Stretch(stretch.sequence, stretch.low - margin, stretch.high + margin)
-                self.assertEqual(neighbours.within(stretch, margin), sorted(filter(wide.touches, listed)))
-                after = [one for one in listed if one.sequence == stretch.sequence and one.start > stretch.high]
-                self.assertEqual(neighbours.beside(stretch)[1], min(after, default=None))
+            bed = self.file("track.bed", "".join("\t".join(map(str, [*one[:3], *one.rest])) + "\n" for one in listed))
+            with bedkeep.Session(lengths, bed) as session:
+                neighbours, before = Neighbours(session), Totals(session, 3, {"a": 2700, "c": 10})
+                self.check_totals(before, listed)
+                for interval in self.intervals(chance, 10):
+                    listed.append(interval)
+                    neighbours.edit(self.edited("add", interval))
+                    gone = listed.pop(chance.randrange(len(listed)))
+                    neighbours.edit(self.edited("remove", gone))
+                    self.check_neighbours(neighbours, listed, chance)
+                self.check_totals(before.after(session, "ab"), listed)
 
-    def test_what_is_read_of_a_track(self):
-        for seed in range(60):
-            chance = random.Random(seed)
-            listed = sorted(self.intervals(chance, chance.randrange(200)))
-            windows = Windows([Stretch("b", low, low + 30) for low in chance.sample(range(2700), 3)], 5)
-            side = Side(windows)
-            blocks = {name: blocks_of([one for one in listed if one.sequence == name], 3) for name in "ab"}
-            with tempfile.TemporaryDirectory() as folder:
-                track, merged = Path(folder, "track"), Path(folder, "blocks")
-                track.write_text("".join("\t".join(map(str, [*one[:3], *one.rest])) + "\n" for one in listed))
-                merged.write_text("".join(f"{name}\t{start}\t{end}\n" for name in "ab" for start, end in blocks[name]))
-                side.read(str(track), str(merged), str(merged), {"a": 2700, "c": 10})
-            wanted = [one for one in listed if any(stretch.touches(one) for stretch in windows)]
-            self.assertEqual([one for one in side.near if any(stretch.touches(one) for stretch in windows)], wanted)
-            self.assertEqual(side.records["a"], sum(one.sequence == "a" for one in listed))
-            self.assertEqual(side.blocks["b"], len(blocks["b"]))
-            self.assertEqual(side.covered["b"], sum(end - start for start, end in blocks["b"]))
-            near = [Interval("b", start, end) for start, end in blocks["b"]]
-            self.assertEqual(side.near_blocks, [one for one in near if any(stretch.touches(one) for stretch in windows)])
-            starts = [one.start for one in listed if one.sequence == "a"]
-            edges = [2700 * number // BINS for number in range(BINS + 1)]
-            density = [sum(low <= start < high for start in starts) for low, high in zip(edges, edges[1:])]
-            self.assertEqual(side.density("a"), density)
-            self.assertEqual(side.density("c"), [0] * BINS)
+    def check_neighbours(self, neighbours, listed, chance):
+        low = chance.randrange(2000)
+        stretch, margin = Stretch(chance.choice("abc"), low, low + chance.randrange(300)), chance.choice([0, 0, 7])
+        wide = Stretch(stretch.sequence, stretch.low - margin, stretch.high + margin)
+        self.assertEqual(neighbours.within(stretch, margin), sorted(filter(wide.touches, listed)))
+        of_sequence = [one for one in listed if one.sequence == stretch.sequence]
+        left, right = neighbours.beside(stretch)
+        self.assertEqual(right, min((one for one in of_sequence if one.start > stretch.high), default=None))
+        self.assertEqual(left.end if left else None, max((one.end for one in of_sequence if one.end < stretch.low), default=None))
+
+    def check_totals(self, totals, listed):
+        blocks = {name: blocks_of([one for one in sorted(listed) if one.sequence == name], 3) for name in "ab"}
+        covered = {name: {place for one in listed if one.sequence == name for place in range(one.start, one.end)} for name in "ab"}
+        for name in "ab":
+            self.assertEqual(totals.records[name], sum(one.sequence == name for one in listed))
+            self.assertEqual((totals.blocks[name], totals.covered[name]), (len(blocks[name]), len(covered[name])))
+        starts = [one.start for one in listed if one.sequence == "a"]
+        edges = [2700 * number // BINS for number in range(BINS + 1)]
+        self.assertEqual(totals.density("a"), [sum(low <= start < high for start in starts) for low, high in zip(edges, edges[1:])])
+        self.assertEqual(totals.density("c"), [0] * BINS)
+
+
+class Pieces(unittest.TestCase):
+    """What the page is made of."""
 
     def test_blocks(self):
         intervals = [Interval("a", 1, 9), Interval("a", 2, 4), Interval("a", 9, 12), Interval("a", 14, 15)]
-        self.assertEqual(blocks_of(intervals, 0), [(1, 12), (14, 15)])
-        self.assertEqual(blocks_of(intervals, 2), [(1, 15)])
+        self.assertEqual((blocks_of(intervals, 0), blocks_of(intervals, 2)), ([(1, 12), (14, 15)], [(1, 15)]))
 
     def test_one_picture_for_what_is_near(self):
         near, far = Interval("a", 1000, 1100), Interval("a", 9000, 9100)

@@ -61,8 +61,7 @@ class Runs(Case):
 
     def test_names_and_numbers(self):
         row = next(bedkeep.intersect(self.sizes, self.genes, self.mask, wb=True))
-        self.assertEqual(row, ("chr1", 150, 200, "geneA", "chr1", 150, 350))
-        self.assertEqual((row.name, row.second_start), ("geneA", 150))
+        self.assertEqual((row, row.name, row.second_start), (("chr1", 150, 200, "geneA", "chr1", 150, 350), "geneA", 150))
         row = next(bedkeep.merge(self.sizes, self.genes, d=100, c=4, o="collapse"))
         self.assertEqual((row, row.collapse_4), (("chr1", 100, 400, "geneA,geneB"), "geneA,geneB"))
 
@@ -82,29 +81,26 @@ class Runs(Case):
         lengths = {"chr1": 1000, "chr2": 500}
         self.assertEqual(list(bedkeep.complement(lengths, self.genes)), list(bedkeep.complement(self.sizes, self.genes)))
         for lengths in {"chr1": -1}, {"": 5}:
-            with self.assertRaisesRegex(bedkeep.Damaged, "^genome: line 1: bad "):
-                bedkeep.merge(lengths, self.genes)
+            self.assertRaisesRegex(bedkeep.Damaged, "^genome: line 1: bad ", bedkeep.merge, lengths, self.genes)
         for lengths in {"chr1": 1.5}, {"chr1": True}, {1.5: 5}, ["chr1"], b"sizes":
-            with self.assertRaises(TypeError):
-                bedkeep.merge(lengths, self.genes)
+            self.assertRaises(TypeError, bedkeep.merge, lengths, self.genes)
 
     def test_rows_come_one_after_another(self):
         sizes, bed = many(self.folder, 100_000)
         rows = bedkeep.cluster(sizes, bed)
         self.assertEqual(next(rows), ("chr1", 0, 15, "g0", 1))
         rows.close()
-        rows = bedkeep.merge(sizes, bed, program=self.script("slow", "printf 'chr1\\t1\\t2\\n'\nexec sleep 60"))
+        slow = self.script("slow", "printf 'chr1\\t1\\t2\\n'\nexec sleep 60")
+        rows = bedkeep.merge(sizes, bed, program=slow)
         self.assertEqual(next(rows), ("chr1", 1, 2))
         begun = time.monotonic()
         rows.close()
         self.assertEqual(list(rows), [])
-        with bedkeep.merge(sizes, bed, program=self.script("slow", "printf 'chr1\\t1\\t2\\n'\nexec sleep 60")):
+        with bedkeep.merge(sizes, bed, program=slow):
             pass
-        bedkeep.merge(sizes, bed, program=self.script("slow", "printf 'chr1\\t1\\t2\\n'\nexec sleep 60"))
+        bedkeep.merge(sizes, bed, program=slow)
         self.assertLess(time.monotonic() - begun, 30)
-        self.assertEqual(children(), [])
-        count = sum(1 for _ in bedkeep.genomecov(sizes, bed, bg=True))
-        self.assertEqual(count, 199_999)
+        self.assertEqual((children(), sum(1 for _ in bedkeep.genomecov(sizes, bed, bg=True))), ([], 199_999))
 
 
 class Failures(Case):
@@ -126,29 +122,20 @@ class Failures(Case):
              "ended without a message"),
         ):
             with self.subTest(message):
-                with self.assertRaises(error) as caught:
-                    run()
-                self.assertEqual((type(caught.exception), caught.exception.status, caught.exception.message),
-                                 (error, status, message))
-                self.assertTrue(str(caught.exception).startswith(f"{message} (status {status})"))
-        with self.assertRaises(bedkeep.NotFound):
-            bedkeep.merge(self.sizes, self.genes, program="absent")
+                said = self.failure(error, run)
+                self.assertEqual((type(said), said.status, said.message), (error, status, message))
+                self.assertTrue(str(said).startswith(f"{message} (status {status})"))
+        self.assertRaises(bedkeep.NotFound, bedkeep.merge, self.sizes, self.genes, program="absent")
 
     def test_a_run_that_ends_after_its_first_rows(self):
         rows = bedkeep.merge(self.sizes, self.genes, program=self.script("fails", "printf 'chr1\\t1\\t2\\n'\nexit 77"))
-        with self.assertRaisesRegex(bedkeep.Ended, "ended without a message"):
-            list(rows)
+        self.assertRaisesRegex(bedkeep.Ended, "ended without a message", list, rows)
 
-    def test_bad_options_name_what_is_wrong(self):
-        with self.assertRaises(bedkeep.BadOptions) as caught:
-            bedkeep.merge(self.sizes, self.genes, c=4, o="mean")
-        self.assertRegex(str(caught.exception), r"^bad options \(status 2\): .*mean")
-
-    def test_what_a_damaged_file_says(self):
-        with self.assertRaises(bedkeep.Damaged) as caught:
-            bedkeep.merge(self.genes, self.genes)
-        self.assertEqual((caught.exception.file, caught.exception.line, caught.exception.reason),
-                         (str(self.genes), 2, "repeated name"))
+    def test_what_is_wrong_is_named(self):
+        said = self.failure(bedkeep.BadOptions, bedkeep.merge, self.sizes, self.genes, c=4, o="mean")
+        self.assertRegex(str(said), r"^bad options \(status 2\): .*mean")
+        said = self.failure(bedkeep.Damaged, bedkeep.merge, self.genes, self.genes)
+        self.assertEqual((said.file, said.line, said.reason), (str(self.genes), 2, "repeated name"))
 
 
 class Package(Case):

@@ -35,11 +35,9 @@ class Edits(Case):
             line = "\t".join(["chr1", "1", "2", "n", "0", "+"][:width])
             bed = self.file("width.bed", f"# a comment\n{line}\n")
             with bedkeep.Session(self.sizes, bed) as session:
-                self.assertEqual(session.width, width)
-                self.assertEqual(session.records()[0]._fields, bedkeep.printed_rows.RECORD[:width])
+                self.assertEqual((session.width, session.records()[0]._fields), (width, bedkeep.printed_rows.RECORD[:width]))
             with bedkeep.Session(self.sizes, os.devnull, width=width) as session:
-                self.assertEqual(session.width, width)
-                self.assertEqual(session.records(), [])
+                self.assertEqual((session.width, session.records()), (width, []))
 
     def test_edits_of_the_second_file(self):
         with self.session(second=self.mask) as session:
@@ -49,55 +47,42 @@ class Edits(Case):
             self.assertEqual(session.view("intersect"), [("chr1", 100, 120, "geneA")])
             for record, there, net in (("chr1", 0, 120), True, 1), (("chr1", 150, 350), False, -1), (("chr1", 0, 110), False, 0):
                 self.assertEqual((session.has_second(record), session.net(record, second=True), session.net(record)), (there, net, 0))
-            with self.refused("no such record"):
-                session.remove_second("chr1", 150, 350)
+            self.refuses("no such record", session.remove_second, "chr1", 150, 350)
         with self.session() as session, self.refused("no second file"):
             self.assertFalse(session.has_second(("chr1", 0, 110)))
             session.add_second("chr1", 0, 110)
 
-    def test_a_refused_line_has_a_hint(self):
+    def test_what_a_refusal_says(self):
         with self.session() as session:
             refused = session.edit("remove\tchr1\t100\t201\tgeneA\nadd\tchr1\t1\t2\n")
             self.assertRegex(" ".join(refused[0].hint), "geneA.*replay")
-            self.assertRegex(" ".join(refused[1].hint), "3 columns.*4")
-            with self.assertRaises(bedkeep.Refused) as caught:
-                session.view("mrege -d 5")
-            self.assertEqual(caught.exception.line, "mrege -d 5")
-            self.assertRegex(caught.exception.hint[0], "merge")
-
-    def test_a_refused_edit_changes_nothing(self):
-        with self.session() as session:
-            before = session.records()
-            for record, reason in (
-                (("chr1", 1, 1001, "x"), "end past the sequence's end"), (("chr9", 1, 2, "x"), "unknown sequence"),
-                (("chr1", 2, 2, "x"), "start not below end"), (("chr1", 1, 2), "wrong number of columns"),
-                (("chr1", "1.5", 2, "x"), "start is not a number"), (("chr1", 1, 2, ""), "bad name"),
-            ):
-                with self.refused(reason):
-                    session.add(record)
-            with self.refused("no such record"):
-                session.remove("chr1", 100, 200, "geneB")
-            with self.refused("no such record"):
-                session.replace(("chr1", 1, 2, "x"), ("chr1", 1, 3, "x"))
-            self.assertEqual(session.records(), before)
-            self.assertEqual(session.script(), "")
-
-    def test_what_a_refusal_says(self):
-        with self.session() as session:
-            with self.assertRaises(bedkeep.Refused) as caught:
-                session.remove("chr1", 1, 2, "x")
-            refused = caught.exception
+            self.assertRegex(" ".join(refused[1].hint), "4 columns.*3")
+            refused = self.failure(bedkeep.Refused, session.view, "mrege -d 5")
+            self.assertEqual(refused.line, "mrege -d 5")
+            self.assertRegex(refused.hint[0], "merge")
+            refused = self.failure(bedkeep.Refused, session.remove, "chr1", 1, 2, "x")
             self.assertEqual((refused.reason, refused.number, refused.line), ("no such record", 1, "remove\tchr1\t1\t2\tx"))
             self.assertIsInstance(refused, bedkeep.Error)
             self.assertEqual(str(pickle.loads(pickle.dumps(refused))), str(refused))
 
+    def test_a_refused_edit_changes_nothing(self):
+        with self.session() as session:
+            before = session.records()
+            for call, reason, *records in (
+                (session.add, "end past the sequence's end", ("chr1", 1, 1001, "x")), (session.add, "unknown sequence", ("chr9", 1, 2, "x")),
+                (session.add, "start not below end", ("chr1", 2, 2, "x")), (session.add, "wrong number of columns", ("chr1", 1, 2)),
+                (session.add, "start is not a number", ("chr1", "1.5", 2, "x")), (session.add, "bad name", ("chr1", 1, 2, "")),
+                (session.remove, "no such record", ("chr1", 100, 200, "geneB")),
+                (session.replace, "no such record", ("chr1", 1, 2, "x"), ("chr1", 1, 3, "x")),
+            ):
+                self.refuses(reason, call, *records)
+            self.assertEqual((session.records(), session.script()), (before, ""))
+
     def test_no_field_can_become_another_line(self):
         with self.session() as session:
             for name in "x\tadd", "x\nadd\tchr1\t1\t2\tx", "x\r":
-                with self.assertRaises(ValueError):
-                    session.add("chr1", 1, 2, name)
-            with self.assertRaises(ValueError):
-                session.edit(["add\tchr1\t1\t2\tx\nadd\tchr1\t1\t2\ty"])
+                self.assertRaises(ValueError, session.add, "chr1", 1, 2, name)
+            self.assertRaises(ValueError, session.edit, ["add\tchr1\t1\t2\tx\nadd\tchr1\t1\t2\ty"])
             self.assertEqual(len(session.records()), 2)
 
     def test_bytes_of_any_encoding(self):
@@ -120,12 +105,10 @@ class Scripts(Case):
             self.assertEqual(session.script(), "# geneA ends later\nreplace\tchr1\t100\t200\tgeneA\tchr1\t100\t250\tgeneA\n\n"
                                                "add\tchr2\t1\t2\tlast\n")
             self.assertEqual(session.edit(iter(["add\tchr2\t3\t4\tx\n", "bad"]))[0].number, 2)
-            self.assertEqual(session.edit([]), [])
-            self.assertEqual(session.edit(""), [])
+            self.assertEqual((session.edit([]), session.edit("")), ([], []))
             after = session.records()
         with self.session() as again:
-            self.assertEqual(again.edit(session.script()), [])
-            self.assertEqual(again.records(), after)
+            self.assertEqual((again.edit(session.script()), again.records()), ([], after))
 
     def test_an_open_file(self):
         with self.session() as session, open(EXAMPLES / "first" / "corrections") as corrections:
@@ -134,13 +117,15 @@ class Scripts(Case):
     def test_views_are_no_edits(self):
         with self.session() as session:
             for line in "open\tm\tmerge", "close\tm", "print\tm", "printall", "show\tm\tchr1\t1\t2", "showall\tchr1\t1\t2":
-                with self.assertRaises(ValueError):
-                    session.edit(["add\tchr1\t1\t2\tx", line])
+                self.assertRaises(ValueError, session.edit, ["add\tchr1\t1\t2\tx", line])
             self.assertEqual(session.script(), "")
 
     def test_undo_takes_each_edit_back(self):
+        def look():
+            return session.records(), session.view("intersect -wb"), session.view("complement")
+
         with self.session(second=self.mask) as session:
-            looks = [(session.records(), session.view("intersect -wb"), session.view("complement"))]
+            looks = [look()]
             for edit, words in (
                 (session.add, ("chr1", 5, 6, "x")), (session.remove, ("chr1", 100, 200, "geneA")),
                 (session.replace, (("chr1", 300, 400, "geneB"), ("chr2", 1, 500, "y"))),
@@ -149,14 +134,13 @@ class Scripts(Case):
                 (session.resize, ("chr2", 900)), (session.resize, ("chr1", 450)),
             ):
                 edit(*words)
-                looks.append((session.records(), session.view("intersect -wb"), session.view("complement")))
+                looks.append(look())
             session.edit(["# no edit", ""])
-            for look in reversed(looks[:-1]):
+            for before in reversed(looks[:-1]):
                 session.undo()
-                self.assertEqual((session.records(), session.view("intersect -wb"), session.view("complement")), look)
+                self.assertEqual(look(), before)
             self.assertEqual(session.script(), "# no edit\n\n")
-            with self.assertRaises(IndexError):
-                session.undo()
+            self.assertRaises(IndexError, session.undo)
 
     def test_undo_of_resize_over_a_genome_file_with_comments(self):
         self.sizes = self.file("sizes", "#chr1\t7\nchrom\tsize\nchr1\t1000\tmore\r\nchr2\t500\r\nchrom\t70\n")
@@ -171,13 +155,12 @@ class Scripts(Case):
         reader, writer = os.pipe()
         os.write(writer, b"chr1\t1000\n")
         os.close(writer)
-        program = self.script("program", f'exec "$BEDKEEP" session -g <(printf "chr1\\t1000\\n") "${{@:4}}"')
-        with bedkeep.Session(f"/dev/fd/{reader}", self.genes, program=program) as session:
+        with bedkeep.Session(f"/dev/fd/{reader}", self.genes) as session:
             session.resize("chr1", 2000)
             session.resize("chr1", 3000)
-            session.undo()
-            with self.assertRaises(ValueError):
+            for length in 2000, 1000:
                 session.undo()
+                self.assertEqual(session.lengths, {"chr1": length})
         os.close(reader)
 
 
@@ -215,9 +198,9 @@ class Together(Case):
     def test_all_or_none(self):
         with self.session() as session:
             before = session.records()
-            with self.refused("no such record", 2) as caught:
-                session.edit_together([self.join[0], "remove\tchr1\t300\t401\tgeneB"], "one gene")
-            self.assertEqual(caught.exception.line, "remove\tchr1\t300\t401\tgeneB")
+            wrong = "remove\tchr1\t300\t401\tgeneB"
+            refused = self.failure(bedkeep.Refused, session.edit_together, [self.join[0], wrong], "one gene")
+            self.assertEqual((refused.reason, refused.number, refused.line), ("no such record", 2, wrong))
             self.assertEqual((session.records(), session.script()), (before, ""))
             session.add("chr2", 1, 2, "x")
             session.edit_together(self.join, "one gene\nby its exons")
@@ -231,8 +214,7 @@ class Together(Case):
             self.assertEqual(session.undo(), "\n".join(self.join))
             self.assertEqual((session.records()[:2], session.script()), (before, "add\tchr2\t1\t2\tx\n"))
             for lines in ["# a comment"], ["", self.join[0]]:
-                with self.assertRaises(ValueError):
-                    session.edit_together(lines)
+                self.assertRaises(ValueError, session.edit_together, lines)
 
     def test_a_group_that_cannot_be_taken_back(self):
         """If memory runs out in the middle of it nobody knows what is there, so the session is cut off."""
@@ -241,8 +223,7 @@ class Together(Case):
             refused = bedkeep.Refused("no memory", 1, "add\tchr1\t300\t400\tgeneB")
             with mock.patch.object(session, "_send", return_value=[refused]), self.refused("no memory"):
                 session.undo()
-            with self.assertRaises(bedkeep.Ended):
-                session.records()
+            self.assertRaises(bedkeep.Ended, session.records)
             self.assertEqual(session.script(), "\n".join(["# together:", *self.join, ""]))
 
     def test_groups_of_a_script(self):
@@ -255,8 +236,7 @@ class Together(Case):
             self.assertEqual(session.records(), [("chr1", 100, 400, "geneA"), ("chr2", 1, 2, "c")])
             self.assertEqual(session.script(), "\n".join([*text[7:12], ""]))
             session.undo()
-            self.assertEqual(session.script(), text[7] + "\n")
-            self.assertEqual(len(session), 3)
+            self.assertEqual((session.script(), len(session)), (text[7] + "\n", 3))
 
     def test_markers_are_no_reasons(self):
         """They begin no paragraph and end none."""
@@ -272,8 +252,7 @@ class Together(Case):
             session.edit([was, add[5]])
             self.assertEqual(session.script(), "\n".join([*text[:6], was, add[5], ""]))
             session.undo()
-            self.assertEqual(session.undo(), "\n".join(add[:2]))
-            self.assertEqual(session.script(), "")
+            self.assertEqual((session.undo(), session.script()), ("\n".join(add[:2]), ""))
             session.edit(["# why", add[2]])
             session.edit([was, add[3]])
             self.assertEqual(session.script(), "\n".join(["# why", add[2], "", was, add[3], ""]))
@@ -289,32 +268,19 @@ class Together(Case):
             self.assertEqual((session.length("chr2"), session.script()), (500, ""))
         self.assertRaises(bedkeep.Ended, session.records)
 
-    def test_close_without_a_name_ends_the_session(self):
-        session = self.session()
-        session.close()
-        with self.assertRaisesRegex(bedkeep.Ended, "the session is closed"):
-            session.records()
-
 
 class Views(Case):
     def test_open_rows_close(self):
         with self.session() as session:
             session.open("m", "merge  -d 100 -c 4,1 -o collapse,count")
             row = session.rows("m")[0]
-            self.assertEqual(row, ("chr1", 100, 400, "geneA,geneB", 2))
-            self.assertEqual((row.start, row.collapse_4, row.count_1), (100, "geneA,geneB", 2))
-            with self.refused("view name taken"):
-                session.open("m", "cluster")
+            self.assertEqual((row, row.start, row.collapse_4, row.count_1), (("chr1", 100, 400, "geneA,geneB", 2), 100, "geneA,geneB", 2))
+            self.refuses("view name taken", session.open, "m", "cluster")
             session.close("m")
-            for call in session.rows, session.close:
-                with self.refused("no such view"):
-                    call("m")
-            with self.refused("bad view name"):
-                session.open("", "merge")
-            with self.refused("bad options"):
-                session.open("m", "merge -x")
-            with self.assertRaises(ValueError):
-                session.open("m", "merge\n")
+            for reason, call, *words in (("no such view", session.rows, "m"), ("no such view", session.close, "m"),
+                                         ("bad view name", session.open, "", "merge"), ("bad options", session.open, "m", "merge -x")):
+                self.refuses(reason, call, *words)
+            self.assertRaises(ValueError, session.open, "m", "merge\n")
 
     def test_a_view_stays_open(self):
         with self.session() as session:
@@ -323,20 +289,17 @@ class Views(Case):
             with mock.patch.object(session, "open") as opened:
                 self.assertEqual(session.view(" merge  -d 100"), [("chr1", 100, 200)])
             opened.assert_not_called()
-            with self.refused("bad options"):
-                session.view("merge -x")
-            with self.refused("no second file"):
-                session.view("intersect")
+            self.refuses("bad options", session.view, "merge -x")
+            self.refuses("no second file", session.view, "intersect")
 
     def test_more_views_than_can_be_open(self):
         with self.session() as session:
             session.open("mine", "merge")
             for distance in range(100):
-                self.assertEqual(len(session.view(f"merge -d {distance}")), 2 if distance < 100 else 1)
+                self.assertEqual(len(session.view(f"merge -d {distance}")), 2)
             self.assertEqual(session.rows("mine"), [("chr1", 100, 200), ("chr1", 300, 400)])
             session.close("view:100")
-            self.assertEqual(len(session.view("merge -d 99")), 2)
-            self.assertEqual(len(session.records()), 2)
+            self.assertEqual((len(session.view("merge -d 99")), len(session.records())), (2, 2))
 
     def test_the_names_and_numbers_of_each_view(self):
         coding = self.file("coding.bed", "chr1\t10\t20\ta\t7\t+\nchr1\t15\t30\tb\t2.5\t-\n")
@@ -367,8 +330,7 @@ class Views(Case):
             ):
                 with self.subTest(words):
                     found = session.view(words)[0]
-                    self.assertEqual(found, row)
-                    self.assertEqual(found._fields, names)
+                    self.assertEqual((found, found._fields), (row, names))
                     self.assertEqual([type(one) for one in found], [type(one) for one in row])
                     self.assertEqual(pickle.loads(pickle.dumps(found)), found)
             self.assertEqual(session.view("getfasta -s")[1], ("chr1", 15, 30, "-", "AACGTAACGTAACGT"))
@@ -411,16 +373,12 @@ class Views(Case):
                 (("chr3", 5, 5), "start not below end"), (("chr3", 0, 1001), "unknown sequence"),
                 (("chr1", 0, 1001), "end past the sequence's end"),
             ):
-                with self.refused(reason) as caught:
-                    session.show("merge", *region)
-                self.assertEqual(caught.exception.line, "\t".join(["show", "view:1", *map(str, region)]))
-                self.assertTrue(caught.exception.hint)
-            with self.refused("bad options"):
-                session.show("merge -x", "chr1", 0, 1)
-            with self.refused("no second file"):
-                session.show("intersect", "chr9", 0, 1)
-            with self.assertRaises(TypeError):
-                session.show("merge", "chr1", 0, 1.5)
+                refused = self.failure(bedkeep.Refused, session.show, "merge", *region)
+                self.assertEqual((refused.reason, refused.line), (reason, "\t".join(["show", "view:1", *map(str, region)])))
+                self.assertTrue(refused.hint)
+            self.refuses("bad options", session.show, "merge -x", "chr1", 0, 1)
+            self.refuses("no second file", session.show, "intersect", "chr9", 0, 1)
+            self.assertRaises(TypeError, session.show, "merge", "chr1", 0, 1.5)
             self.assertEqual(session.show("merge", "chr1", 0, 1000), [("chr1", 100, 200), ("chr1", 300, 400)])
 
 
@@ -452,41 +410,32 @@ def session_records(session, case):
 class Ends(Case):
     def test_what_keeps_a_session_from_beginning(self):
         damaged = self.file("damaged: line 7: x.bed", "chr1\t1\t2\nchr1\t5\t3\n")
-        with self.assertRaises(bedkeep.Damaged) as caught:
-            bedkeep.Session(self.sizes, damaged)
-        self.assertEqual((caught.exception.file, caught.exception.line, caught.exception.reason, caught.exception.status),
-                         (str(damaged), 2, "start not below end", 3))
-        self.assertEqual(str(pickle.loads(pickle.dumps(caught.exception))), str(caught.exception))
+        said = self.failure(bedkeep.Damaged, bedkeep.Session, self.sizes, damaged)
+        self.assertEqual((said.file, said.line, said.reason, said.status), (str(damaged), 2, "start not below end", 3))
+        self.assertEqual(str(pickle.loads(pickle.dumps(said))), str(said))
         for error, status, message, options in (
             (bedkeep.BadOptions, 2, "bad options", {"width": 9}),
             (bedkeep.InputOutput, 4, f"{self.folder}: cannot be read", {"second": self.folder}),
             (bedkeep.Damaged, 3, f"{self.genes}: line 1: bases before a header", {"fasta": self.genes}),
         ):
-            with self.assertRaises(error) as caught:
-                self.session(**options)
-            self.assertEqual((caught.exception.status, caught.exception.message), (status, message))
-            self.assertIsInstance(caught.exception, bedkeep.Ended)
-        with self.assertRaises(ValueError):
-            bedkeep.Session(self.sizes, "/dev/stdin")
+            said = self.failure(error, self.session, **options)
+            self.assertEqual((said.status, said.message, isinstance(said, bedkeep.Ended)), (status, message, True))
+        self.assertRaises(ValueError, bedkeep.Session, self.sizes, "/dev/stdin")
 
     def test_files_that_a_wide_session_takes(self):
         packed = self.file("genes.bed.gz", gzip.compress(self.genes.read_bytes()))
         eight = self.file("eight.bed", "chr1\t1\t2\tx\t0\t+\t1\t2\n")
         for bed, second in (packed, None), (eight, None), (self.genes, eight):
-            with self.assertRaises(bedkeep.Ended) as caught:
-                bedkeep.Session(self.sizes, bed, second)
-            self.assertRegex(str(caught.exception), "wide=True")
+            self.assertRaisesRegex(bedkeep.Ended, "wide=True", bedkeep.Session, self.sizes, bed, second)
             bedkeep.Session(self.sizes, bed, second, wide=True).close()
         other = self.file("other.gff", "chr1\tsource\tgene\t10\t20\t.\t+\t.\tID=x\n")
         for wide in False, True:
-            with self.assertRaisesRegex(bedkeep.Damaged, "wrong number of columns") as caught:
-                bedkeep.Session(self.sizes, other, wide=wide)
-            self.assertEqual(caught.exception.file, str(other))
+            said = self.failure(bedkeep.Damaged, bedkeep.Session, self.sizes, other, wide=wide)
+            self.assertEqual((said.reason, said.file), ("wrong number of columns", str(other)))
 
     def test_where_the_program_is(self):
         for program in self.folder / "absent", self.sizes:
-            with self.assertRaises(bedkeep.NotFound):
-                self.session(program=program)
+            self.assertRaises(bedkeep.NotFound, self.session, program=program)
         with mock.patch.dict(os.environ, BEDKEEP="absent"), self.assertRaises(bedkeep.NotFound):
             self.session()
         (self.folder / "bedkeep").symlink_to(os.environ["BEDKEEP"])
@@ -494,22 +443,19 @@ class Ends(Case):
             self.assertEqual(len(self.session().records()), 2)
         with mock.patch.dict(os.environ, PATH="", BEDKEEP=""), mock.patch("sys.executable", str(self.folder / "python")):
             self.assertEqual(len(self.session().records()), 2)
-            with self.assertRaises(bedkeep.NotFound):
-                self.session(program="bedkeeper")
+            self.assertRaises(bedkeep.NotFound, self.session, program="bedkeeper")
 
     def test_no_memory(self):
         program = self.script("small", 'ulimit -v 8000\nexec "$BEDKEEP" "$@"')
         self.sizes, self.genes = many(self.folder, 300_000)
-        with self.assertRaises(bedkeep.NoMemory) as caught:
-            self.session(program=program)
-        self.assertEqual((caught.exception.status, caught.exception.message), (5, "no memory"))
+        said = self.failure(bedkeep.NoMemory, self.session, program=program)
+        self.assertEqual((said.status, said.message), (5, "no memory"))
 
     def test_a_line_that_is_too_long(self):
         with self.session() as session:
             session.add("chr1", 1, 2, "x")
-            with self.assertRaises(bedkeep.InputOutput) as caught:
-                session.add("chr1", 1, 2, "x" * (1 << 20))
-            self.assertEqual((caught.exception.status, caught.exception.message), (4, "input too long"))
+            said = self.failure(bedkeep.InputOutput, session.add, "chr1", 1, 2, "x" * (1 << 20))
+            self.assertEqual((said.status, said.message), (4, "input too long"))
             self.assertEqual(session.script(), "add\tchr1\t1\t2\tx\n")
 
     def test_killed_between_two_calls(self):
@@ -517,9 +463,8 @@ class Ends(Case):
             session.add("chr1", 1, 2, "x")
             os.kill(session._talk._process.pid, signal.SIGKILL)
             for call in session.records, session.records, lambda: session.edit(["add\tchr1\t1\t2\tx"] * 100_000), session.undo:
-                with self.assertRaises(bedkeep.Ended) as caught:
-                    call()
-                self.assertEqual((caught.exception.status, caught.exception.message), (-9, "ended by signal 9"))
+                said = self.failure(bedkeep.Ended, call)
+                self.assertEqual((said.status, said.message), (-9, "ended by signal 9"))
             self.assertEqual(session.script(), "add\tchr1\t1\t2\tx\n")
 
     def test_killed_in_the_middle_of_an_answer(self):
@@ -536,15 +481,15 @@ class Ends(Case):
                 session.rows("all")
 
     def test_a_closed_session(self):
-        session = self.session()
-        session.add("chr1", 1, 2, "x")
-        session.end()
-        session.end()
-        for call in session.records, lambda: session.save(self.folder / "saved.bed"):
-            with self.assertRaisesRegex(bedkeep.Ended, "the session is closed"):
-                call()
-        self.assertFalse((self.folder / "saved.bed").exists())
-        self.assertEqual(session.script(), "add\tchr1\t1\t2\tx\n")
+        for name in "end", "close":
+            session = self.session()
+            session.add("chr1", 1, 2, "x")
+            for _ in range(2):
+                getattr(session, name)()
+            for call in session.records, lambda: session.save(self.folder / "saved.bed"):
+                self.assertRaisesRegex(bedkeep.Ended, "the session is closed", call)
+            self.assertFalse((self.folder / "saved.bed").exists())
+            self.assertEqual(session.script(), "add\tchr1\t1\t2\tx\n")
 
     def test_a_fork_does_not_hold_up_the_end(self):
         """A process that was forked has the pipe to the program too, so the program doesn't see its end."""
@@ -570,9 +515,9 @@ class Interrupted(Case):
         for _ in range(times):
             os.kill(os.getpid(), signal.SIGINT)
 
-    def after_one(self, owner, name, times):
-        """Patches a method: its first call is followed by interrupts."""
-        method, calls = getattr(owner, name), []
+    def interrupted(self, call, *words, name="write", times=1):
+        """Makes a call; the first call of this method of an exchange is followed by interrupts."""
+        method, calls = getattr(Exchange, name), []
 
         def patched(*words):
             result = method(*words)
@@ -581,21 +526,20 @@ class Interrupted(Case):
                 self.interrupt(times)
             return result
 
-        return mock.patch.object(owner, name, patched)
+        with mock.patch.object(Exchange, name, patched):
+            self.assertRaises(KeyboardInterrupt, call, *words)
 
     def test_while_rows_come(self):
         with self.session() as session:
             session.edit(f"add\tchr1\t{number % 900}\t1000\tx" for number in range(100_000))
-            with self.after_one(Exchange, "rows", 1), self.assertRaises(KeyboardInterrupt):
-                session.view("cluster")
+            self.interrupted(session.view, "cluster", name="rows")
             session.add("chr2", 1, 2, "x")
             self.assertEqual(len(session.records()), 100_003)
 
     def test_while_edits_are_sent(self):
         with self.session() as session:
             lines = [f"add\tchr1\t{number % 900}\t1000\tx{number}" for number in range(100_000)]
-            with self.after_one(Exchange, "write", 1), self.assertRaises(KeyboardInterrupt):
-                session.edit(lines)
+            self.interrupted(session.edit, lines)
             done = session.script().splitlines()
             self.assertEqual(done, lines[:len(done)])
             self.assertTrue(0 < len(done) < len(lines))
@@ -605,10 +549,8 @@ class Interrupted(Case):
 
     def test_a_second_one_closes_the_session(self):
         with self.session() as session:
-            with self.after_one(Exchange, "write", 2), self.assertRaises(KeyboardInterrupt):
-                session.edit("add\tchr1\t1\t2\tx" for _ in range(100_000))
-            with self.assertRaises(bedkeep.Ended):
-                session.records()
+            self.interrupted(session.edit, ("add\tchr1\t1\t2\tx" for _ in range(100_000)), times=2)
+            self.assertRaises(bedkeep.Ended, session.records)
         self.assertEqual(signal.getsignal(signal.SIGINT), signal.default_int_handler)
 
     def test_while_the_script_is_put_in_order(self):
@@ -617,11 +559,10 @@ class Interrupted(Case):
                 os.kill(os.getpid(), signal.SIGINT)
                 return super().split(*words)
 
-        script = Script(None)
+        script = Script({})
         script.add("add\tchr1\t1\t2\n")
         script.add(Text("add\tchr1\t3\t4\n"))
-        with self.assertRaises(KeyboardInterrupt):
-            script.lines()
+        self.assertRaises(KeyboardInterrupt, script.lines)
         self.assertEqual(script.lines(), ["add\tchr1\t1\t2", "add\tchr1\t3\t4"])
 
     def test_at_any_moment(self):
@@ -650,8 +591,7 @@ class Interrupted(Case):
         alarm = threading.Timer(0.3, self.interrupt)
         alarm.start()
         begun = time.monotonic()
-        with self.assertRaises(KeyboardInterrupt):
-            self.session(program=self.script("slow", "exec sleep 60"))
+        self.assertRaises(KeyboardInterrupt, self.session, program=self.script("slow", "exec sleep 60"))
         self.assertLess(time.monotonic() - begun, 30)
         alarm.join()
         self.assertEqual(children(), [])
@@ -659,14 +599,11 @@ class Interrupted(Case):
     def test_a_group_is_done_whole(self):
         lines = [f"add\tchr1\t{number % 900}\t1000\tx{number}" for number in range(5_000)]
         with self.session() as session:
-            with self.after_one(Exchange, "write", 1), self.assertRaises(KeyboardInterrupt):
-                session.edit_together(lines, "all")
+            self.interrupted(session.edit_together, lines, "all")
             self.assertEqual(len(session.script().splitlines()), 5_001)
-            with self.after_one(Exchange, "write", 1), self.assertRaises(KeyboardInterrupt):
-                session.undo()
+            self.interrupted(session.undo)
             self.assertEqual((session.script(), len(session)), ("", 2))
-            with self.after_one(Exchange, "write", 1), self.assertRaises(KeyboardInterrupt):
-                session.edit_together([*lines, "remove\tchr1\t1\t2\tx"])
+            self.interrupted(session.edit_together, [*lines, "remove\tchr1\t1\t2\tx"])
             self.assertEqual((session.script(), len(session)), ("", 2))
 
     def test_from_another_thread(self):
@@ -772,9 +709,13 @@ class Large(Case):
     def test_a_million_rows(self):
         self.sizes, self.genes = many(self.folder, 1_000_000)
         with self.session() as session:
+            with mock.patch.object(session, "_print_track", side_effect=AssertionError):
+                self.assertEqual(len(session), 1_000_000)
+                near = session.near("chr1", 5_000_003, 5_000_015)
+                self.assertEqual([row.start for row in near], [5_000_000, 5_000_010, 4_999_990])
+                self.assertEqual(len(session.find("g77")), 10_000)
             records = session.records()
-            self.assertEqual(len(records), 1_000_000)
-            self.assertEqual(records[-1], ("chr1", 9_999_990, 10_000_005, "g99"))
+            self.assertEqual((len(records), records[-1]), (1_000_000, ("chr1", 9_999_990, 10_000_005, "g99")))
             del records
             session.save(self.folder / "saved.bed")
         self.assertEqual((self.folder / "saved.bed").read_bytes(), self.genes.read_bytes())
@@ -791,8 +732,7 @@ class Large(Case):
 
     def test_the_limit(self):
         self.genes = self.file("many.bed", "".join(f"chr1\t{start}\t{start + 5}\tg\n" for start in range(40)))
-        with self.assertRaisesRegex(bedkeep.Damaged, "too many"):
-            self.session(limit=39)
+        self.assertRaisesRegex(bedkeep.Damaged, "too many", self.session, limit=39)
         for limit in 40, 41:
             with self.session(limit=limit) as session, self.refused("track is full"):
                 for start in range(limit - 39):
@@ -803,8 +743,7 @@ class Large(Case):
         """The message that ends an answer can be read before the last rows are."""
         with self.session() as session, mock.patch("bedkeep.conversation.PIECE", 7):
             session.edit(f"add\tchr1\t{number}\t1000\tx" for number in range(99))
-            self.assertEqual(len(session.records()), 101)
-            self.assertEqual(session.view("merge"), [("chr1", 0, 1000)])
+            self.assertEqual((len(session.records()), session.view("merge")), (101, [("chr1", 0, 1000)]))
 
     def test_more_messages_than_a_pipe_holds(self):
         with self.session() as session:

@@ -1,11 +1,10 @@
 import gzip
 import os
-import threading
 from unittest import mock
 
 import bedkeep
 from bedkeep.wide import cut
-from helpers import Case, Corrected, Outcome, tabs
+from helpers import Case, Corrected, tabs
 
 BED12 = """chr1 100 200 geneA 0 + 110 190 255,0,0 2 20,30, 0,70,
 chr1 300 400 geneB 7 - 300 400 0 1 100 0
@@ -16,49 +15,31 @@ chr1 300 400 peak2 7 . 1e3 -1 -1 -1"""
 
 
 class Applied(Corrected):
-    def test_an_untouched_line_comes_as_it_is(self):
-        for bed in BED12, PEAKS:
-            outcome = self.corrected("apply", bed, "add chr1 1 2 x 0 +\nremove chr1 1 2 x 0 +")
-            self.assertEqual((outcome.status, outcome.rows), (0, bed.split("\n")))
-
-    def test_headers_of_a_wide_file(self):
-        outcome = self.corrected("apply", f"#one\n\n{PEAKS}\ntrack", "")
-        self.assertEqual((outcome.status, outcome.rows), (0, ["#one", "", *PEAKS.split("\n"), "track"]))
+    def test_untouched_lines_come_as_they_are(self):
+        for bed in BED12, f"#one\n\n{PEAKS}\ntrack":
+            self.assertEqual(self.corrected("apply", bed, "add chr1 1 2 x 0 +\nremove chr1 1 2 x 0 +").track, (0, bed.split("\n")))
 
     def test_lines_of_another_number_of_columns(self):
-        outcome = self.corrected("apply", BED12, "add chr1 1 2 x 0 + 1\nremove chr1 1 2\nreplace chr1 1 2 chr1 1 3")
-        self.assertEqual(outcome.messages, ["line 1: wrong number of columns: 7 fields; 6 or 12 are needed",
-                                            "line 2: wrong number of columns: 3 fields; 6 or 12 are needed",
-                                            "line 3: wrong number of columns: 6 fields; 12, 18 or 24 are needed"])
-        outcome = self.corrected("apply", BED12, "replace chr2 5 50 geneC 0 . chr9 5 50 geneC 0 . 1 2 3 4 5 6\n"
-                            "replace chr2 5 50 geneC 0 . 10 20 0,0,0 1 45, 0, chr2 5 5 geneC 0 . 1 2 3 4 5 6\n"
-                            "replace chr2 5 50 geneC 0 . 10 20 0,0,0 1 45, 0, chr2 5 5 geneC 0 .")
-        self.assertEqual(outcome.messages, ["line 1: unknown sequence: 'chr9' (new chromosome, field 8)",
-                                            "line 2: start not below end: '5' (new start, field 15)",
-                                            "line 3: start not below end: '5' (new start, field 15)"])
-        outcome = self.corrected("apply", f"{BED12}\nchr1 1 2 x 0 +", "")
-        self.assertEqual((outcome.status, outcome.err), (2, f"{self.bed}: line 5: wrong number of columns\n"))
-        outcome = self.corrected("apply", f"{BED12}\nchr1 9 2 x 0 + 1 2 0 1 1 0", "")
-        self.assertEqual(outcome.status, 2)
-        self.assertRegex(outcome.err, f"^{self.bed}: line 5: start not below end \\(status 3\\)\n  line 5, field 2: ")
-
-
-class Diffs(Case):
-    def test_tails_are_compared_too(self):
-        old = self.file("old.bed", tabs(BED12))
-        new = self.file("new.bed", tabs(BED12.replace("300 300 0 3", "300 305 9 3").replace("geneC 0 . 10", "geneC 0 - 11")))
-        script = self.file("script", Outcome("diff", old, new).out)
-        self.assertEqual([line.split("\t")[0] for line in script.read_text().split("\n")], ["", "replace", "replace", ""])
-        outcome = Outcome("apply", self.sizes, old, script, "--strict", "--copies")
-        self.assertEqual((outcome.status, outcome.err, outcome.out), (0, "", new.read_text()))
+        gene = "replace chr2 5 50 geneC 0 ."
+        for line, said in (
+                ("add chr1 1 2 x 0 + 1", "wrong number of columns: 7 fields; 6 or 12 are needed"),
+                ("remove chr1 1 2", "wrong number of columns: 3 fields; 6 or 12 are needed"),
+                ("replace chr1 1 2 chr1 1 3", "wrong number of columns: 6 fields; 12, 18 or 24 are needed"),
+                (f"{gene} chr9 5 50 geneC 0 . 1 2 3 4 5 6", "unknown sequence: 'chr9' (new chromosome, field 8)"),
+                (f"{gene} 10 20 0,0,0 1 45, 0, chr2 5 5 geneC 0 . 1 2 3 4 5 6", "start not below end: '5' (new start, field 15)"),
+                (f"{gene} 10 20 0,0,0 1 45, 0, chr2 5 5 geneC 0 .", "start not below end: '5' (new start, field 15)")):
+            self.assertEqual(self.corrected("apply", BED12, line).messages, [f"line 1: {said}"])
+        for row, said in (("chr1 1 2 x 0 +", "wrong number of columns\n$"),
+                          ("chr1 9 2 x 0 + 1 2 0 1 1 0", "start not below end \\(status 3\\)\n  line 5, field 2: ")):
+            outcome = self.corrected("apply", f"{BED12}\n{row}", "")
+            self.assertEqual(outcome.status, 2)
+            self.assertRegex(outcome.err, f"^{self.bed}: line 5: {said}")
 
 
 class Sessions(Case):
     def wide(self, text, **options):
-        self.bed = self.file("wide.bed", text)
-        session = bedkeep.Session(self.sizes, self.bed, wide=True, **options)
-        self.addCleanup(session.end)
-        return session
+        self.bed = self.genes = self.file("wide.bed", text)
+        return self.session(wide=True, **options)
 
     def lines(self, session):
         return [" ".join(map(str, row)) for row in session.records()]
@@ -74,6 +55,11 @@ class Sessions(Case):
             self.assertEqual(looks[0], BED12.split("\n"))
             first = session.records()[0]
             self.assertEqual((first.start, first.column_7, first.column_12, len(session)), (100, "110", "0,70,", 4))
+            session.remove(first)
+            self.assertNotIn(first, session)
+            session.add(first)
+            self.assertIn(first, session)
+            self.assertEqual([session.undo().split("\t")[0], session.undo().split("\t")[0], self.lines(session)], ["add", "remove", looks[0]])
             for line in ("replace chr1 300 400 geneB 7 - chr1 300 390 geneB 7 -", "remove chr1 300 400 geneB 7 -", "resize chr2 600",
                          "add chr2 8 9 own 0 + 8 9 0 1 1 0", "replace chr2 5 50 geneC 0 . chr2 5 9 new 0 . 5 9 0 1 4 0",
                          "removeb chr1 150 350 m 0 +", "addb chr1 150 350 m 0 + y"):
@@ -184,64 +170,34 @@ add chr2 1 2 x 0 ."""), [(1, "the summit at base 199 is outside of the record", 
             self.assertEqual(self.lines(session), ["chr1 1 5 x 0 + 1 5 0 1 4 0", "chr1 6 9 y 0 + 6 9 0 1 3 0"])
 
     def test_lines_that_the_program_refuses_where_that_wasnt_expected(self):
-        """The genome is a pipe, so nobody but the program knows its lengths: the same as line by line."""
-        rows = "chr1 100 200 g 0 + 100 200 0 2 10,20, 0,80,\nchr1 100 200 g 0 + 100 200 0 1 100 0"
-        lines = tabs("""replace chr1 100 200 g 0 + 100 200 0 2 10,20, 0,80, chr1 100 2000 g 0 +
-remove chr1 100 200 g 0 + 100 200 0 2 10,20, 0,80,
-replace chr1 100 200 g 0 + chr1 100 150 g 0 +
+        """The track is full, which nobody but the program knows: the same as line by line."""
+        block = "100 200 g 0 + 100 200 0 2 10,20, 0,80,"
+        others = [f"chr2 {start} {start + 1} o 0 + {start} {start + 1} 0 1 1 0" for start in range(98)]
+        lines = tabs(f"""add chr1 1 2 x 0 +
+replace chr1 1 2 x 0 + chr1 1 3 x 0 +
+remove chr1 {block}
+add chr1 1 2 x 0 +
+replace chr1 1 2 x 0 + chr1 1 4 x 0 +
+add chr1 1 2 y 0 +
+remove chr1 1 2 y 0 +
 resize chr1 5000
-# after it
-replace chr1 100 150 g 0 + chr1 100 2000 g 0 +
-replace chr1 100 2000 g 0 + chr1 100 6000 g 0 +
-remove chr1 100 6000 g 0 +
-replace chr1 100 2000 g 0 + 100 2000 0 1 1900 0 chr1 100 300 g 0 +
-add chr9 1 2 x 0 +
-remove chr9 1 2 x 0 +
-add chr1 1 2 x 0 +""").replace("#\tafter\tit", "# after it")
-        before = lines[:lines.index("# after it")]
-        with self.wide(tabs(rows)) as known:
-            expected = [(one.number, one.reason) for one in known.edit(lines)]
-            after = self.lines(known)
-            while known.script() != before[before.index("remove"):]:
-                known.undo()
-            middle = self.lines(known)
-        self.assertEqual([number for number, _ in expected], [1, 7, 8, 10, 11])
+replace chr1 100 200 g 0 + chr1 100 2000 g 0 +""").split("\n")[:-1]
         for step in 1, 2, 5, 100:
-            with self.subTest(step=step), self.piped() as session:
-                refused, listed = [], lines.split("\n")[:-1]
-                for begin in range(0, len(listed), step):
-                    refused += [(begin + one.number, one.reason) for one in session.edit(listed[begin:begin + step])]
-                self.assertEqual((refused, self.lines(session)), (expected, after))
-                while session.script() != before[before.index("remove"):]:
+            with self.subTest(step=step), self.wide(tabs("\n".join([f"chr1 {block}", "chr1 100 200 g 0 + 100 200 0 1 100 0", *others])),
+                                                    limit=100) as session:
+                refused = []
+                for begin in range(0, len(lines), step):
+                    refused += [(begin + one.number, one.reason) for one in session.edit(lines[begin:begin + step])]
+                self.assertEqual(refused, [(1, "track is full"), (2, "no such record"), (6, "track is full"), (7, "no such record")])
+                self.assertEqual(self.lines(session)[:2], ["chr1 1 4 x 0 + 1 4 0 1 3 0", "chr1 100 2000 g 0 + 100 2000 0 1 1900 0"])
+                while session.script():
                     session.undo()
-                self.assertEqual(self.lines(session), middle)
-                with self.assertRaises(ValueError):
-                    session.undo()
-
-    def piped(self):
-        """A session over the wide file whose genome is a pipe."""
-        pipe = self.folder / "pipe"
-        pipe.unlink(missing_ok=True)
-        os.mkfifo(pipe)
-        threading.Thread(target=pipe.write_bytes, args=[self.sizes.read_bytes()]).start()
-        return bedkeep.Session(pipe, self.bed, wide=True)
-
-    def test_records_of_all_columns(self):
-        with self.wide(tabs(BED12)) as session:
-            record = session.records()[1]
-            session.remove(record)
-            self.assertNotIn(record, session.records())
-            self.assertIn(session.records()[0], session)
-            session.add(record)
-            with self.refused("no such record"):
-                session.remove("chr1", 1, 2, "x", 0, "+")
-            self.assertEqual(self.lines(session), BED12.split("\n"))
+                self.assertEqual(self.lines(session)[:3], [f"chr1 {block}", "chr1 100 200 g 0 + 100 200 0 1 100 0", others[0]])
 
     def test_the_file_itself_is_not_written(self):
         with self.wide(tabs(BED12)) as session:
             self.assertIn(str(self.bed), repr(session))
-            with self.assertRaises(ValueError):
-                session.save(self.bed)
+            self.assertRaises(ValueError, session.save, self.bed)
         with self.assertRaisesRegex(bedkeep.Damaged, f"^{self.folder}/wide.bed: line 2: start not below end"):
             self.wide(tabs("chr1 1 2 x 0 + y\nchr1 2 1 x 0 + y"))
 
@@ -263,15 +219,7 @@ add chr1 1 2 x 0 +""").replace("#\tafter\tit", "# after it")
 
 
 class Parts(Case):
-    def test_cut(self):
-        six, nine = "c 1 2 n 0 +".split(), "c 1 3 n 0 + g h i".split()
-        tail = "\tg\th\ti"
-        for command, fields, width, expected in (
-            ("add", nine, 9, (nine[:6], None, tail)), ("removeb", nine, 9, (nine[:6], tail, None)), ("add", six, 9, (six, None, None)),
-            ("replace", six + six, 9, (six + six, None, None)), ("replace", nine + nine, 9, (nine[:6] + nine[:6], tail, tail)),
-            ("replaceb", six + nine, 9, (six + nine[:6], None, tail)), ("replace", nine + six, 9, (nine[:6] + six, tail, None)),
-            ("replace", nine, 9, (nine, None, None)), ("add", nine, 12, (nine, None, None)), ("add", nine, 6, (nine, None, None)),
-        ):
-            self.assertEqual(tuple(cut(command, fields, width)), expected)
-        self.assertEqual(cut("replace", "c 1 3 n 0 + g h i c 1 x n 0 +".split(), 9).old_tail, tail)  # neither is well
-        self.assertEqual(cut("replace", "1 100 200 x . + c 1 5 6 n . +".split(), 7).old_tail, "\tc")  # or chromosome c, from 1 to 5
+    def test_what_may_be_cut_in_two_ways(self):
+        for line, width, tail in (("c 1 3 n 0 + g h i c 1 x n 0 +", 9, "\tg\th\ti"),  # neither is well
+                                  ("1 100 200 x . + c 1 5 6 n . +", 7, "\tc")):  # or chromosome c, from 1 to 5
+            self.assertEqual(cut("replace", line.split(), width).old_tail, tail)
