@@ -254,9 +254,8 @@ class Session:
     def edit_seen(self, lines: Union[str, Iterable[str]], region: Optional[Region] = None, keep: bool = True) -> Seen:
         """Carries out edits as `edit` does, and has the rows of all open views before and after them, as `show_all` has them.
 
-        That is one exchange with the program. keep: whether the edits stay; else all are taken back by another one, so that one
-        sees what they would do. No rows come of a region that isn't there before and after. ValueError for lines among which some, not all, are
-        done together.
+        That is one exchange with the program. keep: whether the edits stay; else another exchange takes all of them back. No rows
+        come of a region that isn't there before and after. ValueError for lines among which some, not all, are done together.
         """
         text = edits_of(lines)
         is_group = [is_group for _, is_group in pieces_of(text)] or [False]

@@ -59,5 +59,5 @@ prove iv_view
 prove_beside iv_hints
 prove iv_workspace
 prove iv_session
-await
 prove iv_program
+await
