@@ -40,7 +40,7 @@ MAKES_A_METER = {
 # A list of items in several vectors may be longer than any one of them, so their number is looked at before it grows.
 FULL_COUNTS = {
     "iv_lines/src/batches.rt": (r"let Some\(len\) = self\.len\.checked_add\(1\) else \{", ""),
-    "iv_track/src/ledger.rt": (r"if (?:self\.)?len == MOST_ENTRIES \{", "const MOST_ENTRIES: usize = 9_223_372_036_854_775_807;"),
+    "iv_ledger/src/ledger.rt": (r"if (?:self\.)?len == MOST_ENTRIES \{", "const MOST_ENTRIES: usize = 9_223_372_036_854_775_807;"),
 }
 # Under its own name it is found wherever it is made: `C::Meter::new()` too.
 METER_CALLED_OTHERWISE = re.compile(r"\btype\s+(?!Meter\b)\w+\s*=\s*[\w:]*\bMeter\b")
@@ -235,7 +235,7 @@ PLANTED = [
     ("iv_cli", "use crate::CliFault::Memory;\nfn f() -> CliFault { Memory }", MADE),
     ("iv_cli", "const FAULT: CliFault = CliFault::Memory;", MADE),
     ("iv_session", "fn f() -> Result<(), AllocError> { Err(AllocError) }", MADE),
-    ("iv_track", "fn f(len: usize) -> Result<(), AllocError> { if len == MOST_ENTRIES { return Err(AllocError); } Ok(()) }", MADE),
+    ("iv_ledger", "fn f(len: usize) -> Result<(), AllocError> { if len == MOST_ENTRIES { return Err(AllocError); } Ok(()) }", MADE),
     ("iv_session", "fn f() -> EditFault { EditFault::from(AllocError) }", MADE),
     ("iv_session", "impl From<u8> for EditFault { fn from(_: u8) -> EditFault { EditFault::NoMemory } }", MADE),
     ("iv_session", "fn f() -> EditFault { let fault = EditFault::NoMemory; fault }", MADE),
@@ -256,7 +256,7 @@ PLANTED = [
     ("iv_depth", "fn f() -> u64 { let meter = Meter::new(); meter.steps() }", METERS),
     ("iv_cover", "fn f() -> u64 { let mut meter = Meter::new(); meter.steps() }", METERS),
     ("iv_cover", "fn f() -> u64 { <Meter>::new().steps() }", METERS),
-    ("iv_cover", "type Count = iv_track::Meter;", OTHER_NAME),
+    ("iv_cover", "type Count = iv_ledger::Meter;", OTHER_NAME),
     ("iv_depth", "impl Changes for Cursor { type Meter = Meter; }", None),
     ("iv_depth", "fn f<C: Changes>() { g(C::Meter::new()); }", METERS),
     ("iv_track", "fn from_records<A>(a: A) -> Meter { Meter::new() }", METERS),

@@ -34,6 +34,7 @@ WITHOUT = {
     "NameMap::push": "`Genome::parse` calls it",
     "BedLines::take_lines": "`BedReader::take_piece` calls it",
     "Ledger::from_entries": "`Track::from_records` calls it",
+    "Ledger::with_entries": "`Ledger::from_entries` calls it",
 }
 
 

@@ -14,7 +14,7 @@ use Rattle.std.proofs.lemmas.List.Folds.{find-append}
 use Rattle.std.proofs.lemmas.Map.{lookup-none, lookup-remove_entry}
 use Rattle.std.proofs.lemmas.Map.Entries.{none_below_head, lookup_head, lookup_tail}
 use Rattle.std.proofs.lemmas.Map.Keys.{sorted_head, sorted_tail, IsDistinct-from_sorted}
-use Rattle.iv_track.specs.Entries.{IsLedger, value_at, first_from, last_until}
+use Rattle.iv_ledger.specs.Entries.{IsLedger, value_at, first_from, last_until}
 use Rattle.iv_lines.proofs.ListLemmas.{Mem}
 
 module _ {K : Type 0} (cmp : K → K → Ordering) (total : IsTotalOrder cmp) where

@@ -18,7 +18,7 @@ use Rattle.iv_cover.proofs.Positions.{range-more, values, values-none, values-so
 use Rattle.iv_lines.proofs.ListLemmas.{Mem, filter-agree, filter-none, filter-all}
 use Rattle.iv_lines.proofs.PrecedesLemmas.{then-is_le}
 use Rattle.iv_track.proofs.EntryIndexLemmas.{le_then, zero_le}
-use Rattle.iv_track.specs.Entries.{IsLedger, value_at}
+use Rattle.iv_ledger.specs.Entries.{IsLedger, value_at}
 use Rattle.iv_track.proofs.NumberOrder.{le-cmp}
 use Rattle.iv_blocks.specs.KeptBlocks.{Key, Kept, Entries, key_cmp}
 use Rattle.iv_blocks.proofs.Keys.{keys_total, keys_exact}

@@ -10,8 +10,8 @@ use Rattle.iv_lines.specs.Read.{Fits}
 use Rattle.iv_lines.specs.RecordValue.{RecordValue, record_cmp}
 use Rattle.iv_lines.specs.declared.record_ref.Strand.{Strand}
 use Rattle.iv_lines.specs.declared.record_ref.Strand.TheVariants.{Plus, Minus, Dot}
-use Rattle.iv_track.specs.Entries.{IsLedger, value_at}
-use Rattle.iv_track.specs.Steps.{TakesUpTo}
+use Rattle.iv_ledger.specs.Entries.{IsLedger, value_at}
+use Rattle.iv_ledger.specs.Steps.{TakesUpTo}
 use Rattle.iv_cover.specs.TrackBlocks.{start_of, stop_of}
 use Rattle.iv_cover.specs.Blocks.{block_at}
 use Rattle.iv_cover.specs.Inside.Blocks.{reaches}

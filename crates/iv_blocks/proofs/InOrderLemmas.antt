@@ -12,7 +12,7 @@ use Rattle.std.specs.Ordering.{nat_cmp, bool_cmp, ordering_then, is_eq}
 use Rattle.std.proofs.lemmas.Bool.{cond-true, false_from_ne_true, cases_lt}
 use Rattle.std.proofs.lemmas.List.Concat.{flat_map-append}
 use Rattle.iv_cover.proofs.Positions.{range-more, values-more}
-use Rattle.iv_track.specs.Entries.{IsLedger, value_at}
+use Rattle.iv_ledger.specs.Entries.{IsLedger, value_at}
 use Rattle.iv_blocks.specs.KeptBlocks.{Key, Kept, Entries, key_cmp}
 use Rattle.iv_blocks.proofs.EntryLemmas.{side_entries, rank_entries, all_entries}
 use Rattle.iv_blocks.proofs.Keys.{keys_total, keys_exact}

@@ -5,7 +5,7 @@ use Rattle.std.specs.Cmp.{IsTotalOrder, then_total, on_total, nat_cmp_total, boo
 use Rattle.std.specs.BTreeMap.{insert_entry}
 use Rattle.std.proofs.lemmas.Bool.{cond-true, cond-false, cases_eq, false_from_ne_true}
 use Rattle.std.proofs.lemmas.Map.Lookups.{CmpEqualImpliesEq, exact_pairs, exact_unsigned}
-use Rattle.iv_track.specs.Entries.{value_at}
+use Rattle.iv_ledger.specs.Entries.{value_at}
 use Rattle.iv_blocks.specs.Inside.Groups.{is_minus}
 use Rattle.iv_blocks.specs.KeptBlocks.{Key, key_cmp, Kept, Entries}
 use Rattle.iv_blocks.specs.Inside.Insertion.{key_of, IsOfOther}

@@ -5,7 +5,7 @@ use Rattle.std.specs.Cmp.{bool_cmp_total}
 use Rattle.std.proofs.lemmas.Bool.{false≢true}
 use Rattle.std.proofs.lemmas.Cmp.{nat_cmp_total, ranked, tied_itself}
 use Rattle.std.proofs.lemmas.Map.Keys.{le_from_is_le}
-use Rattle.iv_track.specs.Entries.{IsLedger, value_at, first_from, last_until}
+use Rattle.iv_ledger.specs.Entries.{IsLedger, value_at, first_from, last_until}
 use Rattle.iv_track.proofs.NumberOrder.{le-cmp, ge-cmp, ge-from}
 use Rattle.iv_blocks.specs.Inside.Groups.{is_minus}
 use Rattle.iv_blocks.specs.KeptBlocks.{Key, key_cmp, Kept, Entries}

@@ -6,7 +6,7 @@ use Rattle.std.specs.Map.{remove_entry}
 use Rattle.std.specs.Ordering.{is_le, is_ge, match_ordering}
 use Rattle.std.proofs.lemmas.List.{map-append, reverse-append}
 use Rattle.std.proofs.lemmas.Map.Made.{keys_of-map_values, lookup-map_values}
-use Rattle.iv_track.specs.Entries.{IsLedger, value_at, first_from, last_until}
+use Rattle.iv_ledger.specs.Entries.{IsLedger, value_at, first_from, last_until}
 use Rattle.iv_blocks.specs.KeptBlocks.{Key, Kept, Entries, key_cmp}
 use Rattle.iv_blocks.specs.Inside.StoredBlocks.{StoredBlocks, plain_entry, key_and_stop, stored}
 use Rattle.iv_blocks.specs.declared.block_ledger.Storage.{Storage}

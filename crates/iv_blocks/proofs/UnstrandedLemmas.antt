@@ -14,7 +14,7 @@ use Rattle.iv_cover.specs.Blocks.{blocks_below}
 use Rattle.iv_cover.specs.TrackBlocks.{BlockWithMembers, start_of, stop_of, block_on, blocks_on, blocks_of, with_members}
 use Rattle.iv_lines.specs.CoveredPositions.{on}
 use Rattle.iv_lines.proofs.ListLemmas.{filter-agree}
-use Rattle.iv_track.specs.Entries.{IsLedger, value_at}
+use Rattle.iv_ledger.specs.Entries.{IsLedger, value_at}
 use Rattle.iv_track.proofs.CountedLemmas.{given-items}
 use Rattle.iv_cover.specs.Inside.RemainingBlocks.{remaining_blocks, is_joined}
 use Rattle.iv_cover.specs.declared.block.Block.{Block}

@@ -1,14 +1,14 @@
 //! Blocks in order, read one ahead.
 ghost use Rattle.std.specs.Prelude.{◌≡◌, ℕ, List, [], None, map};
 ghost use Rattle.std.specs.Map.Iter.{TakesFirst};
-ghost use Rattle.iv_track.specs.Steps.{TakesUpTo};
+ghost use Rattle.iv_ledger.specs.Steps.{TakesUpTo};
 ghost use Rattle.iv_cover.specs.declared.block.Block.{Block};
 ghost use Rattle.iv_blocks.specs.Inside.BlockCursor.{interval_of, starts_until, GivesPassing, TakesForEach};
 
 use crate::block_ledger::LedgerWalk;
 use crate::blocks::Blocks;
 use iv_cover::Block;
-use iv_track::Meter;
+use iv_ledger::Meter;
 use std::alloc::Allocator;
 use std::marker::Model;
 

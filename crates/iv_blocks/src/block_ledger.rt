@@ -6,14 +6,14 @@ ghost use Rattle.std.specs.Map.{remove_entry};
 ghost use Rattle.std.specs.Map.Iter.{TakesFirst};
 ghost use Rattle.std.specs.Option.{option_map};
 ghost use Rattle.std.specs.Ordering.{is_le};
-ghost use Rattle.iv_track.specs.Entries.{IsLedger, first_from, last_until};
-ghost use Rattle.iv_track.specs.Steps.{ticked};
+ghost use Rattle.iv_ledger.specs.Entries.{IsLedger, first_from, last_until};
+ghost use Rattle.iv_ledger.specs.Steps.{ticked};
 ghost use Rattle.iv_blocks.specs.Inside.StoredBlocks.{plain_entry, key_and_stop, entry_shown};
 ghost use Rattle.iv_blocks.specs.KeptBlocks.{key_cmp};
 
 use crate::group::Key;
 use crate::kept_block::KeptBlock;
-use iv_track::{Ledger, Meter, Walk};
+use iv_ledger::{Ledger, Meter, Walk};
 use std::alloc::{AllocError, Allocator};
 use std::marker::Model;
 

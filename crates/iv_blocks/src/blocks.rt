@@ -7,8 +7,9 @@ use crate::entries::{UnstrandedBlocks, entries_of};
 use crate::group::Group;
 use crate::options::BlockOptions;
 use iv_cover::{BlockWalk, Kept};
+use iv_ledger::{Ledger, Meter};
 use iv_lines::{Genome, RecordRef};
-use iv_track::{Ledger, Meter, Track};
+use iv_track::Track;
 use std::alloc::{AllocError, Allocator, Global};
 use std::marker::Model;
 

@@ -4,7 +4,7 @@ ghost use Rattle.std.specs.List.{take_while};
 ghost use Rattle.iv_bytes.specs.Sinks.{Puts};
 ghost use Rattle.iv_lines.specs.Named.{names_of};
 ghost use Rattle.iv_lines.specs.Read.{Fits};
-ghost use Rattle.iv_track.specs.Steps.{TakesUpTo};
+ghost use Rattle.iv_ledger.specs.Steps.{TakesUpTo};
 ghost use Rattle.iv_blocks.specs.Inside.BlockCursor.{starts_until, drop_while, TakesForEach};
 ghost use Rattle.iv_blocks.specs.Inside.Texts.{cluster_text};
 ghost use Rattle.iv_blocks.specs.Groups.{plain_options};
@@ -14,8 +14,9 @@ ghost use Rattle.iv_blocks.specs.MergeRows.{all_blocks};
 use crate::block_cursor::{BlockCursor, BlocksAhead};
 use crate::blocks::Blocks;
 use iv_bytes::{Sink, WriteFault};
+use iv_ledger::Meter;
 use iv_lines::{Genome, put_numbered};
-use iv_track::{Meter, Track};
+use iv_track::Track;
 use std::alloc::Allocator;
 
 impl<A: Allocator + Copy> Blocks<A> {

@@ -4,7 +4,7 @@ ghost use Rattle.iv_bytes.specs.Sinks.{Puts};
 ghost use Rattle.iv_lines.specs.Named.{names_of};
 ghost use Rattle.iv_lines.specs.Read.{Fits};
 ghost use Rattle.iv_track.specs.Regions.{near};
-ghost use Rattle.iv_track.specs.Steps.{TakesUpTo};
+ghost use Rattle.iv_ledger.specs.Steps.{TakesUpTo};
 ghost use Rattle.iv_blocks.specs.ClusterRows.{blocks_until};
 ghost use Rattle.iv_blocks.specs.Groups.{plain_options};
 ghost use Rattle.iv_blocks.specs.KeptBlocks.{AreBlocksOf};
@@ -14,8 +14,9 @@ use crate::block_cursor::BlockCursor;
 use crate::blocks::Blocks;
 use crate::cluster::count_until;
 use iv_bytes::{Sink, WriteFault};
+use iv_ledger::Meter;
 use iv_lines::{Genome, put_numbered};
-use iv_track::{Meter, Region, Track};
+use iv_track::{Region, Track};
 use std::alloc::Allocator;
 
 impl<A: Allocator + Copy> Blocks<A> {

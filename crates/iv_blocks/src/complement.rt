@@ -5,7 +5,7 @@ ghost use Rattle.iv_bytes.specs.Sinks.{Puts};
 ghost use Rattle.iv_lines.specs.Genome.{seq_count};
 ghost use Rattle.iv_lines.specs.Named.{names_of};
 ghost use Rattle.iv_lines.specs.Read.{Fits};
-ghost use Rattle.iv_track.specs.Steps.{TakesUpTo};
+ghost use Rattle.iv_ledger.specs.Steps.{TakesUpTo};
 ghost use Rattle.iv_blocks.specs.Inside.BlockCursor.{gap_between, gaps_between, starts_until, drop_while, texts, TakesForEach};
 ghost use Rattle.iv_blocks.specs.KeptBlocks.{AreBlocksOf};
 ghost use Rattle.iv_blocks.specs.Inside.Texts.{complement_text};
@@ -16,8 +16,9 @@ ghost use Rattle.iv_blocks.specs.MergeRows.{all_blocks};
 use crate::block_cursor::{BlockCursor, BlocksAhead};
 use crate::blocks::Blocks;
 use iv_bytes::{Sink, WriteFault};
+use iv_ledger::Meter;
 use iv_lines::{Genome, put_interval};
-use iv_track::{Meter, Track};
+use iv_track::Track;
 use std::alloc::Allocator;
 
 impl<A: Allocator + Copy> Blocks<A> {

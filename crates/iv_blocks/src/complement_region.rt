@@ -5,7 +5,7 @@ ghost use Rattle.iv_bytes.specs.Sinks.{Puts};
 ghost use Rattle.iv_lines.specs.Genome.{sequence_name};
 ghost use Rattle.iv_lines.specs.Named.{names_of};
 ghost use Rattle.iv_lines.specs.Read.{Fits};
-ghost use Rattle.iv_track.specs.Steps.{TakesUpTo};
+ghost use Rattle.iv_ledger.specs.Steps.{TakesUpTo};
 ghost use Rattle.iv_blocks.specs.ComplementRows.{gap_row};
 ghost use Rattle.iv_blocks.specs.Groups.{plain_options};
 ghost use Rattle.iv_blocks.specs.Inside.BlockCursor.{gap_between};
@@ -18,8 +18,9 @@ use crate::blocks::Blocks;
 use crate::complement::put_gap;
 use crate::group::{Group, Side};
 use iv_bytes::{Sink, WriteFault};
+use iv_ledger::Meter;
 use iv_lines::Genome;
-use iv_track::{Meter, Track};
+use iv_track::Track;
 use std::alloc::Allocator;
 
 impl<A: Allocator + Copy> Blocks<A> {

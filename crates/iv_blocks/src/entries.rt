@@ -11,8 +11,9 @@ use crate::group::Key;
 use crate::kept_block::KeptBlock;
 use crate::options::BlockOptions;
 use iv_cover::{Block, BlockWalk, results_in};
+use iv_ledger::Meter;
 use iv_lines::{Batches, Genome};
-use iv_track::{Meter, Track, TrackRecord};
+use iv_track::{Track, TrackRecord};
 use std::alloc::{AllocError, Allocator};
 use std::marker::Model;
 

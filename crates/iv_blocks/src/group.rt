@@ -2,15 +2,16 @@
 ghost use Rattle.std.specs.Prelude.{◌≡◌, if◌then◌else◌, not, Bool, true, false, length, MatchOption};
 ghost use Rattle.std.specs.Iterator.{YieldsFirst};
 ghost use Rattle.iv_lines.specs.Ordered.{AreInOrder};
-ghost use Rattle.iv_track.specs.Steps.{TakesUpTo};
+ghost use Rattle.iv_ledger.specs.Steps.{TakesUpTo};
 ghost use Rattle.iv_blocks.specs.Inside.Groups.{is_in_group, between_on, is_apart, is_minus as is_minus_side, is_on, members_between};
 ghost use Rattle.iv_blocks.specs.Groups.{is_on_side, is_strand};
 ghost use Rattle.iv_blocks.specs.Inside.MembersLeft.{TakesForEach, end_step};
 ghost use Rattle.iv_blocks.specs.Inside.Insertion.{key_of};
 
+use iv_ledger::Meter;
 use iv_lines::{RecordRef, Strand};
 use iv_locators::TextRecord;
-use iv_track::{Meter, Track, TrackRecord, TrackRecords};
+use iv_track::{Track, TrackRecord, TrackRecords};
 use std::alloc::Allocator;
 use std::marker::Model;
 

@@ -3,7 +3,7 @@ ghost use Rattle.std.specs.Prelude.{◌++◌, ◌+◌, All, length, codes, decim
 ghost use Rattle.iv_bytes.specs.Sinks.{Puts};
 ghost use Rattle.iv_lines.specs.Named.{names_of};
 ghost use Rattle.iv_lines.specs.Read.{Fits};
-ghost use Rattle.iv_track.specs.Steps.{TakesUpTo};
+ghost use Rattle.iv_ledger.specs.Steps.{TakesUpTo};
 ghost use Rattle.iv_blocks.specs.KeptBlocks.{AreBlocksOf};
 ghost use Rattle.iv_blocks.specs.MergeRows.{all_blocks};
 ghost use Rattle.iv_blocks.specs.Inside.Texts.{merge_text};
@@ -11,8 +11,9 @@ ghost use Rattle.iv_blocks.specs.Inside.Texts.{merge_text};
 use crate::block_ledger::BlockEntry;
 use crate::blocks::Blocks;
 use iv_bytes::{Sink, WriteFault, put_pieces};
+use iv_ledger::Meter;
 use iv_lines::{Genome, RowBuffer};
-use iv_track::{Meter, Track};
+use iv_track::Track;
 use std::alloc::Allocator;
 
 impl<A: Allocator + Copy> Blocks<A> {

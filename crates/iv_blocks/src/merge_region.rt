@@ -5,7 +5,7 @@ ghost use Rattle.iv_bytes.specs.Sinks.{Puts};
 ghost use Rattle.iv_lines.specs.Genome.{sequence_name};
 ghost use Rattle.iv_lines.specs.Named.{names_of};
 ghost use Rattle.iv_lines.specs.Read.{Fits};
-ghost use Rattle.iv_track.specs.Steps.{TakesUpTo};
+ghost use Rattle.iv_ledger.specs.Steps.{TakesUpTo};
 ghost use Rattle.iv_blocks.specs.Groups.{listed, sides};
 ghost use Rattle.iv_blocks.specs.Inside.Groups.{is_minus};
 ghost use Rattle.iv_blocks.specs.Inside.Lookups.{kept_in};
@@ -20,8 +20,9 @@ use crate::group::{Group, Side};
 use crate::merge::put_block;
 use crate::repair::of_group;
 use iv_bytes::{Sink, WriteFault};
+use iv_ledger::Meter;
 use iv_lines::Genome;
-use iv_track::{Meter, Track};
+use iv_track::Track;
 use std::alloc::Allocator;
 
 impl<A: Allocator + Copy> Blocks<A> {

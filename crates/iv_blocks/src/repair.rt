@@ -3,8 +3,8 @@ ghost use Rattle.std.specs.Prelude.{◌≡◌, ◌≢◌, ◌+◌, ◌-◌, ◌*
 ghost use Rattle.iv_lines.specs.Genome.{sequence_name};
 ghost use Rattle.iv_lines.specs.Named.{names_of};
 ghost use Rattle.iv_lines.specs.Read.{Fits};
-ghost use Rattle.iv_track.specs.Entries.{IsLedger};
-ghost use Rattle.iv_track.specs.Steps.{TakesUpTo};
+ghost use Rattle.iv_ledger.specs.Entries.{IsLedger};
+ghost use Rattle.iv_ledger.specs.Steps.{TakesUpTo};
 ghost use Rattle.iv_cover.specs.Columns.{results_over};
 ghost use Rattle.iv_blocks.specs.Groups.{listed};
 ghost use Rattle.iv_blocks.specs.Inside.Groups.{between, between_on, is_apart, is_minus, members_between};
@@ -17,8 +17,9 @@ use crate::blocks::{Blocks, bounds_of};
 use crate::group::{Group, Key, Members, Side};
 use crate::kept_block::KeptBlock;
 use iv_cover::results;
+use iv_ledger::Meter;
 use iv_lines::Genome;
-use iv_track::{Meter, Track, TrackRecord};
+use iv_track::{Track, TrackRecord};
 use std::alloc::{AllocError, Allocator};
 
 impl<A: Allocator + Copy> Blocks<A> {

@@ -6,8 +6,9 @@ ghost use Rattle.iv_lines.specs.Read.{IsOnGenome};
 ghost use Rattle.iv_lines.specs.RecordValue.{IsPlaced};
 ghost use Rattle.iv_cover.specs.TrackBlocks.{blocks_of, GivesFirst};
 
+use iv_ledger::Meter;
 use iv_lines::BedRecord;
-use iv_track::{Meter, TrackRecord, TrackRecords};
+use iv_track::{TrackRecord, TrackRecords};
 use std::alloc::{Allocator, Global};
 use std::marker::Model;
 

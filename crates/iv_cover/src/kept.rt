@@ -4,11 +4,12 @@ ghost use Rattle.iv_lines.specs.Named.{names_of};
 ghost use Rattle.iv_lines.specs.Ordered.{added as with_one};
 ghost use Rattle.iv_lines.specs.Read.{Fits};
 ghost use Rattle.iv_lines.specs.RecordValue.{RecordValue};
-ghost use Rattle.iv_track.specs.Steps.{TakesUpTo};
+ghost use Rattle.iv_ledger.specs.Steps.{TakesUpTo};
 ghost use Rattle.iv_cover.specs.Kept.{IsRightWithout};
 
+use iv_ledger::Meter;
 use iv_lines::{Genome, RecordRef};
-use iv_track::{Meter, Track};
+use iv_track::Track;
 use std::alloc::{AllocError, Allocator};
 
 /// The state of a kept view, which is updated at each edit of the track, at little cost.

@@ -15,7 +15,7 @@ use Rattle.iv_lines.specs.CoveredPositions.{covers}
 use Rattle.iv_cover.specs.Depth.{depth}
 use Rattle.iv_depth.specs.Changes.{ChangeKey, Entries, total, reaches, AreChangesOf}
 use Rattle.iv_depth.specs.Inside.Changes.{Bumps}
-use Rattle.iv_track.specs.Entries.{pair_cmp}
+use Rattle.iv_ledger.specs.Entries.{pair_cmp}
 use Rattle.iv_track.proofs.NumberOrder.{pair_same}
 
 place-tied : (k : ChangeKey) → is_at (pair_cmp k) k ≡ true

@@ -11,7 +11,7 @@ use Rattle.std.proofs.lemmas.Bool.Decides.{eqb_tells}
 use Rattle.std.proofs.lemmas.Cmp.{ranked, tied_itself}
 use Rattle.std.specs.Cmp.{nat_cmp_total}
 use Rattle.std.proofs.lemmas.List.Elements.{All-head, All-tail}
-use Rattle.iv_track.specs.Entries.{IsLedger, pair_cmp}
+use Rattle.iv_ledger.specs.Entries.{IsLedger, pair_cmp}
 use Rattle.iv_depth.specs.Changes.{ChangeKey, Entries, total, reaches}
 use Rattle.iv_depth.specs.Inside.Walks.{on, level, AreBreaks, Follows}
 

@@ -15,7 +15,7 @@ use Rattle.std.proofs.lemmas.List.Elements.{All-head, All-tail, All-cons}
 use Rattle.std.proofs.lemmas.Map.Views.{All-values-insert_entry, All-values-set_value}
 use Rattle.std.specs.BTreeMap.{is_at, insert_entry}
 use Rattle.iv_track.proofs.NumberOrder.{pair_total, pair_same}
-use Rattle.iv_track.specs.Entries.{IsLedger, value_at, pair_cmp}
+use Rattle.iv_ledger.specs.Entries.{IsLedger, value_at, pair_cmp}
 use Rattle.iv_depth.specs.Changes.{ChangeKey, Entries, total, reaches, AreChangesOf}
 use Rattle.iv_depth.specs.Inside.Changes.{Bumps, Shifts}
 

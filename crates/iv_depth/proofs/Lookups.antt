@@ -13,7 +13,7 @@ use Rattle.std.proofs.lemmas.Cmp.{ranked}
 use Rattle.std.proofs.lemmas.Int.{ints}
 use Rattle.std.proofs.lemmas.List.{reverse-append}
 use Rattle.std.proofs.lemmas.List.Folds.{find-append}
-use Rattle.iv_track.specs.Entries.{IsLedger, pair_cmp, last_until}
+use Rattle.iv_ledger.specs.Entries.{IsLedger, pair_cmp, last_until}
 use Rattle.iv_depth.specs.Changes.{ChangeKey, Entries}
 use Rattle.iv_depth.specs.Inside.Walks.{on, level, AreBreaks, Follows}
 use Rattle.iv_depth.specs.Inside.Region.{AreChangesOn, IsRunStart, AreLeft, EndsRun}

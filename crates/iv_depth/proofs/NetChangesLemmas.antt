@@ -23,7 +23,7 @@ use Rattle.iv_lines.specs.RecordValue.{RecordValue, IsPlaced}
 use Rattle.iv_lines.specs.CoveredPositions.{covers}
 use Rattle.iv_cover.specs.Depth.{depth}
 use Rattle.iv_track.proofs.NumberOrder.{pair_total, pair_exact}
-use Rattle.iv_track.specs.Entries.{IsLedger, value_at, pair_cmp}
+use Rattle.iv_ledger.specs.Entries.{IsLedger, value_at, pair_cmp}
 use Rattle.iv_depth.specs.Changes.{ChangeKey, Entries, total, reaches, AreChangesOf}
 use Rattle.iv_depth.specs.Inside.Edges.{Remaining, RiseFrom, net, TakesChange}
 use Rattle.iv_depth.specs.Inside.NetChanges.{key_of, change_key_of, reached, AreEdgesOf, GivesKeyChange}

@@ -9,7 +9,7 @@ use Rattle.std.specs.List.Sorted.{IsStrictlySortedBy}
 use Rattle.std.specs.Map.{keys_of, values_of}
 use Rattle.std.proofs.lemmas.Cmp.{ranked}
 use Rattle.iv_lines.specs.Genome.{Sequences, sequence_length}
-use Rattle.iv_track.specs.Entries.{IsLedger, pair_cmp}
+use Rattle.iv_ledger.specs.Entries.{IsLedger, pair_cmp}
 use Rattle.iv_depth.specs.Changes.{ChangeKey, Entries, total, reaches}
 use Rattle.iv_depth.specs.Inside.DepthChanges.{IsChange}
 use Rattle.iv_depth.specs.Inside.Walks.{on, Follows, AreAhead}

@@ -2,7 +2,7 @@
 use Rattle.std.specs.Prelude.{◌≡◌, ◌≢◌, ℕ, ◌==◌, ◌&&◌, nat_le, Bool, List, [], ◌∷◌, ℤ, pos, ◌+ℤ◌, All, if◌then◌else◌}
 use Rattle.std.specs.Map.{values_of}
 use Rattle.iv_lines.specs.RecordValue.{RecordValue}
-use Rattle.iv_track.specs.Entries.{IsLedger, pair_cmp}
+use Rattle.iv_ledger.specs.Entries.{IsLedger, pair_cmp}
 use Rattle.iv_cover.specs.Depth.{depth}
 
 -- a key: the rank of a sequence and a position on it, from 0

@@ -2,12 +2,12 @@
 ghost use Rattle.std.specs.Prelude.{◌≡◌, ◌<◌, ℕ, OnSome};
 ghost use Rattle.std.specs.Map.Iter.{TakesFirst};
 ghost use Rattle.iv_lines.specs.Genome.{Sequences};
-ghost use Rattle.iv_track.specs.Steps.{TakesUpTo};
+ghost use Rattle.iv_ledger.specs.Steps.{TakesUpTo};
 ghost use Rattle.iv_track.specs.Inside.Steps.{TakesForEach};
 ghost use Rattle.iv_depth.specs.Inside.DepthChanges.{Gives};
 
 use crate::changes::Changes;
-use iv_track::{Meter, Walk};
+use iv_ledger::{Meter, Walk};
 use std::alloc::Allocator;
 use std::marker::Model;
 

@@ -1,13 +1,13 @@
 //! Changes of depth, and their edits.
 ghost use Rattle.std.specs.Prelude.{◌≡◌, ◌≢◌, ℤ, pos, negsuc, ◌≤ℤ◌, ◌^◌, List, ◌∷◌, Some, OnOk};
 ghost use Rattle.iv_lines.specs.RecordValue.{RecordValue};
-ghost use Rattle.iv_track.specs.Entries.{pair_cmp, value_at};
-ghost use Rattle.iv_track.specs.Steps.{TakesUpTo};
+ghost use Rattle.iv_ledger.specs.Entries.{pair_cmp, value_at};
+ghost use Rattle.iv_ledger.specs.Steps.{TakesUpTo};
 ghost use Rattle.iv_depth.specs.Changes.{AreChangesOf};
 ghost use Rattle.iv_depth.specs.Inside.Changes.{AreChanges, Bumps, Shifts};
 
+use iv_ledger::{Ledger, Meter};
 use iv_lines::RecordRef;
-use iv_track::{Ledger, Meter};
 use std::alloc::{AllocError, Allocator};
 
 /// Net changes of depth, by the rank of a sequence and a position on it, from 0. None is 0.

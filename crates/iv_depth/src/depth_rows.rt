@@ -5,14 +5,14 @@ ghost use Rattle.iv_bytes.specs.Sinks.{Puts};
 ghost use Rattle.iv_depth.specs.DepthRows.{run_row, position_row};
 ghost use Rattle.iv_depth.specs.Inside.Texts.{rows_between, sequence_text, text_by};
 ghost use Rattle.iv_depth.specs.Inside.Walks.{AreAhead, depth_by};
-ghost use Rattle.iv_track.specs.Steps.{TakesUpTo};
+ghost use Rattle.iv_ledger.specs.Steps.{TakesUpTo};
 ghost use Rattle.iv_track.specs.Inside.Steps.{TakesForEach};
 
 use crate::change_cursor::{ChangeCursor, DepthChanges};
 use crate::changes::Changes;
 use iv_bytes::{Sink, WriteFault};
+use iv_ledger::Meter;
 use iv_lines::{Genome, RowBuffer};
-use iv_track::Meter;
 use std::alloc::Allocator;
 
 /// Which rows say how many records cover each position, as the options of `bedtools genomecov` do.

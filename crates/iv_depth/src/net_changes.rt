@@ -4,8 +4,9 @@ ghost use Rattle.std.specs.Iterator.{at_most};
 ghost use Rattle.iv_depth.specs.Inside.NetChanges.{AreEdgesOf, GivesKeyChange, key_of, change_key_of};
 
 use crate::edges::Edges;
+use iv_ledger::Meter;
 use iv_locators::order_neighbors;
-use iv_track::{Meter, Track};
+use iv_track::Track;
 use std::alloc::{AllocError, Allocator};
 
 /// How many positions a rank has among the keys.

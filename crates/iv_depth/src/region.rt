@@ -2,7 +2,7 @@
 ghost use Rattle.std.specs.Prelude.{◌≡◌, ◌+◌, ◌*◌, ◌<◌, ◌≤◌, ℕ, length, pos};
 ghost use Rattle.iv_bytes.specs.Sinks.{Puts};
 ghost use Rattle.iv_lines.specs.Genome.{sequence_name, sequence_length};
-ghost use Rattle.iv_track.specs.Steps.{TakesUpTo};
+ghost use Rattle.iv_ledger.specs.Steps.{TakesUpTo};
 ghost use Rattle.iv_depth.specs.Inside.Texts.{rows_in};
 ghost use Rattle.iv_depth.specs.RegionRows.{covered_runs_in};
 ghost use Rattle.iv_depth.specs.Inside.Region.{AreChangesOn, IsRunStart, AreLeft, EndsRun};
@@ -12,8 +12,8 @@ ghost use Rattle.iv_depth.specs.Inside.Walks.{depth_by};
 use crate::changes::Changes;
 use crate::depth_rows::{DepthOutput, put_positions, put_stretch};
 use iv_bytes::{Sink, WriteFault};
+use iv_ledger::{Meter, Walk};
 use iv_lines::Genome;
-use iv_track::{Meter, Walk};
 use std::alloc::Allocator;
 
 /// The length of a sequence, which fits in 32 bits.

@@ -24,7 +24,7 @@ use Rattle.iv_lines.specs.Inside.Ordered.{copies_by}
 use Rattle.iv_lines.specs.RecordValue.{RecordValue, record_cmp}
 use Rattle.iv_lines.proofs.OrderedLemmas.{copies-added, length-all_added}
 use Rattle.iv_track.specs.Copies.{removed_by, expanded}
-use Rattle.iv_track.specs.Entries.{IsLedger, value_at, last_until, pair_cmp}
+use Rattle.iv_ledger.specs.Entries.{IsLedger, value_at, last_until, pair_cmp}
 use Rattle.iv_track.specs.Tracked.{Tracked, removed}
 use Rattle.iv_track.proofs.Counts.{count-added, copies-expanded, copies-removed, expanded-insert, expanded-remove_entry, expanded-set_value}
 use Rattle.iv_track.proofs.Edits.{added-removed}

@@ -4,8 +4,9 @@ ghost use Rattle.iv_fasta.specs.FastaRows.{fasta_text};
 
 use iv_bytes::{Sink, WriteFault};
 use iv_fasta::{Fasta, FastaOutput, put_fasta};
+use iv_ledger::Meter;
 use iv_lines::Genome;
-use iv_track::{Meter, Track};
+use iv_track::Track;
 use std::alloc::Allocator;
 
 /// Puts the rows of a getfasta: those of each record of the track, in its order.

@@ -6,8 +6,8 @@ ghost use Rattle.iv_track.specs.Regions.{hits};
 use crate::count_sweep::{End, count_ends, count_starts, ends_of};
 use crate::intervals::intervals_of;
 use crate::second::Second;
+use iv_ledger::Meter;
 use iv_locators::BedText;
-use iv_track::Meter;
 use std::alloc::{AllocError, Allocator};
 use std::marker::Model;
 

@@ -9,8 +9,9 @@ ghost use Rattle.iv_pair.specs.Inside.Lengths.{AreUpTo};
 use crate::hits::{Hits, is_from};
 use crate::second::{Second, first_start};
 use arrayvec::ArrayVec;
+use iv_ledger::Meter;
 use iv_lines::BedRecord;
-use iv_track::{Meter, TrackRecord, TrackRecords};
+use iv_track::{TrackRecord, TrackRecords};
 use std::alloc::Allocator;
 use std::marker::Model;
 

@@ -6,8 +6,9 @@ ghost use Rattle.iv_track.specs.Tracked.{is_from};
 ghost use Rattle.iv_pair.specs.Inside.HitFinder.{held};
 ghost use Rattle.iv_track.specs.Regions.{overlaps, hits};
 
+use iv_ledger::Meter;
 use iv_lines::BedRecord;
-use iv_track::{Meter, TrackRecord, TrackRecords};
+use iv_track::{TrackRecord, TrackRecords};
 use std::alloc::{Allocator, Global};
 use std::marker::Model;
 

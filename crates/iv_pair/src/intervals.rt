@@ -5,8 +5,9 @@ ghost use Rattle.iv_locators.specs.Inside.Locators.{HasBase};
 ghost use Rattle.iv_pair.specs.Inside.Intervals.{locator_of};
 
 use crate::second::Second;
+use iv_ledger::Meter;
 use iv_locators::{BedText, Locator, Span};
-use iv_track::{Meter, TrackRecord};
+use iv_track::TrackRecord;
 use std::alloc::{AllocError, Allocator};
 
 /// The intervals of a second file, in its order, copies repeated: 16 bytes for each.

@@ -14,9 +14,10 @@ use crate::pair_rows::{PairOutput, put_pair_rows};
 use crate::pair_sweep::ActiveHits;
 use crate::second::Second;
 use iv_bytes::{Sink, WriteFault};
+use iv_ledger::Meter;
 use iv_lines::{BedRecord, Genome};
 use iv_locators::{BedText, TextRecord, TextRecords};
-use iv_track::{Meter, TrackRecord};
+use iv_track::TrackRecord;
 use std::alloc::{AllocError, Allocator};
 use std::marker::Model;
 

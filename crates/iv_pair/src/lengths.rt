@@ -3,12 +3,13 @@ ghost use Rattle.std.specs.Prelude.{◌≡◌, ℕ, ◌+◌, ◌-◌, ◌<◌, �
 ghost use Rattle.iv_lines.specs.Ordered.{added_by};
 ghost use Rattle.iv_lines.specs.Inside.Ordered.{copies_by};
 ghost use Rattle.iv_track.specs.Copies.{removed_by, expanded};
-ghost use Rattle.iv_track.specs.Steps.{TakesUpTo};
-ghost use Rattle.iv_track.specs.Entries.{pair_cmp};
+ghost use Rattle.iv_ledger.specs.Steps.{TakesUpTo};
+ghost use Rattle.iv_ledger.specs.Entries.{pair_cmp};
 ghost use Rattle.iv_pair.specs.Inside.Lengths.{AreLengths, IsTally, length_of};
 
+use iv_ledger::{Ledger, Meter};
 use iv_lines::BedRecord;
-use iv_track::{Ledger, Meter, Track};
+use iv_track::Track;
 use std::alloc::{AllocError, Allocator};
 
 /// The lengths of records, by the rank of their sequence, with how many records have each.

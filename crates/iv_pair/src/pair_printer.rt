@@ -14,8 +14,9 @@ use crate::joined_cover::JoinedCover;
 use crate::pair_rows::{PairOutput, put_pair_rows};
 use crate::second::Second;
 use iv_bytes::{Sink, WriteFault};
+use iv_ledger::Meter;
 use iv_lines::{BedRecord, Genome};
-use iv_track::{Meter, TrackRecord};
+use iv_track::TrackRecord;
 use std::alloc::{AllocError, Allocator};
 use std::marker::Model;
 

@@ -13,8 +13,9 @@ use crate::pair_printer::PairPrinter;
 use crate::second::Second;
 use crate::subtract::put_subtract;
 use iv_bytes::{Sink, WriteFault};
+use iv_ledger::Meter;
 use iv_lines::{BedRecord, Genome};
-use iv_track::{Meter, Track};
+use iv_track::Track;
 use std::alloc::Allocator;
 
 /// Which rows are put of a record and its hits.

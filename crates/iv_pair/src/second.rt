@@ -2,15 +2,16 @@
 ghost use Rattle.std.specs.Prelude.{◌≡◌, ◌+◌, ◌-◌, ◌^◌, ◌<◌, ◌≤◌, length, filter, min, All, IfOk, IfErr, OnOk, OnErr, vec_len};
 ghost use Rattle.iv_lines.specs.Ordered.{AreInOrder, copies, ordered};
 ghost use Rattle.iv_track.specs.Edits.{RefusesAdd, RefusesRemove, RefusesReplace, with_record, without_record, with_replaced};
-ghost use Rattle.iv_track.specs.Steps.{TakesUpTo};
+ghost use Rattle.iv_ledger.specs.Steps.{TakesUpTo};
 ghost use Rattle.iv_track.specs.Tracked.{is_from, most_records};
 ghost use Rattle.iv_track.specs.Regions.{hits};
 ghost use Rattle.iv_pair.specs.Inside.Lengths.{AreLengths, AreUpTo};
 
 use crate::hits::Hits;
 use crate::lengths::{Lengths, length_of, lengths_of, longest, lower, raise};
+use iv_ledger::Meter;
 use iv_lines::{Batches, Record, RecordBatches};
-use iv_track::{EditFault, Meter, Track, TrackRecords};
+use iv_track::{EditFault, Track, TrackRecords};
 use std::alloc::{AllocError, Allocator, Global};
 use std::marker::Model;
 

@@ -23,7 +23,7 @@ use Rattle.iv_lines.specs.Inside.Ordered.{copies_by}
 use Rattle.iv_lines.proofs.BatchLemmas.{strictly-apart}
 use Rattle.iv_lines.proofs.OrderedLemmas.{copies-permutation, in_order-sorted}
 use Rattle.iv_track.specs.Copies.{expanded}
-use Rattle.iv_track.specs.Entries.{IsLedger, value_at}
+use Rattle.iv_ledger.specs.Entries.{IsLedger, value_at}
 use Rattle.iv_track.specs.Inside.Counted.{grouped_from, grouped, AreCounted, AreDistinct}
 use Rattle.iv_track.proofs.Counts.{copies-expanded, count-front}
 

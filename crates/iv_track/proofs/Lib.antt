@@ -1,20 +1,12 @@
 pub mod CountedLemmas
 pub mod BuiltLemmas
-pub mod ChunkLemmas
 pub mod ClassLemmas
 pub mod Counts
 pub mod DifferentLemmas
 mod CopyLemmas
 pub mod Edits
-pub mod FindLemmas
-pub mod JoinLemmas
-pub mod MapLemmas
-pub mod Nearest
 pub mod NumberOrder
 pub mod EntryIndexLemmas
-pub mod ReplacedLemmas
-pub mod RoomLemmas
-pub mod Splits
 pub mod StepLemmas
 pub mod StoredLemmas
 pub mod TrackLemmas

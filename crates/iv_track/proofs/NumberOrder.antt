@@ -6,7 +6,7 @@ use Rattle.std.specs.Ordering.{is_le, is_ge, nat_cmp}
 use Rattle.std.specs.BTreeMap.{is_at}
 use Rattle.std.specs.Cmp.{IsTotalOrder, ranked, nat_cmp_total, on_total, then_total, Equal-is}
 use Rattle.std.proofs.lemmas.Map.Lookups.{CmpEqualImpliesEq, exact_pairs, exact_unsigned}
-use Rattle.iv_track.specs.Entries.{pair_cmp}
+use Rattle.iv_ledger.specs.Entries.{pair_cmp}
 
 pub le-cmp : (m n : ℕ) → m ≤ n → is_le (nat_cmp m n) ≡ true
 le-cmp m n h = go (nat_cmp m n) refl

@@ -1,6 +1,6 @@
 -- Steps one after another.
 use Rattle.std.proofs.Common.{◌≡◌, ℕ, ◌+◌, ◌-◌, ◌^◌, ◌≤◌, Bool, true, false, cond, nat_lt, arith, sym, subst}
-use Rattle.iv_track.specs.Steps.{ticked, TakesUpTo}
+use Rattle.iv_ledger.specs.Steps.{ticked, TakesUpTo}
 use Rattle.iv_track.specs.Inside.Steps.{TakesForEach}
 
 -- no step

@@ -13,7 +13,7 @@ use Rattle.std.proofs.lemmas.Bool.{cond-false}
 use Rattle.std.proofs.lemmas.List.Elements.{All-head, All-tail, All-cons, All-nil}
 use Rattle.iv_lines.specs.RecordValue.{RecordValue, IsPlaced, record_cmp}
 use Rattle.iv_lines.proofs.RecordLemmas.{rows_exact}
-use Rattle.iv_track.specs.Entries.{value_at}
+use Rattle.iv_ledger.specs.Entries.{value_at}
 use Rattle.iv_track.specs.Tracked.{is_from}
 use Rattle.iv_track.specs.Inside.Stored.{HasThreeColumns, stored, IsStored}
 use Rattle.iv_track.specs.declared.entries.Storage.{Storage}

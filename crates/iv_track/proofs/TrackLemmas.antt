@@ -6,7 +6,7 @@ use Rattle.std.specs.BTreeMap.{insert_entry, is_at}
 use Rattle.std.proofs.lemmas.Map.{keys-set_value}
 use Rattle.std.proofs.lemmas.Map.Views.{All-keys-insert_entry, All-values-insert_entry, All-map-remove_entry, All-values-set_value, IfSome-lookup_from_All}
 use Rattle.std.proofs.lemmas.Map.Steps.{lookup-le-sum}
-use Rattle.iv_track.specs.Entries.{IsLedger, value_at}
+use Rattle.iv_ledger.specs.Entries.{IsLedger, value_at}
 use Rattle.iv_lines.specs.RecordValue.{RecordValue, IsPlaced, record_cmp, records_total}
 use Rattle.iv_lines.proofs.RecordLemmas.{rows_exact}
 use Rattle.iv_track.specs.Copies.{expanded}

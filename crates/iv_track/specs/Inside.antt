@@ -1,9 +1,7 @@
 -- Definitions that no contract of the program or of the six public crates reaches.
-pub mod Chunks
 pub mod Counted
 pub mod Lent
 pub mod LengthClasses
-pub mod Replaced
 pub mod Steps
 pub mod Stored
 pub mod Tracked

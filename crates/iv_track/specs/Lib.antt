@@ -1,9 +1,7 @@
 pub mod Copies
 pub mod Edits
-pub mod Entries
 pub mod Lent
 pub mod Regions
 pub mod Parts
-pub mod Steps
 pub mod Tracked
 pub mod Inside

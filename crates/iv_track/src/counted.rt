@@ -4,8 +4,7 @@ ghost use Rattle.std.specs.Iterator.{item_count, YieldsFirst};
 ghost use Rattle.std.specs.List.Sorted.{IsPermutation, IsSorted};
 ghost use Rattle.iv_track.specs.Inside.Counted.{grouped, AreCounted, AreDistinct};
 
-use crate::ledger::Ledger;
-use crate::starts::Abbreviated;
+use iv_ledger::{Abbreviated, Ledger};
 use iv_lines::{BatchItems, Batches};
 use std::alloc::{AllocError, Allocator};
 use std::marker::Model;

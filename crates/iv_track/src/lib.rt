@@ -3,26 +3,20 @@
 
 mod counted;
 mod entries;
-mod entry_index;
-mod ledger;
 mod lemmas;
 mod length_classes;
-mod meter;
 mod region;
 mod short_records;
-mod starts;
 mod track;
 mod track_entries;
 mod track_hits;
 mod track_record;
 mod track_records;
 
+pub use iv_ledger::{Abbreviated, Ledger, Meter, Walk};
 pub use iv_lines::Bed3Record;
-pub use ledger::{Ledger, Walk};
 pub use lemmas::{one_record_added, one_record_removed};
-pub use meter::Meter;
 pub use region::Region;
-pub use starts::Abbreviated;
 pub use track::{EditFault, Track};
 pub use track_entries::TrackEntries;
 pub use track_hits::TrackHits;

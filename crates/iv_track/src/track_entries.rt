@@ -1,11 +1,11 @@
 //! A walk over the different records of a track.
 ghost use Rattle.std.specs.Prelude.{◌≡◌};
 ghost use Rattle.std.specs.Map.Iter.{TakesFirst};
-ghost use Rattle.iv_track.specs.Steps.{ticked};
+ghost use Rattle.iv_ledger.specs.Steps.{ticked};
 
 use crate::entries::EntriesWalk;
-use crate::meter::Meter;
 use crate::track_record::TrackRecord;
+use iv_ledger::Meter;
 use std::alloc::{Allocator, Global};
 use std::marker::Model;
 

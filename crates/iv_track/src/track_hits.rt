@@ -2,10 +2,10 @@
 ghost use Rattle.std.specs.Iterator.{YieldsFirst};
 ghost use Rattle.iv_track.specs.Regions.{TakesForPassed, end_step};
 
-use crate::meter::Meter;
 use crate::region::Region;
 use crate::track_record::TrackRecord;
 use crate::track_records::TrackRecords;
+use iv_ledger::Meter;
 use std::alloc::{Allocator, Global};
 use std::marker::Model;
 

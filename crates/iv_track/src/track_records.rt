@@ -1,11 +1,11 @@
 //! A walk over the records of a track.
 ghost use Rattle.std.specs.Prelude.{◌≡◌, []};
 ghost use Rattle.std.specs.Iterator.{YieldsFirst};
-ghost use Rattle.iv_track.specs.Steps.{TakesUpTo};
+ghost use Rattle.iv_ledger.specs.Steps.{TakesUpTo};
 
 use crate::entries::EntriesWalk;
-use crate::meter::Meter;
 use crate::track_record::{Lent, TrackRecord};
+use iv_ledger::Meter;
 use std::alloc::{Allocator, Global};
 use std::marker::Model;
 

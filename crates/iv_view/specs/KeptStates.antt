@@ -2,7 +2,7 @@
 use Rattle.std.specs.Prelude.{ℕ, ◌+◌, ◌*◌, List, Option, None, Some, length}
 use Rattle.iv_lines.specs.Genome.{Sequences}
 use Rattle.iv_lines.specs.RecordValue.{RecordValue}
-use Rattle.iv_track.specs.Steps.{TakesUpTo}
+use Rattle.iv_ledger.specs.Steps.{TakesUpTo}
 use Rattle.iv_blocks.specs.Groups.{plain_options}
 use Rattle.iv_blocks.specs.KeptBlocks.{AreBlocksOf, block_steps}
 use Rattle.iv_blocks.specs.MergeRows.{all_blocks}

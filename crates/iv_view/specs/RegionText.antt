@@ -3,7 +3,7 @@ use Rattle.std.specs.Prelude.{ℕ, ◌+◌, ◌*◌, ◌<◌, ◌≤◌, List, l
 use Rattle.iv_lines.specs.Genome.{Sequences, sequence_length}
 use Rattle.iv_lines.specs.RecordValue.{RecordValue}
 use Rattle.iv_track.specs.Regions.{near}
-use Rattle.iv_track.specs.Steps.{TakesUpTo}
+use Rattle.iv_ledger.specs.Steps.{TakesUpTo}
 use Rattle.iv_track.specs.declared.region.Region.{Region}
 use Rattle.iv_cover.specs.Depth.{depth}
 use Rattle.iv_blocks.specs.ClusterRows.{blocks_until}

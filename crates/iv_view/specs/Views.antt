@@ -20,7 +20,7 @@ use Rattle.iv_pair.specs.PairRows.{pair_rows}
 use Rattle.iv_pair.specs.declared.pair_rows.PairOutput.{PairOutput}
 use Rattle.iv_pair.specs.declared.pair_rows.PairOutput.TheVariants as pair
 use Rattle.iv_track.specs.Parts.{records_in, sequences_in}
-use Rattle.iv_track.specs.Steps.{TakesUpTo}
+use Rattle.iv_ledger.specs.Steps.{TakesUpTo}
 use Rattle.iv_track.specs.Tracked.{Tracked, different_records}
 use Rattle.iv_track.specs.declared.region.Region.{Region}
 use Rattle.iv_lines.specs.Chains.{if_ok}

@@ -6,7 +6,7 @@ ghost use Rattle.iv_lines.specs.Read.{Fits};
 ghost use Rattle.iv_view.specs.KeptStates.{built_for as what_is_kept, state_key as kept_for, state_key_of, IsRight, PrintsWithin, repair_steps};
 ghost use Rattle.iv_lines.specs.Genome.{sequence_length};
 ghost use Rattle.iv_track.specs.Regions.{near};
-ghost use Rattle.iv_track.specs.Steps.{TakesUpTo};
+ghost use Rattle.iv_ledger.specs.Steps.{TakesUpTo};
 ghost use Rattle.iv_cover.specs.Depth.{depth as depth_of};
 ghost use Rattle.iv_depth.specs.Changes.{AreChangesOf};
 ghost use Rattle.iv_depth.specs.RegionRows.{covered_runs_in};
@@ -19,8 +19,9 @@ use iv_blocks::{BlockOptions, Blocks};
 use iv_bytes::{Sink, WriteFault};
 use iv_cover::Kept;
 use iv_depth::{Depth, DepthOutput};
+use iv_ledger::Meter;
 use iv_lines::{Genome, RecordRef};
-use iv_track::{Meter, Region, Track};
+use iv_track::{Region, Track};
 use std::alloc::{AllocError, Allocator, Global};
 
 /// What is kept for a view. Views of one `StateKey` can share a state.

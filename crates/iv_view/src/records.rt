@@ -1,13 +1,14 @@
 //! The rows of `records`.
 ghost use Rattle.std.specs.Prelude.{◌+◌, replicate};
 ghost use Rattle.iv_bytes.specs.Sinks.{Puts};
-ghost use Rattle.iv_track.specs.Steps.{TakesUpTo};
+ghost use Rattle.iv_ledger.specs.Steps.{TakesUpTo};
 ghost use Rattle.iv_track.specs.Tracked.{different_records};
 ghost use Rattle.iv_view.specs.Inside.Texts.{records_text};
 
 use iv_bytes::{Sink, WriteFault};
+use iv_ledger::Meter;
 use iv_lines::{Genome, put_line};
-use iv_track::{Meter, Track, TrackRecord};
+use iv_track::{Track, TrackRecord};
 use std::alloc::Allocator;
 
 /// Puts the rows of the track: every record with all its columns, in its order.

@@ -5,16 +5,17 @@ ghost use Rattle.std.specs.Option.{option_copied, unwrap_or};
 ghost use Rattle.iv_bytes.specs.Sinks.{Puts};
 ghost use Rattle.iv_pair.specs.PairRows.{pair_rows};
 ghost use Rattle.iv_track.specs.Regions.{hits as hits_in, near};
-ghost use Rattle.iv_track.specs.Steps.{TakesUpTo};
+ghost use Rattle.iv_ledger.specs.Steps.{TakesUpTo};
 ghost use Rattle.iv_view.specs.Views.{needs_second, second_records, written_rows, WritesWithin};
 ghost use Rattle.iv_view.specs.declared.view.View.TheVariants.{Written};
 
 use crate::records::print_records;
 use iv_bytes::{Sink, WriteFault};
 use iv_fasta::{Fasta, FastaOutput, put_fasta};
+use iv_ledger::Meter;
 use iv_lines::{BedRecord, Genome, put_line};
 use iv_pair::{PairOutput, Second, print_fasta, print_pairs, put_pair_rows};
-use iv_track::{Meter, Region, Track, TrackRecord};
+use iv_track::{Region, Track, TrackRecord};
 use std::alloc::Allocator;
 
 /// A view that is written from the records at each print.

@@ -5,7 +5,7 @@ use Rattle.iv_lines.specs.Genome.{Sequences}
 use Rattle.iv_lines.specs.RecordValue.{RecordValue}
 use Rattle.iv_lines.specs.declared.fault.Fault.TheVariants as fault
 use Rattle.iv_track.specs.Regions.{near}
-use Rattle.iv_track.specs.Steps.{TakesUpTo}
+use Rattle.iv_ledger.specs.Steps.{TakesUpTo}
 use Rattle.iv_track.specs.declared.region.Region.{Region}
 use Rattle.iv_view.specs.KeptStates.{state_key_of, PrintsWithin}
 use Rattle.iv_view.specs.RegionText.{PrintsInWithin}

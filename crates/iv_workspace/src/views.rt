@@ -20,9 +20,10 @@ mod states;
 
 use iv_bytes::{Sink, WriteFault};
 use iv_fasta::Fasta;
+use iv_ledger::Meter;
 use iv_lines::{ContentSeed, Genome, NameMap};
 use iv_pair::Second;
-use iv_track::{Meter, Region, Track};
+use iv_track::{Region, Track};
 use iv_view::{KeptState, View};
 pub(crate) use states::Change;
 use std::alloc::{AllocError, Allocator, Global};

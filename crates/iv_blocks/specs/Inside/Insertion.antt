@@ -4,7 +4,7 @@ use Rattle.std.specs.Option.{option_or}
 use Rattle.std.specs.BTreeMap.{insert_entry}
 use Rattle.iv_lines.specs.Genome.{Sequences, sequence_name}
 use Rattle.iv_lines.specs.RecordValue.{RecordValue}
-use Rattle.iv_track.specs.Entries.{IsLedger, value_at}
+use Rattle.iv_ledger.specs.Entries.{IsLedger, value_at}
 use Rattle.iv_blocks.specs.Groups.{listed}
 use Rattle.iv_blocks.specs.Inside.Groups.{is_minus, members_between}
 use Rattle.iv_blocks.specs.KeptBlocks.{Key, key_cmp, KeptBlocks, kept_block, kept_at}

@@ -1,6 +1,6 @@
 -- The blocks of one group by position, as look-ups and repairs see them.
 use Rattle.std.specs.Prelude.{◌≡◌, ℕ, ◌<◌, ◌≤◌, List, Option, None, Some}
-use Rattle.iv_track.specs.Entries.{value_at}
+use Rattle.iv_ledger.specs.Entries.{value_at}
 use Rattle.iv_blocks.specs.KeptBlocks.{key_cmp, Kept, Entries}
 use Rattle.iv_blocks.specs.Inside.Insertion.{key_of}
 use Rattle.iv_blocks.specs.declared.group.Group.{Group}

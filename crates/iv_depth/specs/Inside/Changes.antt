@@ -2,7 +2,7 @@
 use Rattle.std.specs.Prelude.{◌≡◌, ◌≢◌, ℕ, ◌<◌, ◌^◌, Bool, List, length, ℤ, pos, ◌+ℤ◌, All, if◌then◌else◌}
 use Rattle.std.specs.Map.{values_of}
 use Rattle.iv_lines.specs.RecordValue.{RecordValue}
-use Rattle.iv_track.specs.Entries.{IsLedger, pair_cmp}
+use Rattle.iv_ledger.specs.Entries.{IsLedger, pair_cmp}
 use Rattle.iv_lines.specs.CoveredPositions.{covers}
 use Rattle.iv_depth.specs.Changes.{AreChangesOf, ChangeKey, Entries, reaches, total}
 

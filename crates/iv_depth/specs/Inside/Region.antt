@@ -2,7 +2,7 @@
 use Rattle.std.specs.Prelude.{◌≡◌, ◌≢◌, ℕ, ◌+◌, ◌*◌, ◌<◌, ◌≤◌, ◌^◌, length, ℤ, pos, ◌+ℤ◌, All}
 use Rattle.std.specs.List.{AllByRecursion}
 use Rattle.std.specs.Map.{values_of}
-use Rattle.iv_track.specs.Entries.{IsLedger, pair_cmp}
+use Rattle.iv_ledger.specs.Entries.{IsLedger, pair_cmp}
 use Rattle.iv_depth.specs.Changes.{Entries, total, reaches}
 use Rattle.iv_depth.specs.Inside.Walks.{on, AreBreaks, Follows}
 use Rattle.iv_depth.specs.Inside.RunRows.{covered_from}

@@ -5,7 +5,7 @@ use Rattle.std.specs.Map.{keys_of, values_of}
 use Rattle.iv_lines.specs.Inside.Ordered.{copies_by}
 use Rattle.iv_lines.specs.RecordValue.{RecordValue}
 use Rattle.iv_track.specs.Copies.{expanded}
-use Rattle.iv_track.specs.Entries.{IsLedger, pair_cmp}
+use Rattle.iv_ledger.specs.Entries.{IsLedger, pair_cmp}
 use Rattle.iv_track.specs.Tracked.{Tracked}
 
 -- the rank of a record's sequence, and how many positions it has

@@ -7,7 +7,7 @@ use Rattle.std.specs.Ordering.{is_eq}
 use Rattle.iv_lines.specs.Ascending.{ascends}
 use Rattle.iv_lines.specs.Inside.Ordered.{copies_by}
 use Rattle.iv_track.specs.Copies.{expanded}
-use Rattle.iv_track.specs.Entries.{IsLedger}
+use Rattle.iv_ledger.specs.Entries.{IsLedger}
 
 module _ {K : Type 0} (cmp : K → K → Ordering) where
   -- the entries of a list of which n neighbours alike k were taken, and these are left

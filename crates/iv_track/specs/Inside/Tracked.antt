@@ -2,7 +2,7 @@
 use Rattle.std.specs.Prelude.{◌≡◌, ℕ, ◌+◌, ◌<◌, ◌≤◌, ◌^◌, ◌-◌, false, not, List, Option, Some, None, All, sum, filter}
 use Rattle.std.specs.Map.{keys_of, values_of}
 use Rattle.iv_track.specs.Copies.{expanded}
-use Rattle.iv_track.specs.Entries.{IsLedger}
+use Rattle.iv_ledger.specs.Entries.{IsLedger}
 use Rattle.iv_track.specs.Inside.LengthClasses.{AreClasses}
 use Rattle.iv_lines.specs.RecordValue.{RecordValue, IsPlaced, record_cmp}
 use Rattle.iv_track.specs.Tracked.{is_from, most_records}

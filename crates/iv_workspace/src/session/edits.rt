@@ -3,7 +3,7 @@ ghost use Rattle.std.specs.Prelude.{◌≡◌, ◌≤◌, ◌↔◌, None, Some,
 ghost use Rattle.iv_lines.specs.Chains.{if_ok};
 ghost use Rattle.iv_lines.specs.Named.{names_of};
 ghost use Rattle.iv_lines.specs.Read.{Fits};
-ghost use Rattle.iv_track.specs.Steps.{TakesUpTo};
+ghost use Rattle.iv_ledger.specs.Steps.{TakesUpTo};
 ghost use Rattle.iv_workspace.specs.Edits.{Allows, EditFits, FitsIn, IsDone, IsEdited, RefusesEdit, RefusesIn, edited, most_steps, read_second, width_of};
 ghost use Rattle.iv_workspace.specs.OpenViews.{stale_count};
 ghost use Rattle.iv_workspace.specs.States.{FitsSecond};
@@ -14,9 +14,10 @@ ghost use Rattle.iv_lines.specs.Widths.{IsWidth};
 use super::Session;
 use crate::fault::SecondFault;
 use crate::views::{Change, Views};
+use iv_ledger::Meter;
 use iv_lines::{Fault, Genome, RecordRef, read_record};
 use iv_pair::Second;
-use iv_track::{EditFault, Meter, Track};
+use iv_track::{EditFault, Track};
 use std::alloc::Allocator;
 
 /// Which of the two tracks an edit is for: the session's own, or the second file.

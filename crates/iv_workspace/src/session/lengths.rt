@@ -6,8 +6,9 @@ ghost use Rattle.iv_workspace.specs.Resizes.{has_other_bases, has_record_past, r
 
 use super::Session;
 use crate::fault::ResizeFault;
+use iv_ledger::Meter;
 use iv_pair::Second;
-use iv_track::{Meter, Region, Track};
+use iv_track::{Region, Track};
 use std::alloc::Allocator;
 
 /// Whether a record of the track ends past a length. Those on the sequence end at its present end or before, so it is enough to look

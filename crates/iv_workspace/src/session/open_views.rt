@@ -13,8 +13,9 @@ ghost use Rattle.iv_workspace.specs.Views.{all_text, is_view_name as is_name, vi
 use super::Session;
 use crate::fault::PrintFault;
 use iv_bytes::{Buffered, Sink, WriteFault, put_pieces};
+use iv_ledger::Meter;
 use iv_lines::Fault;
-use iv_track::{Meter, Region};
+use iv_track::Region;
 use iv_view::{View, ViewFault};
 use std::alloc::Allocator;
 

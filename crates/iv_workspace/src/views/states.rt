@@ -4,15 +4,16 @@ ghost use Rattle.std.specs.List.{slice_get};
 ghost use Rattle.iv_lines.specs.Named.{names_of};
 ghost use Rattle.iv_lines.specs.Read.{Fits};
 ghost use Rattle.iv_lines.specs.RecordValue.{RecordValue};
-ghost use Rattle.iv_track.specs.Steps.{TakesUpTo};
+ghost use Rattle.iv_ledger.specs.Steps.{TakesUpTo};
 ghost use Rattle.iv_view.specs.KeptStates.{built_for, state_key_of, IsRight, repair_steps};
 ghost use Rattle.iv_workspace.specs.OpenViews.{Stales, all_steps, stale_count};
 ghost use Rattle.iv_workspace.specs.Inside.ViewStates.{AreMarked, AreOwnRight, AreRepaired, AreRight, HaveStates, IsKept, IsMissing, IsOwned, IsOwnRight, IsRepaired, NoneNeeds, WasRight, all_owned, all_seen, kept_with, owned, with_edited};
 
 use super::{OpenView, Views};
 use iv_cover::Kept;
+use iv_ledger::Meter;
 use iv_lines::{Genome, RecordRef};
-use iv_track::{Meter, Track};
+use iv_track::Track;
 use iv_view::{KeptState, StateKey, View};
 use std::alloc::{AllocError, Allocator};
 

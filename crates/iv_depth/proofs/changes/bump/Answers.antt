@@ -2,7 +2,7 @@ use Rattle.std.proofs.Common.{◌≡◌, ◌≢◌, pos, ◌+ℤ◌, arith, rule
 use Rattle.std.proofs.lemmas.Int.{ints, to_z-of_z}
 use Rattle.std.specs.Map.{set_value}
 use Rattle.std.specs.BTreeMap.{is_at, insert_entry}
-use Rattle.iv_track.specs.Entries.{value_at, pair_cmp}
+use Rattle.iv_ledger.specs.Entries.{value_at, pair_cmp}
 use Rattle.iv_depth.proofs.ChangesLemmas.{Bumps-insert_entry, Bumps-taken, Bumps-set, found-put}
 use Rattle.iv_track.proofs.TrackLemmas.{set_gives}
 use Rattle.iv_depth.proofs.changes.bump.Goals as goal

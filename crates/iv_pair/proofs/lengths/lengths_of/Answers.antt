@@ -2,7 +2,7 @@ use Rattle.std.proofs.Common.{◌∙◌, List, sym, ap, subst, arith}
 use Rattle.iv_lines.specs.Ordered.{added_by}
 use Rattle.iv_lines.specs.RecordValue.{RecordValue}
 use Rattle.iv_track.specs.Copies.{expanded}
-use Rattle.iv_track.specs.Entries.{pair_cmp}
+use Rattle.iv_ledger.specs.Entries.{pair_cmp}
 use Rattle.iv_track.proofs.WalkLemmas.{filter-from_first}
 use Rattle.iv_pair.proofs.LengthLemmas.{IsCounted, IsCounted-begin, IsCounted-next, IsCounted-room, IsCounted-all}
 use Rattle.iv_pair.proofs.lengths.lengths_of.Goals as goal

@@ -1,5 +1,5 @@
 use Rattle.std.proofs.Common.{◌≡◌, ◌∙◌, sym, Some}
-use Rattle.iv_track.specs.Entries.{value_at, pair_cmp}
+use Rattle.iv_ledger.specs.Entries.{value_at, pair_cmp}
 use Rattle.iv_track.proofs.StepLemmas.{takes_none, takes_one_more}
 use Rattle.iv_track.proofs.TrackLemmas.{set_gives}
 use Rattle.iv_pair.proofs.LengthLemmas.{count-pos, lowered_by_take, lowered_by_set, not-absent}

@@ -1,7 +1,7 @@
 use Rattle.std.proofs.Common.{◌∙◌, ap, arith}
 use Rattle.std.specs.Prelude.{unwrap_or}
 use Rattle.iv_track.proofs.StepLemmas.{takes_none, takes_one_more}
-use Rattle.iv_track.proofs.RoomLemmas.{always_on_err}
+use Rattle.iv_ledger.proofs.RoomLemmas.{always_on_err}
 use Rattle.iv_pair.proofs.LengthLemmas.{count_at, raised_rows, raised_tally}
 use Rattle.iv_pair.proofs.lengths.raise.Goals as goal
 

@@ -4,7 +4,7 @@ use Rattle.iv_track.specs.Copies.{removed_by, expanded}
 use Rattle.iv_track.specs.Tracked.{Tracked}
 use Rattle.iv_pair.specs.Inside.Lengths.{AreLengths}
 use Rattle.iv_pair.proofs.LengthLemmas.{AreLengths-removed, counted-there}
-use Rattle.iv_track.specs.Entries.{pair_cmp}
+use Rattle.iv_ledger.specs.Entries.{pair_cmp}
 use Rattle.iv_pair.proofs.second.remove_record.Goals as goal
 
 pub lower-requires-clause-there : goal.lower-requires-clause-there

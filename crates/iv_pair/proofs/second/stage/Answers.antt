@@ -5,8 +5,8 @@ use Rattle.iv_track.specs.Copies.{expanded}
 use Rattle.iv_track.specs.Tracked.{Tracked}
 use Rattle.iv_pair.specs.Inside.Lengths.{AreLengths}
 use Rattle.iv_pair.proofs.LengthLemmas.{AreLengths-room, AreLengths-added, AreLengths-back, absent-uncounted, raised-there}
-use Rattle.iv_track.specs.Entries.{pair_cmp}
-use Rattle.iv_track.proofs.RoomLemmas.{always_on_err}
+use Rattle.iv_ledger.specs.Entries.{pair_cmp}
+use Rattle.iv_ledger.proofs.RoomLemmas.{always_on_err}
 use Rattle.iv_pair.proofs.second.stage.Goals as goal
 
 pub raise-requires-clause-room : goal.raise-requires-clause-room

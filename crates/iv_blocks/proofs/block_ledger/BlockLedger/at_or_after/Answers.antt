@@ -1,5 +1,5 @@
 use Rattle.std.proofs.Common.{◌∙◌}
-use Rattle.iv_track.specs.Entries.{first_from}
+use Rattle.iv_ledger.specs.Entries.{first_from}
 use Rattle.iv_blocks.specs.KeptBlocks.{key_cmp}
 use Rattle.iv_blocks.proofs.StoredLemmas.{plain-found, plain-first}
 use Rattle.iv_blocks.proofs.block_ledger.BlockLedger.at_or_after.Goals as goal

@@ -1,6 +1,6 @@
 use Rattle.std.proofs.Common.{◌≡◌, ◌∙◌, length, sym}
 use Rattle.std.proofs.lemmas.List.{length-map}
-use Rattle.iv_track.specs.Entries.{IsLedger}
+use Rattle.iv_ledger.specs.Entries.{IsLedger}
 use Rattle.iv_blocks.specs.KeptBlocks.{key_cmp}
 use Rattle.iv_blocks.specs.Inside.StoredBlocks.{StoredBlocks, plain_entry}
 use Rattle.iv_blocks.proofs.StoredLemmas.{of-plain, plain-ordered}

@@ -1,5 +1,5 @@
 use Rattle.std.proofs.Common.{◌∙◌, ap, subst, sym}
-use Rattle.iv_track.specs.Entries.{IsLedger}
+use Rattle.iv_ledger.specs.Entries.{IsLedger}
 use Rattle.iv_blocks.specs.KeptBlocks.{key_cmp}
 use Rattle.iv_blocks.specs.Inside.StoredBlocks.{StoredBlocks, stored}
 use Rattle.iv_blocks.proofs.StoredLemmas.{of-plain, with_stored, plain-ordered, on_ok, put-plain, put-stored}

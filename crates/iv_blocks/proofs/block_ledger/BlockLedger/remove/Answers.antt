@@ -1,6 +1,6 @@
 use Rattle.std.proofs.Common.{◌∙◌, ap, subst, sym}
 use Rattle.std.specs.BTreeMap.{is_at}
-use Rattle.iv_track.specs.Entries.{IsLedger}
+use Rattle.iv_ledger.specs.Entries.{IsLedger}
 use Rattle.iv_blocks.specs.KeptBlocks.{key_cmp}
 use Rattle.iv_blocks.specs.Inside.StoredBlocks.{stored}
 use Rattle.iv_blocks.proofs.StoredLemmas.{plain-ordered, taken-plain, taken-stored}

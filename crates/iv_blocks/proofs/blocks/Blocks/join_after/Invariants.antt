@@ -1,5 +1,5 @@
 use Rattle.std.proofs.Common.{ℕ, ◌*◌, length}
-use Rattle.iv_track.specs.Steps.{TakesUpTo}
+use Rattle.iv_ledger.specs.Steps.{TakesUpTo}
 use Rattle.iv_blocks.specs.Inside.Lookups.{kept_in}
 use Rattle.iv_blocks.specs.Inside.Repairs.{KeepsOthers}
 use Rattle.iv_blocks.proofs.JoinLemmas.{IsJoining}

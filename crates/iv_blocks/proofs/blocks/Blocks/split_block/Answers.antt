@@ -2,7 +2,7 @@ use Rattle.std.proofs.Common.{◌≡◌, ◌⊎◌, inl, inr, ◌+◌, ◌<◌, 
 use Rattle.std.proofs.lemmas.Bool.{cases_lt}
 use Rattle.iv_lines.specs.RecordValue.{RecordValue}
 use Rattle.iv_lines.proofs.ListLemmas.{all-mem}
-use Rattle.iv_track.specs.Entries.{IsLedger}
+use Rattle.iv_ledger.specs.Entries.{IsLedger}
 use Rattle.iv_blocks.specs.Inside.MembersLeft.{MembersLeft}
 use Rattle.iv_blocks.specs.Inside.Groups.{between_on, members_between}
 use Rattle.iv_blocks.specs.KeptBlocks.{KeptBlocks, key_cmp}

@@ -6,7 +6,7 @@ use Rattle.iv_lines.specs.Read.{IsOnGenome}
 use Rattle.iv_lines.specs.RecordValue.{RecordValue}
 use Rattle.iv_cover.specs.TrackBlocks.{blocks_of}
 use Rattle.iv_cover.proofs.WalkLemmas.{merge-all}
-use Rattle.iv_track.specs.Entries.{IsLedger, value_at}
+use Rattle.iv_ledger.specs.Entries.{IsLedger, value_at}
 use Rattle.iv_track.proofs.WalkLemmas.{filter-from_first}
 use Rattle.iv_blocks.specs.KeptBlocks.{AreBlocksOf, Entries, Key, key_cmp}
 use Rattle.iv_blocks.specs.Groups.{listed}

@@ -1,7 +1,7 @@
 use Rattle.std.proofs.Common.{◌≡◌, None, sym}
 use Rattle.std.proofs.lemmas.Bool.{false≢true}
 use Rattle.iv_lines.specs.RecordValue.{record_cmp}
-use Rattle.iv_track.specs.Entries.{value_at}
+use Rattle.iv_ledger.specs.Entries.{value_at}
 use Rattle.iv_track.proofs.StoredLemmas.{of-bed3, three-stored, absent}
 use Rattle.iv_track.proofs.entries.Entries.get.Goals as goal
 

@@ -1,8 +1,8 @@
 use Rattle.std.proofs.Common.{◌≡◌, ◌∙◌, List, [], None, ℕ, ap, sym}
 use Rattle.std.specs.BTreeMap.{insert_entry}
 use Rattle.iv_lines.specs.RecordValue.{RecordValue, record_cmp}
-use Rattle.iv_track.specs.Entries.{value_at}
-use Rattle.iv_track.proofs.RoomLemmas.{always_on_err}
+use Rattle.iv_ledger.specs.Entries.{value_at}
+use Rattle.iv_ledger.proofs.RoomLemmas.{always_on_err}
 use Rattle.iv_track.proofs.StoredLemmas.{of-bed3, each-bed3, three-stored, three-put, absent, none-there}
 use Rattle.iv_track.proofs.entries.Entries.put.Goals as goal
 

@@ -3,7 +3,7 @@ use Rattle.std.specs.BTreeMap.{is_at}
 use Rattle.std.specs.Map.{remove_entry}
 use Rattle.std.proofs.lemmas.Bool.{false≢true}
 use Rattle.iv_lines.specs.RecordValue.{RecordValue, record_cmp}
-use Rattle.iv_track.specs.Entries.{IsLedger}
+use Rattle.iv_ledger.specs.Entries.{IsLedger}
 use Rattle.iv_track.specs.Inside.Stored.{IsStored, stored}
 use Rattle.iv_track.proofs.StoredLemmas.{of-bed3, of-full, three-stored, three-taken, absent-removed}
 use Rattle.iv_track.proofs.entries.Entries.take.Goals.{in-Full, in-Bed3+in-Some, in-Bed3+in-None}

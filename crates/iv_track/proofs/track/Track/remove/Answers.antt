@@ -1,7 +1,7 @@
 use Rattle.std.proofs.Common.{◌≡◌, ℕ, ◌<◌, ◌-◌, ◌∙◌, sym, ap, arith, List, Some, subst}
 use Rattle.std.specs.Prelude.{unwrap_or, slice_index_or, slice_set}
 use Rattle.iv_lines.specs.RecordValue.{RecordValue, record_cmp, records_total}
-use Rattle.iv_track.specs.Entries.{value_at}
+use Rattle.iv_ledger.specs.Entries.{value_at}
 use Rattle.iv_lines.specs.Ordered.{AreInOrder, copies}
 use Rattle.iv_track.specs.Tracked.{Tracked, removed}
 use Rattle.iv_track.specs.Inside.Tracked.{IsTrack}

@@ -2,14 +2,14 @@ use Rattle.std.proofs.Common.{ℕ, ◌≡◌, ◌+◌, ◌<◌, ◌∙◌, sym, 
 use Rattle.std.specs.Prelude.{All, unwrap_or, slice_index_or, slice_set}
 use Rattle.std.specs.Map.{keys_of}
 use Rattle.iv_lines.specs.RecordValue.{RecordValue, record_cmp}
-use Rattle.iv_track.specs.Entries.{value_at}
+use Rattle.iv_ledger.specs.Entries.{value_at}
 use Rattle.iv_lines.specs.Ordered.{added, copies}
 use Rattle.iv_track.specs.Tracked.{Tracked}
 use Rattle.iv_track.specs.Copies.{expanded}
 use Rattle.iv_track.specs.Inside.LengthClasses.{AreClasses, length_class}
 use Rattle.iv_track.proofs.ClassLemmas.{classes-added, classes-room}
 use Rattle.iv_track.proofs.TrackLemmas.{count_here, count-le-len, len-rows, staged_rows, staged_track}
-use Rattle.iv_track.proofs.RoomLemmas.{always_on_err}
+use Rattle.iv_ledger.proofs.RoomLemmas.{always_on_err}
 use Rattle.iv_track.proofs.track.Track.stage.Goals as goal
 
 pub overflow_add-count : goal.overflow_add-count

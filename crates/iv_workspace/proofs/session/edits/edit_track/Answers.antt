@@ -6,7 +6,7 @@ use Rattle.iv_lines.specs.Read.{Fits}
 use Rattle.iv_lines.specs.RecordValue.{RecordValue}
 use Rattle.iv_lines.specs.declared.fault.Fault.TheVariants as fault
 use Rattle.iv_track.specs.Edits.{RefusesAdd, without_record}
-use Rattle.iv_track.specs.Steps.{TakesUpTo}
+use Rattle.iv_ledger.specs.Steps.{TakesUpTo}
 use Rattle.iv_track.specs.Tracked.{Tracked}
 use Rattle.iv_track.proofs.Edits.{refused-absent}
 use Rattle.iv_workspace.specs.Edits.{EditFits, IsEdited, RefusesEdit, most_steps}

@@ -1,0 +1,11 @@
+pub mod ChunkLemmas
+pub mod FindLemmas
+pub mod JoinLemmas
+pub mod MapLemmas
+pub mod Nearest
+pub mod ReplacedLemmas
+pub mod RoomLemmas
+pub mod SeenLemmas
+pub mod Splits
+pub mod SearchLemmas
+pub mod LedgerLemmas

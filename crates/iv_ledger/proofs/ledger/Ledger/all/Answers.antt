@@ -1,0 +1,10 @@
+use Rattle.std.proofs.Common.{sym, ap, ◌∙◌}
+use Rattle.iv_ledger.specs.Inside.Seen.{seen_chunks}
+use Rattle.iv_ledger.specs.Inside.Chunks.{concatenated}
+use Rattle.iv_ledger.proofs.SeenLemmas.{seen-all}
+use Rattle.iv_ledger.proofs.ledger.Ledger.all.Goals as goal
+
+pub returns : goal.returns
+returns g c =
+    let read = g.O.Order.read c.self.inside.order in
+    sym (seen-all read c.deref.result.now) ∙ ap (λ cs. concatenated (seen_chunks read cs)) c.deref.ensures.value ∙ c.self.view_is
