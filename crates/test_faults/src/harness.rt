@@ -68,3 +68,37 @@ where
     }
     Ok(is_met)
 }
+
+/// A value after a call on it.
+///
+/// # Errors
+///
+/// That of the call.
+pub fn begun<T: Drop, F>(value: T, begin: F) -> Result<T, Fail>
+where
+    F: Fn(&mut T) -> Result<(), Fail>,
+    requires { F.IsAlwaysCallable begin }
+{
+    let mut value = value;
+    begin(&mut value)?;
+    Ok(value)
+}
+
+/// What a call makes of a value, which is freed then.
+///
+/// # Errors
+///
+/// That of the call, and one if there is no value.
+pub fn seen<T: Drop, S, F>(value: Result<T, Fail>, look: F) -> Result<S, Fail>
+where
+    F: Fn(&mut T) -> Result<S, Fail>,
+    requires { F.IsAlwaysCallable look }
+{
+    let mut value = value?;
+    look(&mut value)
+}
+
+/// Puts a value in the place of another, which is freed.
+pub fn put<T: Drop>(place: &mut T, value: T) {
+    *place = value;
+}

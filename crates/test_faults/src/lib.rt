@@ -8,7 +8,7 @@ mod stream;
 mod texts;
 mod words;
 
-pub use harness::refused;
+pub use harness::{begun, put, refused, seen};
 use std::alloc::{AllocError, Allocator};
 use std::cell::Cell;
 pub use stream::{Bad, FAILURES, Manner, Stream};

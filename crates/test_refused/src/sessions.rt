@@ -7,7 +7,7 @@ use iv_track::EditFault;
 use iv_view::ViewFault;
 use iv_workspace::{Accepted, PrintFault};
 use std::test::Fail;
-use test_faults::{RefusesNth, refused};
+use test_faults::{RefusesNth, begun, put, refused, seen};
 
 /// A region, as a line of a script has it.
 #[derive(Clone, Copy)]
@@ -232,7 +232,7 @@ fn is_refused<'a>(
     if let Some(session) = on {
         return is_refused_on(rt, alloc, session, row, printed);
     }
-    *on = session_of(alloc, row.on.files);
+    put(on, session_of(alloc, row.on.files));
     Ok(on.is_none())
 }
 
@@ -291,14 +291,22 @@ fn check_refused(session: &Refused<'_>, row: &Row<'_>) -> Result<(), Fail> {
     }
 }
 
+/// The session, unless an allocation failed.
+fn session_in<'s, 'a>(on: &'s mut Option<Refused<'a>>) -> Result<&'s mut Refused<'a>, Fail> {
+    match on {
+        Some(session) => Ok(session),
+        None => Err(Fail::new("no session")),
+    }
+}
+
 /// What a call is made on: nothing, if it begins the session.
 fn prepared<'a>(alloc: Refusing<'a>, row: &Row<'_>) -> Result<Option<Refused<'a>>, Fail> {
     if let Call::Begin = row.call {
         return Ok(None);
     }
-    let mut session = session_of(alloc, row.on.files).ok_or("no session")?;
-    begin(alloc, &mut session, &row.on)?;
-    Ok(Some(session))
+    begun(session_of(alloc, row.on.files), |on| {
+        begin(alloc, session_in(on)?, &row.on)
+    })
 }
 
 /// Fails unless a session shows this, and nothing that was current is stale after a refusal.
@@ -375,16 +383,17 @@ fn shown_after(
     alloc: Refusing<'_>,
     row: &Row<'_>,
 ) -> Result<(MemSink, MemSink), Fail> {
-    let mut session = session_of(alloc, row.after).ok_or("no session")?;
-    shown(rt, &mut session, row)
+    seen(Ok(session_of(alloc, row.after)), |on| {
+        shown(rt, session_in(on)?, row)
+    })
 }
 
 /// What is shown before a call; nothing, if it begins the session.
 fn shown_before(rt: &HostRuntime, alloc: Refusing<'_>, row: &Row<'_>) -> Result<MemSink, Fail> {
-    match prepared(alloc, row)? {
-        Some(mut session) => text_of(rt, &mut session),
+    seen(prepared(alloc, row), |on| match on {
+        Some(session) => text_of(rt, session),
         None => Ok(MemSink::new(rt.alloc(), 0, 1)?),
-    }
+    })
 }
 
 /// Makes the call of a row with each of its allocations refused in turn: how many there are.

@@ -7,7 +7,7 @@ use iv_pair::Second;
 use iv_text::BedFile;
 use iv_track::{EditFault, Meter, Track};
 use std::test::Fail;
-use test_faults::{RefusesNth, refused};
+use test_faults::{RefusesNth, begun, put, refused};
 
 /// A call on a track or a second file.
 #[derive(Clone, Copy)]
@@ -127,18 +127,29 @@ fn edit_second<'a>(
     }
 }
 
-/// A track and a second file to which the records below a number are added one by one.
-fn prepared<'a>(alloc: Refusing<'a>, count: u32) -> Result<Both<'a>, Fail> {
-    let mut track = track_of(alloc, b"").ok_or("no track")?;
-    let mut second = second_of(alloc, b"").ok_or("no second file")?;
-    for number in 0..count {
-        edit(alloc, &mut track, Call::Add, number)?;
-        edit_second(alloc, &mut second, Call::AddSecond, number)?;
+/// A track and a second file of the lines of records; each is missing if an allocation fails.
+fn both_of<'a>(alloc: Refusing<'a>, text: &[u8]) -> Both<'a> {
+    Both {
+        track: track_of(alloc, text),
+        second: second_of(alloc, text),
     }
-    Ok(Both {
-        track: Some(track),
-        second: Some(second),
-    })
+}
+
+/// Adds the records below a number to both, one by one.
+fn fill<'a>(alloc: Refusing<'a>, both: &mut Both<'a>, count: u32) -> Result<(), Fail> {
+    let (Some(track), Some(second)) = (&mut both.track, &mut both.second) else {
+        return Err(Fail::new("no track, or no second file"));
+    };
+    for number in 0..count {
+        edit(alloc, track, Call::Add, number)?;
+        edit_second(alloc, second, Call::AddSecond, number)?;
+    }
+    Ok(())
+}
+
+/// A track and a second file to which the records below a number were added one by one.
+fn prepared<'a>(alloc: Refusing<'a>, count: u32) -> Result<Both<'a>, Fail> {
+    begun(both_of(alloc, b""), |both| fill(alloc, both, count))
 }
 
 /// Makes a call. Whether it was refused because an allocation failed.
@@ -157,8 +168,7 @@ fn is_refused<'a>(
             edit(alloc, track, call, count)
         }
         _ => {
-            both.track = track_of(alloc, text);
-            both.second = second_of(alloc, text);
+            put(both, both_of(alloc, text));
             Ok(both.track.is_none() || both.second.is_none())
         }
     }
