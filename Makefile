@@ -21,9 +21,9 @@ INSTALL ?= install
 INSTALL_PROGRAM ?= $(INSTALL) -m 755
 INSTALL_DATA ?= $(INSTALL) -m 644
 # The Python package, which is installed below pythondir.
-PACKAGE = python/pyproject.toml python/README.md python/bedkeep/py.typed $(sort $(wildcard $(addprefix python/bedkeep/,*.py */*.py */*.css */*.js */page/*)))
+PACKAGE = $(addprefix python/,pyproject.toml hatch_build.py README.md LICENSE bedkeep/py.typed) $(sort $(wildcard $(addprefix python/bedkeep/,*.py */*.py */*.css */*.js */page/*)))
 # What is installed below docdir, in the folders that it has here, so that links and the steps of the guide work there too.
-DOCUMENTS = README.md CHANGELOG.md LICENSE CITATION.cff $(addprefix docs/,GUIDE.md BEDTOOLS.md bedtools-report.md FORMAT.md PROMISES.md STATEMENT.md BENCHMARKS.md speed.svg desk.png review.png) \
+DOCUMENTS = README.md CHANGELOG.md LICENSE CITATION.cff packaging/r/bedkeep.R $(addprefix docs/,GUIDE.md LENGTHS.md BASES.md PIPELINES.md BEDTOOLS.md bedtools-report.md FORMAT.md PROMISES.md STATEMENT.md BENCHMARKS.md speed.svg desk.png review.png) \
 	$(shell find examples -type f ! -path '*/.snakemake/*' ! -name '*.pyc' ! -name corrected.bed ! -name 'review.*' \
 		! \( -path '*/workflows/*/*' ! -name '*.cwl' ! -name '*.yaml' \) | LC_ALL=C sort)
 
@@ -35,7 +35,7 @@ help:
 	@echo 'make check   the examples of tests/, sizes, hints and options over that program, in minutes'
 	@echo 'make build   prove and build the program; it is left at $(PROGRAM)'
 	@echo 'make demo    build it, then run the scripts of examples/ over the files beside them'
-	@echo 'make install     put the built program, its man page, its completions and the Python package below PREFIX (/usr/local)'
+	@echo 'make install     put the built program, the man pages, its completions and the Python package below PREFIX (/usr/local)'
 	@echo 'make uninstall   take them away again'
 	@echo 'make dist    build it, then leave an archive, a Debian package and a wheel of a release in build/'
 	@echo 'make test    all proofs from nothing, the mutants of must-fail/, and all tests; about an hour'
@@ -68,7 +68,7 @@ install:
 	$(INSTALL) -d $(addprefix $(DESTDIR),$(bindir) $(man1dir) $(bashdir) $(zshdir) $(docdir))
 	$(INSTALL_PROGRAM) $(PROGRAM) $(DESTDIR)$(bindir)/bedkeep
 	$(INSTALL_PROGRAM) python/bedkeep-desk $(DESTDIR)$(bindir)/bedkeep-desk
-	$(INSTALL_DATA) man/bedkeep.1 $(DESTDIR)$(man1dir)/bedkeep.1
+	$(INSTALL_DATA) man/bedkeep.1 man/bedkeep-desk.1 $(DESTDIR)$(man1dir)
 	$(INSTALL_DATA) completions/bedkeep.bash $(DESTDIR)$(bashdir)/bedkeep
 	$(INSTALL_DATA) completions/_bedkeep $(DESTDIR)$(zshdir)/_bedkeep
 	set -e; for file in $(DOCUMENTS); do \
@@ -76,11 +76,13 @@ install:
 		$(INSTALL) -D -m $$mode $$file $(DESTDIR)$(docdir)/$$file; \
 	done
 	set -e; for file in $(PACKAGE:python/%=%); do $(INSTALL_DATA) -D python/$$file $(DESTDIR)$(pythondir)/$$file; done
+	umask 022; python3 scripts/release/reference.py $(DESTDIR)$(docdir)/docs/reference.html
 
 uninstall:
-	rm -f $(addprefix $(DESTDIR),$(bindir)/bedkeep $(bindir)/bedkeep-desk $(man1dir)/bedkeep.1 $(bashdir)/bedkeep $(zshdir)/_bedkeep)
+	rm -f $(addprefix $(DESTDIR),$(bindir)/bedkeep $(bindir)/bedkeep-desk $(man1dir)/bedkeep.1 $(man1dir)/bedkeep-desk.1 $(bashdir)/bedkeep $(zshdir)/_bedkeep)
 	rm -f $(addprefix $(DESTDIR)$(docdir)/,$(DOCUMENTS))
 	rm -f $(addprefix $(DESTDIR)$(pythondir)/,$(PACKAGE:python/%=%))
+	rm -f $(DESTDIR)$(docdir)/docs/reference.html
 	rm -rf $(addprefix $(DESTDIR)$(pythondir)/,$(addsuffix __pycache__,$(sort $(dir $(filter %.py,$(PACKAGE:python/%=%))))))
 	find $(DESTDIR)$(docdir) $(DESTDIR)$(datadir)/bedkeep -depth -type d -empty -delete 2> /dev/null || true
 
@@ -108,6 +110,7 @@ test:
 	scripts/test/examples.sh $(PROGRAM)
 	scripts/test/at_scale.sh $(PROGRAM)
 	scripts/test/workflows.sh $(PROGRAM)
+	scripts/test/packaging.sh $(PROGRAM)
 	scripts/test/python.sh $(PROGRAM)
 	python3 scripts/test/review_page.py $(PROGRAM)
 	python3 scripts/test/options.py $(PROGRAM)

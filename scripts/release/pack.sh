@@ -4,10 +4,11 @@
 # The same sources give the same bytes with the same tools: files have the time of SOURCE_DATE_EPOCH, or else the date
 # of the man page.
 #
-#   scripts/release/pack.sh
+#   scripts/release/pack.sh       the wheel needs hatchling
 set -eu
 umask 022
 cd "$(dirname "$0")/../.."
+scripts/release/wheel.sh
 program=build/static/bedkeep
 scripts/release/link_static.sh "$program"
 if readelf --program-headers "$program" | grep -q INTERP || readelf --dynamic "$program" | grep -q NEEDED; then
@@ -40,13 +41,9 @@ install_to() {
     make --silent --no-print-directory install PROGRAM="$program" DESTDIR="$folder" "$@"
 }
 
-# noted FILE: says what else is in the program
+# noted FOLDER: puts the licenses of what else is in the program into a folder of documents
 noted() {
-    cat > "$1" << 'END'
-The program of this release is linked with parts of the GNU C library, which is under the GNU Lesser General Public
-License, version 2.1 or later, and of GCC's runtime library, which is under the GNU General Public License, version 3 or
-later, with the GCC Runtime Library Exception, version 3.1. scripts/release/link_static.sh of the sources links it again.
-END
+    install -D -m 644 -t "$1/licenses" packaging/licenses/*
 }
 
 # changed: what Debian wants to know of the version
@@ -79,7 +76,7 @@ dated() {
 
 name=bedkeep-$version-linux-x86_64
 install_to "$stage/$name" PREFIX=
-noted "$stage/$name/share/doc/bedkeep/NOTICE"
+noted "$stage/$name/share/doc/bedkeep"
 linked "$stage/$name/share/doc/bedkeep"
 dated "$stage/$name"
 # only files, so that unpacking changes no folder that is there
@@ -93,7 +90,7 @@ made=("$name.tar.gz")
 mkdir "$stage/unpacked"
 tar --extract --gzip --file="build/$name.tar.gz" --directory="$stage/unpacked"
 documents=$stage/unpacked/$name/share/doc/bedkeep
-for document in README.md CHANGELOG.md LICENSE NOTICE docs/{GUIDE,BEDTOOLS,bedtools-report,FORMAT,PROMISES,STATEMENT}.md examples/{in_git,at_scale,workflows}/README.md; do
+for document in README.md CHANGELOG.md LICENSE licenses/{NOTICE,LGPL-2.1,GPL-3.0,GCC-exception-3.1} docs/{GUIDE,LENGTHS,BASES,PIPELINES,BEDTOOLS,bedtools-report,FORMAT,PROMISES,STATEMENT}.md docs/reference.html examples/{in_git,at_scale,workflows}/README.md; do
     if [ ! -s "$documents/$document" ]; then
         echo "the release lacks $document" >&2
         exit 1
@@ -117,21 +114,26 @@ fi
 scripts/test/workflows.sh "$stage/unpacked/$name/bin/bedkeep" "$documents/examples"
 python3 scripts/release/address.py --check
 python3 scripts/release/address.py --layout "$stage/unpacked/$name"
-wheel=$(python3 scripts/release/wheel.py "$stage/unpacked/$name" build)
+wheel=$(basename "$(scripts/release/wheel.sh "$stage/unpacked/$name" build)")
 scripts/release/try_wheel.sh "build/$wheel"
 made+=("$wheel")
 
 if command -v dpkg-deb > /dev/null; then
     root=$stage/deb
     install_to "$root" PREFIX=/usr zshdir=/usr/share/zsh/vendor-completions pythondir=/usr/lib/python3/dist-packages
-    rm "$root"/usr/lib/python3/dist-packages/{pyproject.toml,README.md}
+    rm "$root"/usr/lib/python3/dist-packages/{pyproject.toml,hatch_build.py,README.md,LICENSE}
     sed -i '1s|/usr/bin/env python3|/usr/bin/python3|' "$root/usr/bin/bedkeep-desk"
-    gzip --no-name --best "$root/usr/share/man/man1/bedkeep.1"
-    noted "$root/usr/share/doc/bedkeep/NOTICE"
-    echo 'On Debian these licenses are /usr/share/common-licenses/LGPL-2.1 and /usr/share/common-licenses/GPL-3.' >> "$root/usr/share/doc/bedkeep/NOTICE"
-    (cd "$root/usr/share/doc/bedkeep" && cat LICENSE NOTICE > copyright && rm LICENSE NOTICE)
+    gzip --no-name --best "$root"/usr/share/man/man1/*.1
+    {
+        cat LICENSE && echo && cat packaging/licenses/NOTICE && echo
+        echo 'On Debian these licenses are /usr/share/common-licenses/LGPL-2.1 and /usr/share/common-licenses/GPL-3.'
+        echo && cat packaging/licenses/GCC-exception-3.1
+    } > "$root/usr/share/doc/bedkeep/copyright"
+    rm "$root/usr/share/doc/bedkeep/LICENSE"
     linked "$root/usr/share/doc/bedkeep"
     changed | gzip --no-name --best > "$root/usr/share/doc/bedkeep/changelog.gz"
+    home=$(sed -n 's/^Homepage = "\(.*\)"$/\1/p' python/pyproject.toml)
+    case $home in *example.invalid*) home= ;; esac
     mkdir "$root/DEBIAN"
     (cd "$root" && find usr -type f | LC_ALL=C sort | xargs md5sum > DEBIAN/md5sums)
     cat > "$root/DEBIAN/control" << END
@@ -142,13 +144,19 @@ Maintainer: the bedkeep authors <bedkeep@example.invalid>
 Installed-Size: $(find "$root/usr" -type f -printf '%s\n' | awk '{ sum += int(($1 + 1023) / 1024) } END { print sum }')
 Recommends: python3 (>= 3.9)
 Section: science
-Priority: optional
+Priority: optional${home:+
+Homepage: $home}
 Description: keeps a track of genome intervals correct while you edit it
  bedkeep reads a BED file and carries out a script of corrections, one a line.
  Each is done, or refused with its line number and the reason. At any point it
  prints what the bedtools subcommands merge, cluster, complement, genomecov,
  intersect, subtract and getfasta print for the records as they are then.
 END
+    # The package is compiled once it is there: whoever runs it may not write beside it.
+    for step in 'postinst py3compile' 'prerm py3clean'; do
+        printf '#!/bin/sh\nset -e\nif command -v %s > /dev/null; then\n    %s -p bedkeep\nfi\n' "${step#* }" "${step#* }" > "$root/DEBIAN/${step% *}"
+        chmod 755 "$root/DEBIAN/${step% *}"
+    done
     dated "$root"
     dpkg-deb --root-owner-group -Zxz --threads-max=1 --build "$root" "build/bedkeep_${version}_amd64.deb" > /dev/null
     made+=("bedkeep_${version}_amd64.deb")

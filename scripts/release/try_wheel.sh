@@ -22,7 +22,7 @@ status=0
 "${clean[@]}" new/bin/bedkeep-desk review sizes genes.bed corrections -o page.html 2> /dev/null || [ $? -eq 1 ]
 "${clean[@]}" new/bin/python -c 'import bedkeep; print(*bedkeep.merge("sizes", "corrected.bed"), sep="\n")' > rows
 for found in "status $status" "$(cat refused)" "$(tr '\t' ' ' < corrected.bed)" "$(cat rows)" "$("${clean[@]}" new/bin/bedkeep --version | head -n 1)" \
-    "$(grep -c '<html' page.html) page"; do
+    "$(grep -c '<html' page.html) page" "$(cd new/lib/python3*/site-packages/bedkeep-*.dist-info/licenses && echo *)"; do
     echo "$found"
 done > said
 version=$("${clean[@]}" new/bin/python -c 'import bedkeep; print(bedkeep.__version__)')
@@ -34,6 +34,7 @@ chr1 5 12 y
 Row(chromosome='chr1', start=1, end=12)
 bedkeep $version
 1 page
+LICENSE LICENSE.GCC-exception-3.1 LICENSE.GPL-3.0 LICENSE.LGPL-2.1 NOTICE
 END
 "${clean[@]}" new/bin/python -m pip uninstall --quiet --yes bedkeep
 if [ -e new/bin/bedkeep ] || [ -e new/bin/bedkeep-desk ]; then
