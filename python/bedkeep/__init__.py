@@ -9,25 +9,28 @@
     for block in bedkeep.merge("sizes", "genes.bed", d=100):
         ...
 
-    bedkeep.apply("sizes", "genes.bed", "corrections", "corrected.bed")  # also `diff` and `replay`, as python3 -m bedkeep has them
+    bedkeep.apply("sizes", "genes.bed", "corrections", "corrected.bed")  # also `diff`, `log` and `replay`, as python3 -m bedkeep has them
 
 A record is the columns of a BED line: chromosome, start, end, and then name, score and strand if the file has them. Start
 counts from 0, and end is not included. The program is the argument `program`, else what BEDKEEP in the environment names,
 else `bedkeep` on the path, or where pip put it.
 """
+__version__ = "1.0.0"
+
 from .commands.apply import Applied, apply
 from .commands.diff import diff
+from .commands.log import Logged, log
 from .commands.replay import replay
 from .errors import BadOptions, Damaged, Ended, Error, InputOutput, NoMemory, NotFound, Refused
+from .given import Genome, Track
 from .printed_rows import Row
 from .runs import Rows, cluster, complement, genomecov, getfasta, intersect, merge, records, subtract
 from .session import Session
 from .tables import edits, to_frame
 
-__version__ = "1.0.0"
 __all__ = [
     "BadOptions", "Damaged", "Ended", "Error", "InputOutput", "NoMemory", "NotFound", "Refused",
-    "Applied", "Row", "Rows", "Session", "apply", "diff", "edits", "replay", "to_frame",
+    "Applied", "Genome", "Logged", "Row", "Rows", "Session", "Track", "apply", "diff", "edits", "log", "replay", "to_frame",
     "cluster", "complement", "genomecov", "getfasta", "intersect", "merge", "records", "subtract",
 ]
 

@@ -9,23 +9,55 @@ FIELD = re.compile(r"field (\d+): ")  # how a hint begins that is about one fiel
 
 
 class Error(Exception):
-    """What the package raises of its own."""
+    """What the package raises of its own.
+
+    Examples
+    --------
+    >>> try:
+    ...     session.remove("chr1", 1, 2, "geneX")
+    ... except bedkeep.Error as error:
+    ...     print(type(error).__name__)
+    Refused
+    """
 
 
 class NotFound(Error):
-    """The program isn't there."""
+    """The program isn't there.
+
+    Examples
+    --------
+    >>> bedkeep.records("sizes", "genes.bed", program="absent")
+    Traceback (most recent call last):
+    bedkeep.errors.NotFound: no program 'absent': ...
+    """
 
 
 class Refused(Error, ValueError):
     """A line was refused, and changed nothing.
 
-    reason: why, as the program says it, such as `no such record`
-    number: the line's number in the script that was handed to `edit`, from 1; 1 for a call that sends one line
-    line:   the line as it was sent, its fields separated by TABs
-    hint:   what the program says of it besides, line by line; of the first three refused lines of a kind. Its first line is in
-            the text of the exception
-    field:  the number of the field that it is about, from 1, the command among them; or None
-    others: what was refused after it, if `edit` raised it
+    Attributes
+    ----------
+    reason : str
+        Why, as the program says it, such as `no such record`.
+    number : int
+        The line's number in the script that was handed to `edit`, from 1; 1 for a call that sends one line.
+    line : str
+        The line as it was sent, its fields separated by TABs.
+    hint : tuple of str
+        What the program says of it besides, line by line; of the first three refused lines of a kind. Its first line is in the text
+        of the exception.
+    field : int or None
+        The number of the field that it is about, from 1, the command among them.
+    others : list of Refused
+        What was refused after it, if `edit` raised it.
+
+    Examples
+    --------
+    >>> try:
+    ...     session.remove("chr1", 1, 2, "geneX")
+    ... except bedkeep.Refused as refused:
+    ...     print(refused.reason)
+    no such record
     """
 
     def __init__(self, reason: str, number: int, line: str, hint: tuple[str, ...] = ()) -> None:
@@ -59,9 +91,22 @@ def field_of(hints: Sequence[str]) -> Optional[int]:
 class Ended(Error):
     """The program ended before it had answered.
 
-    status:  its exit status, or a signal's number below 0 if a signal ended it
-    message: the line that it wrote of that, without `bedkeep: `
-    hint:    the lines after it, on what is wrong and what to do, which are in the text of the exception
+    Attributes
+    ----------
+    status : int
+        Its exit status, or a signal's number below 0 if a signal ended it.
+    message : str
+        The line that it wrote of that, without `bedkeep: `.
+    hint : tuple of str
+        The lines after it, on what is wrong and what to do, which are in the text of the exception.
+
+    Examples
+    --------
+    >>> try:
+    ...     bedkeep.records("sizes", "absent.bed")
+    ... except bedkeep.Ended as ended:
+    ...     print(ended.status)
+    4
     """
 
     def __init__(self, status: int, message: str, hint: tuple[str, ...] = ()) -> None:
@@ -75,7 +120,14 @@ class Ended(Error):
 
 
 class BadOptions(Ended):
-    """Status 2: an option, a value or a column that the subcommand doesn't take. Its text has the first line of the hint."""
+    """Status 2: an option, a value or a column that the subcommand doesn't take. Its text has the first line of the hint.
+
+    Examples
+    --------
+    >>> bedkeep.genomecov("sizes", "genes.bed")
+    Traceback (most recent call last):
+    bedkeep.errors.BadOptions: ...
+    """
 
     def __str__(self) -> str:
         return ": ".join([f"{self.message} (status {self.status})", *self.hint[:1]])
@@ -84,9 +136,22 @@ class BadOptions(Ended):
 class Damaged(Ended):
     """Status 3: a line of a file is damaged.
 
-    file:   the file's name as it was given
-    line:   the line's number, from 1
-    reason: why, as the program says it
+    Attributes
+    ----------
+    file : str
+        The file's name as it was given.
+    line : int
+        The line's number, from 1.
+    reason : str
+        Why, as the program says it.
+
+    Examples
+    --------
+    >>> try:
+    ...     bedkeep.records({"chr1": 300}, "genes.bed")
+    ... except bedkeep.Damaged as damaged:
+    ...     print(damaged.file, damaged.line, damaged.reason)
+    genes.bed 2 end past the sequence's end
     """
 
     def __init__(self, status: int, message: str, hint: tuple[str, ...] = ()) -> None:
@@ -97,11 +162,24 @@ class Damaged(Ended):
 
 
 class InputOutput(Ended):
-    """Status 4: a file, the script or the output can't be read or written, or is too long."""
+    """Status 4: a file, the script or the output can't be read or written, or is too long.
+
+    Examples
+    --------
+    >>> bedkeep.records("sizes", "absent.bed")
+    Traceback (most recent call last):
+    bedkeep.errors.InputOutput: ...
+    """
 
 
 class NoMemory(Ended):
-    """Status 5: memory ran out."""
+    """Status 5: memory ran out.
+
+    Examples
+    --------
+    >>> issubclass(bedkeep.NoMemory, bedkeep.Ended)
+    True
+    """
 
 
 BY_STATUS = {2: BadOptions, 3: Damaged, 4: InputOutput, 5: NoMemory}

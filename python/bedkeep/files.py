@@ -57,10 +57,15 @@ def line_text(line: bytes) -> str:
 
 def is_plain(path: Path) -> bool:
     """Whether the program can read a file as it is, and we as often as we want."""
-    if not os.path.isfile(path):
-        return False
-    with open(path, "rb") as file:
-        return file.read(2) != GZIP
+    return os.path.isfile(path) and not is_packed(path)
+
+
+def is_packed(path: Path) -> bool:
+    """Whether gzip packed a regular file. One that can't be read isn't; who reads it says so."""
+    if os.path.isfile(path):
+        with suppress(OSError), open(path, "rb") as file:
+            return file.read(2) == GZIP
+    return False
 
 
 def plain(path: Path, folder: str) -> str:

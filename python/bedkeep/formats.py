@@ -6,9 +6,11 @@ A tail is the text of these columns, each after a TAB. Its format is known by th
     BED12        these, and blocks; more columns may follow, as after those of BED9
     narrowPeak   signalValue, pValue, qValue, and the summit, which counts from the start, or -1
     broadPeak    signalValue, pValue, qValue
+    GFF3, GTF    source, type, phase and attributes, which have the record's name
 
 All other columns are text, which nothing follows. A number alone is no thickStart: as a seventh column counts are far more common.
-The faults are what bedToBigBed of UCSC refuses in these columns and in the score, and a summit outside of its record.
+The faults are what bedToBigBed of UCSC refuses in these columns and in the score, and a summit outside of its record; of GFF3 and GTF
+a score that is no number.
 """
 from __future__ import annotations
 
@@ -22,11 +24,17 @@ DIGITS = re.compile("[0-9]{1,10}")
 WHOLE = re.compile("-?[0-9]{1,10}")
 NUMBER = re.compile(r"[-+]?(?:[0-9]+\.?[0-9]*|\.[0-9]+)(?:[eE][-+]?[0-9]+)?|[-+]?inf|nan", re.IGNORECASE)
 COLOUR = re.compile(r"0|\.|[0-9]{1,3}(?:,[0-9]{1,3}){2}")
-BED8, BED9, BED12, NARROW, BROAD, TEXT = "BED8", "BED9", "BED12", "narrowPeak", "broadPeak", ""
+BED8, BED9, BED12, NARROW, BROAD, GFF3, GTF, TEXT = "BED8", "BED9", "BED12", "narrowPeak", "broadPeak", "GFF3", "GTF", ""
 THICK = ("thickStart", "thickEnd", "itemRgb")
 SCORES = ("signalValue", "pValue", "qValue")
-NAMES = {BED8: THICK[:2], BED9: THICK, BED12: (*THICK, "blocks"), NARROW: (*SCORES, "summit"), BROAD: SCORES, TEXT: ()}
-COUNTS = {BED8: 2, BED9: 3, BED12: 6, NARROW: 4, BROAD: 3}  # of columns
+FEATURE = ("source", "type", "phase", "attributes")
+NAMES = {BED8: THICK[:2], BED9: THICK, BED12: (*THICK, "blocks"), NARROW: (*SCORES, "summit"), BROAD: SCORES, GFF3: FEATURE, GTF: FEATURE,
+         TEXT: ()}
+COUNTS = {BED8: 2, BED9: 3, BED12: 6, NARROW: 4, BROAD: 3, GFF3: 4, GTF: 4}  # of columns
+ATTRIBUTES = {GFF3: re.compile(r" *[^=; \"]+="), GTF: re.compile(r' *[\w.-]+ +[^ ;]')}  # how they begin
+OWN = {GFF3: (r"(?:^|;) *ID=([^;]*[^; ])", r"(?:^|;) *Name=([^;]*[^; ])"), GTF: (r'(?:^|;) *{}_id +"?([^";]*[^"; ])',)}  # the name
+PHASES = ("0", "1", "2")
+NAME = "%{name}"  # what `fields` has for the name within the attributes
 BLOCKS = slice(3, 6)  # the columns of a tail that have the blocks: blockCount, blockSizes, blockStarts
 HIGHEST_SCORE = 1000
 Blocks = list[tuple[int, int]]  # the starts and ends, on the sequence
@@ -50,7 +58,7 @@ class Followed(NamedTuple):
 def format_of(record: Record, tail: str) -> str:
     """The format of a record's tail: a key of NAMES."""
     columns = _columns(tail)
-    for kind in (NARROW, BED12, BED9, BED8, BROAD):
+    for kind in (NARROW, BED12, BED9, BED8, BROAD, GFF3, GTF):
         usual = len(columns) == COUNTS[kind]
         if _has_form(kind, columns) and (usual or kind in (BED9, BED12) and not _faults_of(kind, record, columns, of_tail=True)):
             return kind
@@ -61,6 +69,9 @@ def _has_form(kind: str, columns: Sequence[str]) -> bool:
     """Whether the columns are of the types that a format has, or the first ones are."""
     if len(columns) < COUNTS[kind]:
         return False
+    if kind in (GFF3, GTF):
+        is_feature = columns[2] in (*PHASES, ".") and not NUMBER.fullmatch(columns[1])
+        return is_feature and ATTRIBUTES[kind].match(columns[3]) is not None
     if kind in (NARROW, BROAD):
         return all(map(NUMBER.fullmatch, columns[:3])) and (kind == BROAD or WHOLE.fullmatch(columns[3]) is not None)
     numbers = [*columns[:2], columns[3]] if kind == BED12 else columns[:2]
@@ -100,6 +111,8 @@ def worse(old: Record, old_tail: str, new: Record, new_tail: str, allowed: Colle
 
 def _faults_of(kind: str, record: Record, columns: Sequence[str], of_tail: bool = False) -> list[Fault]:
     found = []
+    if kind in (GFF3, GTF):
+        return [] if record[4] == "." or NUMBER.fullmatch(record[4]) else [Fault("score", f"score {record[4]} is no number")]
     if kind != TEXT and not of_tail and not (DIGITS.fullmatch(record[4]) and int(record[4]) <= HIGHEST_SCORE):
         found.append(Fault("score", f"score {record[4]} is not from 0 to {HIGHEST_SCORE}"))
     if kind in (BED8, BED9, BED12):
@@ -115,8 +128,8 @@ def follow(old: Record, tail: str, new: Record, allowed: Collection[str] = ()) -
     """The tail of a record whose first six columns become others.
 
     What begins or ends where the record does follows its end: the first block, the last one, thickStart, thickEnd. All else stays
-    at its bases, the summit too. If both ends move by one distance, all moves along. What can't hold in the new record, and could
-    in the old one, is a fault; but none of an allowed kind.
+    at its bases, the summit too, and the codons of a phase. If both ends move by one distance, all moves along. The attributes of
+    GFF3 and GTF get the new name. What can't hold in the new record, and could in the old one, is a fault; but none of an allowed kind.
     """
     if not tail:
         return Followed("")
@@ -124,6 +137,8 @@ def follow(old: Record, tail: str, new: Record, allowed: Collection[str] = ()) -
     blocks, spoiled = None, ""
     if kind in (BED8, BED9, BED12):
         columns[:2] = [_moved_end(text, old, new) for text in columns[:2]]
+    if kind in (GFF3, GTF):
+        columns[2:] = [_moved_phase(columns[2], old, new), _with_name(columns[1], columns[3], old[3], new[3])]
     if not _shift(old, new):
         if kind == BED12:
             blocks = _blocks(old, columns)
@@ -155,14 +170,17 @@ def fields(record: Record, tail: str) -> dict[str, str]:
     """The columns of a record by their names, for a merge of three records field by field.
 
     The numbers of a tail are places on the sequence, so that one field changes when one thing does. `blocks` has the gaps
-    between the blocks, START-END, since the outer ends are those of the record; `summit` its base, or -1. Blocks that can't
-    hold are the text of their three columns, with spaces between these. Columns without a name are `column_7` and so on.
+    between the blocks, START-END, since the outer ends are those of the record; `summit` its base, or -1; `attributes` NAME instead
+    of the name. Blocks that can't hold are the text of their three columns, with spaces between these. Columns without a name are
+    `column_7` and so on.
     """
     kind, columns = format_of(record, tail), _columns(tail)
     if kind == BED12:
         columns[BLOCKS] = [_gaps(record, columns)]
     if kind == NARROW and int(columns[3]) >= 0:
         columns[3] = str(int(record[1]) + int(columns[3]))
+    if kind in (GFF3, GTF):
+        columns[3] = _with_name(columns[1], columns[3], record[3], NAME)
     named = NAMES[kind]
     before = WIDEST + (2 if kind == BED12 else 0)  # columns of which `blocks` has three
     names = [*named, *(f"column_{before + place + 1}" for place in range(len(named), len(columns)))]
@@ -185,6 +203,8 @@ def tail_of(named: Mapping[str, str]) -> str:
             if not start <= int(text) < end:
                 raise ValueError(f"the summit at base {text} is outside of the record")
             columns.append(str(int(text) - start))
+        elif name == "attributes":
+            columns.append(text.replace(NAME, named["name"], 1))
         elif name not in RECORD:
             columns.append(text)
     return _tail(columns)
@@ -211,6 +231,8 @@ def with_field(record: Record, tail: str, name: str, value: str) -> tuple[Record
     else:
         _refuse_value(name, value)
         columns[place + (2 if "blocks" in names[:place] else 0)] = value
+        if name in ("type", "attributes"):
+            new = (*record[:3], name_of_attributes(columns[1], columns[3]), *record[4:])
     if kind != TEXT and not _has_form(kind, columns):
         raise ValueError(f"{name} can't be {value} in {kind}")
     spoiled = worse(record, tail, new, _tail(columns))
@@ -252,6 +274,35 @@ def _refuse_value(name: str, value: str) -> None:
         raise ValueError(f"{name} is a number, and not {value}")
     if not value or re.search("[\t\r\n\0]", value):
         raise ValueError(f"{name} has to be a text without TABs and ends of lines")
+
+
+def name_of_attributes(kind: str, attributes: str) -> str:
+    """The name of a record of this type, or `.`: ID, else Name, of GFF3; in GTF what is called as the type is, such as exon_id."""
+    own = _own(kind, attributes)
+    return own[1] if own else "."
+
+
+def _own(kind: str, attributes: str) -> Optional[re.Match[str]]:
+    """Where the attributes have the name."""
+    patterns = (pattern for form, own in OWN.items() if ATTRIBUTES[form].match(attributes) for pattern in own)
+    return next(filter(None, (re.search(pattern.format(re.escape(kind)), attributes) for pattern in patterns)), None)
+
+
+def _with_name(kind: str, attributes: str, old: str, new: str) -> str:
+    """The attributes with another name instead of this one. They stay as they are if they haven't this one, or can't have the other."""
+    own = _own(kind, attributes)
+    if not own or own[1] != old:
+        return attributes
+    named = attributes[:own.start(1)] + new + attributes[own.end(1):]
+    return named if name_of_attributes(kind, named) == new else attributes
+
+
+def _moved_phase(phase: str, old: Record, new: Record) -> str:
+    """The phase by which the codons stay at their bases if the end moves that is read first; on another strand it stays."""
+    if phase not in PHASES or _shift(old, new) or old[5] != new[5] or old[5] not in ("+", "-"):
+        return phase
+    by = int(old[1]) - int(new[1]) if old[5] == "+" else int(new[2]) - int(old[2])
+    return str((int(phase) + by) % 3)
 
 
 def _columns(tail: str) -> list[str]:

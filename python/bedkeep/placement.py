@@ -16,10 +16,10 @@ from collections import Counter, defaultdict
 from collections.abc import Mapping
 from typing import BinaryIO, Callable, Iterable, Iterator, NamedTuple, Optional
 
-from .bed import is_header
 from .encoding import Path, decoded, encoded
 from .errors import Error
 from .files import line_text
+from .forms import BED, Form, is_header
 from .record import Record, split_row
 from .regions import Order, Region
 from .script import Move
@@ -38,6 +38,33 @@ class Copy:
         self.record: Optional[str] = None
 
 
+class Followed:
+    """The copies that moves take and put. Of equal ones the one that was put last is taken, and an `add` gives back the last removed.
+
+    copies: of each move the one that it is about; taken: of lines of the file, by their records, in the order in which they were
+    taken; put: what is a record now, in the order in which it was put
+    """
+
+    def __init__(self, moves: Iterable[Move]) -> None:
+        self.copies: list[Copy] = []
+        self.taken: dict[str, list[Copy]] = defaultdict(list)
+        self.put: dict[str, list[Copy]] = defaultdict(list)
+        removed: dict[Optional[str], list[Copy]] = defaultdict(list)
+        known: set[Copy] = set()
+        for old, new in moves:
+            there = removed[new] if old is None else self.put[old]
+            copy = there.pop() if there else Copy(old)
+            if old is not None and copy not in known:
+                self.taken[old].append(copy)
+            known.add(copy)
+            self.copies.append(copy)
+            copy.record = new
+            if new is not None:
+                self.put[new].append(copy)
+            elif old is not None:
+                removed[old].append(copy)
+
+
 class Plan:
     """What becomes of lines of the file, and what is added.
 
@@ -46,44 +73,24 @@ class Plan:
     """
 
     def __init__(self, moves: Iterable[Move]) -> None:
-        self._taken: dict[str, list[Copy]] = defaultdict(list)  # of lines of the file, in the order in which they were taken
-        self._put: dict[str, list[Copy]] = defaultdict(list)  # what is a record now, in the order in which it was put
-        copies = self._follow(moves)
-        counts = {record: self._count_as_lines(record) for record in self._taken}
+        self._followed = Followed(moves)
+        taken = self._followed.taken
+        counts = {record: self._count_as_lines(record) for record in taken}
         self.lines: dict[str, list[Optional[str]]] = {}
         adrift: set[Copy] = set()
         for record, count in counts.items():
-            claims = [copy for copy in self._taken[record] if copy.record != record]
+            claims = [copy for copy in taken[record] if copy.record != record]
             without = set(sorted(reversed(claims), key=lambda copy: copy.record is not None)[:count])
             adrift |= without
             if len(claims) > count:
                 self.lines[record] = [copy.record for copy in claims if copy not in without]
-        self.added = [copy.record for copy in copies if copy.record is not None and (copy.origin is None or copy in adrift)]
-
-    def _follow(self, moves: Iterable[Move]) -> Iterable[Copy]:
-        """Follows the script, and returns its copies.
-
-        Of equal ones the one that was put last is taken, and an `add` gives back the one that was removed last.
-        """
-        copies: dict[Copy, None] = {}
-        removed: dict[Optional[str], list[Copy]] = defaultdict(list)
-        for old, new in moves:
-            there = removed[new] if old is None else self._put[old]
-            copy = there.pop() if there else Copy(old)
-            if old is not None and copy not in copies:
-                self._taken[old].append(copy)
-            copies[copy] = None
-            copy.record = new
-            if new is not None:
-                self._put[new].append(copy)
-            elif old is not None:
-                removed[old].append(copy)
-        return copies
+        self.added = [copy.record for copy in dict.fromkeys(self._followed.copies)
+                      if copy.record is not None and (copy.origin is None or copy in adrift)]
 
     def _count_as_lines(self, record: str) -> int:
         """Counts copies that came from elsewhere as lines of the file that stayed, if it lost some, and returns how many."""
-        others = sorted((copy for copy in self._put[record] if copy.origin != record), key=lambda copy: copy.origin is not None)
-        count = min(len(others), sum(copy.record != record for copy in self._taken[record]))
+        others = sorted((copy for copy in self._followed.put[record] if copy.origin != record), key=lambda copy: copy.origin is not None)
+        count = min(len(others), sum(copy.record != record for copy in self._followed.taken[record]))
         for copy in others[:count]:
             copy.record = None
         return count
@@ -97,12 +104,13 @@ class Looks(NamedTuple):
 
 
 class Found(NamedTuple):
-    """A line of the file: at which byte it begins, its bytes, those at its end, and its record with all columns."""
+    """A line of the file: at which byte it begins, its bytes, those at its end, its record with all columns, and its text."""
 
     begin: int
     size: int
     end: bytes
     row: str
+    text: str
 
 
 class Change(NamedTuple):
@@ -113,10 +121,10 @@ class Change(NamedTuple):
     text: bytes
 
 
-def write_placed(path: Path, moves: Iterable[Move], looks: Looks, take: Callable[[bytes], object]) -> None:
-    """Hands on a BED file with what the moves of a script change, some bytes at a time."""
+def write_placed(path: Path, moves: Iterable[Move], looks: Looks, take: Callable[[bytes], object], form: Form = BED) -> None:
+    """Hands on a file with what the moves of a script change, some bytes at a time."""
     plan = Plan(moves)
-    changes = Placement(path, plan, looks).changes() if plan.lines or plan.added else []
+    changes = Placement(path, plan, looks, form).changes() if plan.lines or plan.added else []
     with open(path, "rb") as file:
         place = 0
         for change in changes:
@@ -136,8 +144,8 @@ def _copy(file: BinaryIO, take: Callable[[bytes], object], size: int) -> None:
 class Placement:
     """Finds the places of a plan in the file."""
 
-    def __init__(self, path: Path, plan: Plan, looks: Looks) -> None:
-        self._path, self._plan, self._looks = path, plan, looks
+    def __init__(self, path: Path, plan: Plan, looks: Looks, form: Form) -> None:
+        self._path, self._plan, self._looks, self._form = path, plan, looks, form
         self._added = [(split_row(row)[0], row) for row in plan.added]
         self._names: Optional[set[str]] = None
         with open(path, "rb") as file:
@@ -157,7 +165,7 @@ class Placement:
                 raise Error(f"{os.fspath(self._path)} has fewer lines than the session read: {row!r}")
             for line, new in zip(lines, records):
                 changed.add(line.begin)
-                changes.append(Change(line.begin, line.size, b"" if new is None else encoded(new) + line.end))
+                changes.append(Change(line.begin, line.size, b"" if new is None else encoded(self._form.line(new, line.text)) + line.end))
                 if new is not None:
                     _keep_last(last, split_row(new)[0], line)
         for record in wanted:
@@ -170,7 +178,7 @@ class Placement:
         """The added records, those of a place in track order."""
         texts: dict[Optional[Record], list[bytes]] = defaultdict(list)
         for record, row in sorted(self._added, key=lambda one: (self._looks.order.key(one[0]), one[1])):
-            texts[before[record]].append(encoded(row) + self._line_end)
+            texts[before[record]].append(encoded(self._form.line(row)) + self._line_end)
         for record_before, added in texts.items():
             if record_before is None:
                 place, ended = self._first()
@@ -183,7 +191,7 @@ class Placement:
         """Where the first record's line begins, or the file's end, and whether a line has ended there."""
         begin, ended = 0, True
         for line, row in _lines(self._path):
-            if not is_header(row):
+            if not is_header(row) or self._form.is_end(row):
                 break
             begin, ended = begin + len(line), line.endswith(b"\n")
         return begin, ended
@@ -227,22 +235,24 @@ class Placement:
     def _find(self, wanted: set[Record]) -> dict[Record, list[Found]]:
         """The lines of each record, by its first six columns."""
         found: dict[Record, list[Found]] = defaultdict(list)
-        for begin, line in self._lines({(encoded(record[0]), encoded(record[1])) for record in wanted}):
-            record, tail = split_row(line_text(line))
+        first = self._form.first
+        for begin, line in self._lines({(encoded(record[0]), str(int(record[1]) + first).encode()) for record in wanted}):
+            text = line_text(line)
+            record, tail = split_row(self._form.row(text))
             if record in wanted:
-                found[record].append(Found(begin, len(line), line[len(line.rstrip(b"\r\n")):], "\t".join(record) + tail))
+                found[record].append(Found(begin, len(line), line[len(line.rstrip(b"\r\n")):], "\t".join(record) + tail, text))
         return found
 
     def _lines(self, places: set[tuple[bytes, bytes]]) -> Iterator[tuple[int, bytes]]:
         """The lines that have one of some sequences and starts, and where they begin."""
-        begin = 0
+        begin, end, at = 0, self._form.size(self._path), self._form.place
         with open(self._path, "rb") as file:
-            while piece := file.read(PIECE) + file.readline():
+            while piece := file.read(min(PIECE, end - begin)) + file.readline() if begin < end else b"":
                 if len(places) > FEW or any(start + b"\t" in piece for _, start in places):
                     place = begin
                     for line in io.BytesIO(piece):
-                        columns = line.split(b"\t", 2)
-                        if len(columns) > 2 and (columns[0], columns[1].lstrip(b"0") or b"0") in places:
+                        columns = line.split(b"\t", at + 1)
+                        if len(columns) > at + 1 and (columns[0], columns[at].lstrip(b"0") or b"0") in places and place < end:
                             yield place, line
                         place += len(line)
                 begin += len(piece)

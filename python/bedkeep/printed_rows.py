@@ -20,6 +20,14 @@ class Row(tuple[Any, ...]):
     instead of start and end; `hits` of `intersect -c`; `second_chromosome`, `second_start` .. of `intersect -wb`; `bases` of
     getfasta; of merge `count_4`, `collapse_4` and so on, by operation and column. Positions and numbers are integers; `sum`,
     `min` and `max` are None if the program prints `.` for them. All else is text, scores too.
+
+    Examples
+    --------
+    >>> row = session.view("merge -c 4 -o count")[0]
+    >>> row
+    Row(chromosome='chr1', start=100, end=200, count_4=1)
+    >>> row.end - row.start
+    100
     """
 
     __slots__ = ()

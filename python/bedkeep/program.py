@@ -1,16 +1,21 @@
-"""The path of the program, and its environment."""
+"""The path of the program, its version, and its environment."""
 from __future__ import annotations
 
+import functools
 import os
+import re
 import shutil
+import subprocess
 import sys
 import sysconfig
 from typing import Optional
 
-from .encoding import Path
+from . import __version__
+from .encoding import Path, decoded
 from .errors import NotFound
 
 MOST = 100_000_000  # records of a file, and lines of a script: the greatest value of -limit
+SECONDS = 5  # that a program has to say its version
 
 
 def find(program: Optional[Path]) -> str:
@@ -23,6 +28,20 @@ def find(program: Optional[Path]) -> str:
     if path is None:
         raise NotFound(f"no program {name!r}: give program=.., set BEDKEEP, or put bedkeep on the path")
     return path
+
+
+@functools.lru_cache(maxsize=None)
+def other_version(path: str) -> tuple[str, ...]:
+    """What is to be said of a program of another version than this package, which may be why it refuses something; else nothing."""
+    try:
+        said = subprocess.run([path, "--version"], stdin=subprocess.DEVNULL, stdout=subprocess.PIPE, stderr=subprocess.DEVNULL,
+                              timeout=SECONDS).stdout
+    except (OSError, subprocess.TimeoutExpired):
+        return ()
+    found = re.match(r"bedkeep (\S+)", decoded(said))
+    if not found or found[1] == __version__:
+        return ()
+    return (f"the program {path} is of version {found[1]}, and the package of {__version__}",)
 
 
 def environment() -> dict[str, str]:

@@ -7,6 +7,7 @@ import operator
 import os
 import re
 from collections.abc import Mapping
+from datetime import datetime
 from itertools import islice
 from typing import Collection, Iterable, Iterator, Optional, Sequence, SupportsIndex, Union
 
@@ -17,7 +18,9 @@ from .record import record_of
 EDITS = {"add", "remove", "replace", "addb", "removeb", "replaceb"}
 VIEWS = {"open", "close", "print", "printall", "show", "showall"}
 TOGETHER = "together:"
-MARKER = re.compile(r"#\s*(?:(?:was|conflict|dropped):|[a-z ]+, was:|(?:[^\t]*: )?(?:(?:add|remove|replace)b?|resize)\t)")
+MARKER = re.compile(r"#\s*(?:(?:was|conflict|dropped|not lifted):|[a-z ]+, was:|"
+                    r"(?:[^\t]*: )?(?:(?:add|remove|replace)b?|resize|show(?:all)?)\t)")
+SIGNATURE = re.compile(r"# signed: (\S(?:.*\S)?) (\d{4}-\d\d-\d\dT\d\d:\d\d:\d\d[+-]\d\d:\d\d)")  # a name, and when
 INVERSE = {"add": "remove", "remove": "add", "replace": "replace",
            "addb": "removeb", "removeb": "addb", "replaceb": "replaceb"}
 Move = tuple[Optional[str], Optional[str]]  # the record that a line took out, and the one that it put in
@@ -29,14 +32,33 @@ def is_marker(text: str) -> bool:
     return bool(MARKER.match(text))
 
 
+def is_signature(text: str) -> bool:
+    """Whether a line of a script says who accepted those below it: it begins a paragraph, above the reason."""
+    return bool(SIGNATURE.fullmatch(text))
+
+
 def is_reason(text: str) -> bool:
     """Whether a line of a script is a comment on those below it."""
-    return text.startswith("#") and not is_marker(text)
+    return text.startswith("#") and not is_marker(text) and not is_signature(text)
 
 
 def is_together(text: str) -> bool:
     """Whether it is the comment below which the lines of a paragraph are done whole or not at all."""
     return text.startswith("#") and text[1:].strip().startswith(TOGETHER)
+
+
+def comments_of(reasons: Iterable[str]) -> list[str]:
+    """Reasons as comments, of which none is taken for a marker or a signature."""
+    comments = [f"# {reason}".rstrip().replace("\t", " ").replace("\0", "") for reason in reasons]
+    return [comment if is_reason(comment) else f'# "{comment[2:]}"' for comment in comments]
+
+
+def signature(name: str) -> str:
+    """The line of a script that says who accepts those below it, now. ValueError if that can't be a name."""
+    text = f"# signed: {name} {datetime.now().astimezone().isoformat(timespec='seconds')}"
+    if re.search(r"[\t\r\n\0]", name) or not is_signature(text):
+        raise ValueError(f"a name is one line without TABs and without spaces around it, and not {name!r}")
+    return text
 
 
 def text_of(field: object) -> str:
@@ -108,10 +130,10 @@ def is_edit(line: str) -> bool:
 
 
 def paragraphs(lines: Sequence[str]) -> Iterator[range]:
-    """The places of the lines of each paragraph: comments, the edits below them, and the empty line after these."""
+    """The places of the lines of each paragraph: signature, comments, the edits below them, and the empty line after these."""
     begin, edits = 0, False
     for place, line in enumerate(lines):
-        if is_reason(line) and edits:
+        if (is_reason(line) or is_signature(line)) and edits:
             yield range(begin, place)
             begin, edits = place, False
         edits = edits or is_edit(line)
@@ -271,7 +293,7 @@ class Script:
         kind = self._kinds[-1] if self._kinds else Kind.PLAIN
         begun = bool(self._lines) and is_reason(self._lines[-1])
         for line in lines:
-            if not line or kind is Kind.SEPARATOR:
+            if not line or kind is Kind.SEPARATOR or is_signature(line):
                 kind = Kind.PLAIN
             below, begun = begun, is_reason(line)
             if begun:

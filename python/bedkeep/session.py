@@ -1,37 +1,45 @@
 """A session: a track that is edited line by line while views of it stay open."""
+# mypy: disable-error-code="import"
 from __future__ import annotations
 
 import functools
 import html
 import os
 import re
+import tempfile
 import threading
 from collections import Counter
 from collections.abc import Mapping
 from heapq import nsmallest
 from types import MappingProxyType
-from typing import Any, Callable, Iterable, Iterator, NamedTuple, Optional, Sequence, TypeVar, Union, cast
+from typing import TYPE_CHECKING, Any, Callable, Iterable, Iterator, NamedTuple, Optional, Sequence, TypeVar, Union, cast
 
-from .arguments import Genome, Sources, Track, path_of
-from .bed import headers_of, lengths_of, width_of
+from .arguments import Sources
+from .bed import lengths_of, width_of
 from .changes import Copies
 from .conversation import Answer, Conversation, Take
 from .encoding import Path, decoded, encoded
 from .errors import Ended, Error, Refused
-from .files import is_plain, same_file, stamp, whole
+from .files import plain, same_file, stamp, whole
+from .forms import BED, headers_of
+from .given import SCORE, Genome, Track, path_of, score_of
 from .interrupts import Interrupts
 from .placement import Looks, write_placed
 from .printed_rows import RECORD, Lines, Reader, Row, lines_with, row_of, shows_second
-from .program import find
+from .program import find, other_version
 from .record import NARROWEST, WIDEST, Record, record_of
 from .regions import Order, Region, Regions, absent
-from .script import TOGETHER, Script, accepted, edits_of, is_edit, line_of, pieces_of, text_of
-from .tables import SCORE, frame_of_text, is_table, score_of
+from .script import TOGETHER, Move, Script, accepted, edits_of, is_edit, line_of, pieces_of, text_of
+from .tables import frame_of_text
 from .wide_session import Wide, WideScript
+
+if TYPE_CHECKING:
+    from pandas import DataFrame
 
 Columns = Iterable[Union[str, int]]
 STANDARD_INPUT = {"/dev/stdin", "/dev/fd/0", "/proc/self/fd/0"}
 OPENED = "view:"  # how the names of views begin that `view` opens
+UNKNOWN = "no such command or wrong fields"  # also how a program refuses what a later version knows
 UNDONE = "not done, since line"  # how the refusal of a line begins whose group has one that is refused
 LONGEST = 1 << 32  # more than a sequence can have
 HEADED = re.compile("^#(.*)\n", re.MULTILINE)  # the line above the rows of a view, of several
@@ -68,74 +76,107 @@ class Seen(NamedTuple):
 class Session:
     """A track over a genome file, edited by lines of a script, and views of it.
 
-    genome, bed: the files; second: the second file, for intersect, subtract and the edits of it; fasta: for getfasta;
-    width: the number of columns of a BED file without a record; limit: how many records a file may have, and how many lines may
-    be sent, one more a call: 4,000,000 if it isn't given, at most 100,000,000. No file is ever changed. A genome may be a dict of
-    lengths, and a BED file a DataFrame of pandas. wide: takes files of more than six columns, packed by gzip or not. The columns from
-    the seventh on go along with their records, and `records` and `save` have them. A line that gives them names a record by all
-    columns, one that gives six leaves them, moved by the rules of BED12 and narrowPeak; a line after which they can't hold is
-    refused, and the line that would fit is in its hint. leave_blocks: it is done, they are left, and `warnings` has it.
-
     Records are columns, `add("chr1", 10, 20)`, or one sequence of them, `add(("chr1", 10, 20))`: as many as the file has,
     `width`. Start counts from 0, and end is not included. A line that is refused raises Refused and changes nothing. If the
     program ends, the call raises Ended, and so does each call after it; `script()` still has what the calls before it did.
 
     An interrupt (Ctrl-C) is raised once the answer that was begun is complete, and the session can be used on. A second
-    interrupt closes it. Threads may share a session: a call waits until that of another is over. A process that was forked
-    can't use it. The program ends with `close`, at the end of `with`, or when nobody holds the session any more.
+    interrupt closes it, and so does the first one while the files are read. Threads may share a session: a call waits until that of
+    another is over. A process that was forked can't use it. The program ends with `close`, at the end of `with`, or when nobody
+    holds the session any more.
 
-    `len` is the number of records, and `in` asks whether a record is there.
+    Parameters
+    ----------
+    genome : Genome
+        The genome file, packed by gzip or not, or the length of each chromosome, as a dict, a table or pairs.
+    bed : Track
+        The BED file, packed by gzip or not, a table, or rows, such as those of a run. No file is ever changed.
+    second : Track, optional
+        The second file, for intersect, subtract and the edits of it.
+    fasta : path, optional
+        The bases, for getfasta.
+    width : int, optional
+        The number of columns of a BED file without a record.
+    program : path, optional
+        The program, instead of the one that is found.
+    wide : bool, optional
+        Takes files of more than six columns, and GFF3 and GTF. The columns from the seventh on go along with their records,
+        and `records` and `save` have them. A line that gives them names a record by all columns, one that gives six leaves them,
+        moved by the rules of BED12 and narrowPeak; a line after which they can't hold is refused, and the line that would fit is
+        in its hint.
+    leave_blocks : bool, optional
+        Such a line is done, the columns are left, and `warnings` has it.
+    limit : int, optional
+        How many records a file may have, and how many lines may be sent, one more a call: 4,000,000 if it isn't given, at most
+        100,000,000.
+
+    Raises
+    ------
+    BadOptions, Damaged, InputOutput, NoMemory
+        The files can't be used.
+    NotFound
+        The program isn't there.
+
+    Examples
+    --------
+    >>> with bedkeep.Session("sizes", "genes.bed") as session:
+    ...     session.replace(("chr1", 100, 200, "geneA"), ("chr1", 100, 250, "geneA"))
+    ...     session.view("merge -d 50")
+    [Row(chromosome='chr1', start=100, end=400)]
     """
 
     def __init__(self, genome: Genome, bed: Track, second: Optional[Track] = None, fasta: Optional[Path] = None,
                  width: Optional[int] = None, program: Optional[Path] = None, wide: bool = False,
                  leave_blocks: bool = False, limit: Optional[int] = None) -> None:
-        self._wide = Wide(bed, second, width, leave_blocks) if wide else None
         self._named: dict[str, list[str]] = {}
         self._opened = 0
         self._count: Optional[int] = None  # of the records before all edits, once it is asked for
         self._lock = threading.RLock()
         self._refused: list[Refused] = []  # of the last call of `edit`
         with Sources() as sources:
-            self._files = {"-g": sources.genome(genome), "-i": sources.track(bed)}
+            given = {"-i": sources.track(bed)}
             if second is not None:
-                self._files["-b"] = sources.track(second)
+                given["-b"] = sources.track(second)
+            self._wide = Wide(given, sources.names, width, leave_blocks) if wide else None
+            read = self._wide.narrow if self._wide else {option: sources.unpacked(path) for option, path in given.items()}
+            sources.names.update((path, sources.name_of(given[option])) for option, path in read.items() if path != given[option])
+            files = {"-g": sources.kept(sources.genome(genome)), **read}
             if fasta is not None:
-                self._files["-fi"] = path_of(fasta)
-            if self._wide:
-                self._files.update(self._wide.narrow)
-                sources.names.update(zip(self._wide.narrow.values(), self._wide.given.values()))
-            if STANDARD_INPUT.intersection(self._files.values()):
+                files["-fi"] = path_of(fasta)
+            if STANDARD_INPUT.intersection(files.values()):
                 raise ValueError("standard input of a session is its script")
-            self._files["-g"] = sources.kept(self._files["-g"])
-            words = [find(program), "session", *(word for option in self._files.items() for word in option)]
+            if self._wide and self._wide.form is not BED:
+                width = self._wide.width
+            self._program = find(program)
+            words = [self._program, "session", *(word for option in files.items() for word in option)]
             if width is not None:
                 words += ["-width", str(min(width, WIDEST) if wide else width)]
             if limit is not None:
                 words += ["-limit", str(limit)]
-            self._source = self._wide.source if self._wide else None if is_table(bed) else self._files["-i"]
+            self._source = None if given["-i"] in sources.texts else self._wide.source if self._wide else given["-i"]
             self._source_read = stamp(self._source) if self._source else None
             if self._source_read is None:
                 self._source = None
-            genome_read = stamp(self._files["-g"])
+            genome_read = stamp(files["-g"])
             self._talk = Conversation(words, sources.descriptors)
             try:
                 self.width = self._find_width("remove", loads=True)
-                if stamp(self._files["-g"]) != genome_read:
-                    raise Error(f"{self._files['-g']} was written while it was read")
-                lengths = lengths_of(self._files["-g"])
+                if stamp(files["-g"]) != genome_read:
+                    raise Error(f"{files['-g']} was written while it was read")
+                lengths = lengths_of(files["-g"])
             except Ended as failure:
                 self.end()
-                if not wide and any(map(needs_wide, (bed, second))):
-                    failure.hint = ("wide=True takes files of more than six columns, and those that gzip packed",)
-                raise sources.renamed(failure) from None
+                if not wide and any(map(needs_wide, given.values())):
+                    failure.hint = ("wide=True takes files of more than six columns",)
+                raise sources.renamed(failure, self._program) from None
             except BaseException:
                 self.end()
                 raise
+            self._second_width = width_of(read["-b"]) or 0 if "-b" in read else 0
             sources.free()
         self._script = self._wide.script(lengths) if self._wide else Script(lengths)
-        if self._wide:
-            self._files.update(self._wide.given)
+        self._inputs = [sources.name_of(path) for path in {**files, **given}.values() if path not in sources.texts]
+        self._name = sources.name_of(files["-i"])
 
     def __enter__(self) -> Session:
         return self
@@ -144,7 +185,14 @@ class Session:
         self.end()
 
     def end(self) -> None:
-        """Ends the session. `script()` can be called afterwards. In a process that was forked it does nothing."""
+        """Ends the session. `script()` can be called afterwards. In a process that was forked it does nothing.
+
+        Examples
+        --------
+        >>> session.end()
+        >>> session.script()
+        ''
+        """
         if self._talk.is_forked:
             return
         with self._lock:
@@ -154,7 +202,13 @@ class Session:
 
     @alone
     def __len__(self) -> int:
-        """The number of records."""
+        """The number of records.
+
+        Examples
+        --------
+        >>> len(session)
+        2
+        """
         added = self._copies(second=False).added
         if self._count is None:
             self._count = self._printed().count(b"\n") - added
@@ -165,21 +219,49 @@ class Session:
         return True
 
     def __iter__(self) -> Iterator[Row]:
-        """All records, as `records` has them."""
+        """All records, as `records` has them.
+
+        Examples
+        --------
+        >>> [record.name for record in session]
+        ['geneA', 'geneB']
+        """
         return iter(self.records())
 
     def __contains__(self, record: Columns) -> bool:
-        """Whether the track has the record. The program is asked to replace it by itself, which changes nothing."""
+        """Whether the track has the record. The program is asked to replace it by itself, which changes nothing.
+
+        Parameters
+        ----------
+        record : sequence of str or int
+            All its columns: start counts from 0, and end is not included.
+
+        Examples
+        --------
+        >>> ("chr1", 100, 200, "geneA") in session
+        True
+        """
         columns = _columns(record)
         return not self._send(line_of("replace", *columns, *columns))
 
     def has_second(self, record: Columns) -> bool:
-        """Whether the second file has the record. False if there is no such file."""
+        """Whether the second file has the record. False if there is no such file.
+
+        Parameters
+        ----------
+        record : sequence of str or int
+            All its columns: start counts from 0, and end is not included.
+
+        Examples
+        --------
+        >>> session.has_second(("chr1", 150, 350))
+        True
+        """
         columns = _columns(record)
         return not self._send(line_of("replaceb", *columns, *columns))
 
     def __repr__(self) -> str:
-        return f"<bedkeep.Session of {self._files['-i']}: {', '.join(self._state())}>"
+        return f"<bedkeep.Session of {self._name}: {', '.join(self._state())}>"
 
     @alone
     def _repr_html_(self) -> str:
@@ -189,46 +271,179 @@ class Session:
                           for one in self._refused[:10])
         if refused:
             refused = f"<p>{len(self._refused)} refused</p><table>{refused}</table>"
-        return f"<b>bedkeep session of {html.escape(self._files['-i'])}</b>: {', '.join(self._state())}<table>{edits}</table>{refused}"
+        return f"<b>bedkeep session of {html.escape(self._name)}</b>: {', '.join(self._state())}<table>{edits}</table>{refused}"
 
     # Edits
 
     def add(self, *record: Union[str, int, Columns]) -> None:
-        """Puts a copy of the record into the track."""
+        """Puts a copy of the record into the track.
+
+        Parameters
+        ----------
+        *record : str or int, or one sequence of these
+            Its columns: chromosome, start (from 0), end (not included), and name, score and strand if the file has them.
+
+        Raises
+        ------
+        Refused
+            A column is damaged, there are too few or too many, the end is past that of the chromosome, or the track is full.
+
+        Examples
+        --------
+        >>> session.add("chr1", 390, 500, "geneC")
+        >>> session.add("chr2", 400, 501, "geneD")
+        Traceback (most recent call last):
+        bedkeep.errors.Refused: line 1: end past the sequence's end: ...
+        """
         self._edit("add", record)
 
     def remove(self, *record: Union[str, int, Columns]) -> None:
-        """Takes a copy of the record out of the track. All columns count."""
+        """Takes a copy of the record out of the track. All columns count.
+
+        Parameters
+        ----------
+        *record : str or int, or one sequence of these
+            Its columns: start counts from 0, and end is not included.
+
+        Raises
+        ------
+        Refused
+            The track has no such record.
+
+        Examples
+        --------
+        >>> session.remove("chr1", 100, 200, "geneA")
+        >>> session.remove("chr1", 100, 200, "geneA")
+        Traceback (most recent call last):
+        bedkeep.errors.Refused: line 1: no such record: ...
+        """
         self._edit("remove", record)
 
     def replace(self, old: Columns, new: Columns) -> None:
-        """Takes a copy of one record out of the track and puts one of another in."""
+        """Takes a copy of one record out of the track and puts one of another in.
+
+        Parameters
+        ----------
+        old, new : sequence of str or int
+            All columns of both: start counts from 0, and end is not included.
+
+        Raises
+        ------
+        Refused
+            The track has no such record, or the new one is refused as `add` would. The old one is there then.
+
+        Examples
+        --------
+        >>> session.replace(("chr1", 100, 200, "geneA"), ("chr1", 100, 250, "geneA"))
+        """
         self._send_one(line_of("replace", *_columns(old), *_columns(new)), done=self._script.add)
 
     def add_second(self, *record: Union[str, int, Columns]) -> None:
-        """`add` for the second file."""
+        """`add` for the second file.
+
+        Parameters
+        ----------
+        *record : str or int, or one sequence of these
+            Its columns: start counts from 0, and end is not included.
+
+        Raises
+        ------
+        Refused
+            As by `add`, or there is no second file.
+
+        Examples
+        --------
+        >>> session.add_second("chr1", 0, 50)
+        """
         self._edit("addb", record)
 
     def remove_second(self, *record: Union[str, int, Columns]) -> None:
-        """`remove` for the second file."""
+        """`remove` for the second file.
+
+        Parameters
+        ----------
+        *record : str or int, or one sequence of these
+            Its columns: start counts from 0, and end is not included.
+
+        Raises
+        ------
+        Refused
+            As by `remove`, or there is no second file.
+
+        Examples
+        --------
+        >>> session.remove_second("chr1", 150, 350)
+        """
         self._edit("removeb", record)
 
     def replace_second(self, old: Columns, new: Columns) -> None:
-        """`replace` for the second file."""
+        """`replace` for the second file.
+
+        Parameters
+        ----------
+        old, new : sequence of str or int
+            All columns of both: start counts from 0, and end is not included.
+
+        Raises
+        ------
+        Refused
+            As by `replace`, or there is no second file.
+
+        Examples
+        --------
+        >>> session.replace_second(("chr1", 150, 350), ("chr1", 150, 360))
+        """
         self._send_one(line_of("replaceb", *_columns(old), *_columns(new)), done=self._script.add)
 
     def resize(self, chromosome: str, length: int) -> None:
-        """Corrects the length of a chromosome."""
+        """Corrects the length of a chromosome.
+
+        Parameters
+        ----------
+        chromosome : str
+            Its name in the genome.
+        length : int
+            The number of its bases.
+
+        Raises
+        ------
+        Refused
+            The genome has no such chromosome, or a record ends past the length.
+
+        Examples
+        --------
+        >>> session.resize("chr2", 600)
+        """
         self._send_one(line_of("resize", chromosome, length), done=self._script.add)
 
     @alone
     def edit(self, lines: Union[str, Iterable[str]], strict: bool = False) -> list[Refused]:
-        """Carries out the edits of a script, all at once, and returns what was refused; all other lines are done.
+        r"""Carries out the edits of a script, all at once, and returns what was refused; all other lines are done.
 
         The lines of a paragraph below a comment that begins with `# together:` are done whole, or none of them is.
 
-        lines: the text of a script, an open file, or any lines: `add`, TAB, `chr1` .. Comments are part of `script()`.
-        strict: raises the first one that was refused instead; its `others` are those after it.
+        Parameters
+        ----------
+        lines : str or iterable of str
+            The text of a script, an open file, or any lines. Comments are part of `script()`.
+        strict : bool, optional
+            Raises the first one that was refused instead; its `others` are those after it.
+
+        Returns
+        -------
+        list of Refused
+            Each with its line, the number of the line from 1, and the reason.
+
+        Raises
+        ------
+        Refused
+            If it is strict.
+
+        Examples
+        --------
+        >>> refused = session.edit("add\tchr1\t390\t500\tgeneC\nremove\tchr1\t300\t401\tgeneB\n")
+        >>> [(one.number, one.reason) for one in refused]
+        [(2, 'no such record')]
         """
         self._refused = self._carry_out(edits_of(lines))
         if strict and self._refused:
@@ -238,7 +453,28 @@ class Session:
 
     @alone
     def edit_together(self, lines: Union[str, Iterable[str]], reason: str = "") -> None:
-        """Carries out edits whole, with their reason, or raises the first Refused and does none. `undo` takes all back."""
+        r"""Carries out edits whole, with their reason, or raises the first Refused and does none. `undo` takes all back.
+
+        Parameters
+        ----------
+        lines : str or iterable of str
+            Edits alone, without a comment or an empty line.
+        reason : str, optional
+            A comment above them.
+
+        Raises
+        ------
+        Refused
+            One of them is refused.
+        ValueError
+            One of them is no edit.
+
+        Examples
+        --------
+        >>> session.edit_together("remove\tchr1\t100\t200\tgeneA\nremove\tchr1\t300\t400\tgeneB", "both are repeats")
+        >>> len(session)
+        0
+        """
         text = edits_of(lines)
         if not all(map(is_edit, text.split("\n")[:-1])):
             raise ValueError("an empty line or a comment among lines that are done together")
@@ -252,10 +488,38 @@ class Session:
 
     @alone
     def edit_seen(self, lines: Union[str, Iterable[str]], region: Optional[Region] = None, keep: bool = True) -> Seen:
-        """Carries out edits as `edit` does, and has the rows of all open views before and after them, as `show_all` has them.
+        r"""Carries out edits as `edit` does, and has the rows of all open views before and after them, as `show_all` has them.
 
-        That is one exchange with the program. keep: whether the edits stay; else another exchange takes all of them back. No rows
-        come of a region that isn't there before and after. ValueError for lines among which some, not all, are done together.
+        That is one exchange with the program.
+
+        Parameters
+        ----------
+        lines : str or iterable of str
+            The edits.
+        region : tuple of str, int, int, optional
+            Chromosome, start (from 0) and end (not included). No rows come of a region that isn't there before and after.
+        keep : bool, optional
+            Whether the edits stay; else another exchange takes all of them back.
+
+        Returns
+        -------
+        Seen
+            `refused`, `before`, `after`, `inverse` and `warnings`.
+
+        Raises
+        ------
+        ValueError
+            Some of the lines, not all, are done together.
+
+        Examples
+        --------
+        >>> session.watch("merge")
+        'merge'
+        >>> seen = session.edit_seen("add\tchr1\t200\t300\tgeneC", ("chr1", 0, 1000), keep=False)
+        >>> seen.after["merge"]
+        'chr1\t100\t400\n'
+        >>> len(session)
+        2
         """
         text = edits_of(lines)
         is_group = [is_group for _, is_group in pieces_of(text)] or [False]
@@ -282,9 +546,20 @@ class Session:
 
     @alone
     def undo(self) -> str:
-        """Takes the last accepted edit back by the one that reverses it, and returns its line; of a group all its lines.
+        r"""Takes the last accepted edit back by the one that reverses it, and returns its line; of a group all its lines.
 
-        The comments directly above go with it. IndexError if there is no edit.
+        The comments directly above go with it.
+
+        Raises
+        ------
+        IndexError
+            There is no edit.
+
+        Examples
+        --------
+        >>> session.remove("chr1", 100, 200, "geneA")
+        >>> session.undo()
+        'remove\tchr1\t100\t200\tgeneA'
         """
         places = self._script.last()
         undone = "\n".join(self._script.lines()[place] for place in places)
@@ -293,44 +568,154 @@ class Session:
 
     @alone
     def inverse(self) -> str:
-        """The lines that `undo` would send, each with its end. IndexError if there is no edit."""
+        r"""The lines that `undo` would send, each with its end.
+
+        Raises
+        ------
+        IndexError
+            There is no edit.
+
+        Examples
+        --------
+        >>> session.remove("chr1", 100, 200, "geneA")
+        >>> session.inverse()
+        'add\tchr1\t100\t200\tgeneA\n'
+        """
         return "".join(self._script.reverse(place) for place in reversed(self._script.last()))
 
     @alone
     def inverse_of(self, first: int, count: int) -> list[str]:
-        """The lines that take back some edits, if none after them is about their records. first: the number of edits before them"""
+        r"""The lines that take back some edits, if none after them is about their records.
+
+        Parameters
+        ----------
+        first : int
+            The number of edits before them.
+        count : int
+            How many they are.
+
+        Examples
+        --------
+        >>> session.remove("chr1", 100, 200, "geneA")
+        >>> session.remove("chr1", 300, 400, "geneB")
+        >>> session.inverse_of(0, 1)
+        ['add\tchr1\t100\t200\tgeneA']
+        """
         places = [place for place, line in enumerate(self._script.lines()) if is_edit(line)][first:first + count]
         return [self._script.reverse(place).rstrip("\n") for place in reversed(places)]
 
     @alone
     def explain(self, reason: str) -> None:
-        """Puts the reason for the last accepted edit, or its group, above it, as a comment. IndexError if there is no edit."""
+        """Puts the reason for the last accepted edit, or its group, above it, as a comment.
+
+        Parameters
+        ----------
+        reason : str
+            Each of its lines becomes one of the comment.
+
+        Raises
+        ------
+        IndexError
+            There is no edit.
+
+        Examples
+        --------
+        >>> session.remove("chr1", 100, 200, "geneA")
+        >>> session.explain("it is a repeat")
+        >>> print(session.script(), end="")
+        # it is a repeat
+        remove  chr1  100  200  geneA
+        """
         self._script.explain(reason)
 
     @alone
     def script(self) -> str:
-        """The accepted edits, in their order, as the text of a script; without those that `undo` took back."""
+        """The accepted edits, in their order, as the text of a script; without those that `undo` took back.
+
+        Examples
+        --------
+        >>> session.remove("chr1", 100, 200, "geneA")
+        >>> print(session.script(), end="")
+        remove  chr1  100  200  geneA
+        """
         return "".join(f"{line}\n" for line in self._script.lines())
 
     def warnings(self) -> list[tuple[str, str]]:
-        """What of the columns from the seventh on can't hold any more, such as a thickEnd, after the line that left it so."""
+        """What of the columns from the seventh on can't hold any more, such as a thickEnd, after the line that left it so.
+
+        Examples
+        --------
+        >>> session.warnings()
+        []
+        """
         return self._script.warnings if isinstance(self._script, WideScript) else []
 
     # Views
 
     @alone
     def open(self, name: str, words: str) -> None:
-        """Opens a view, such as `merge -d 10`, under a name."""
+        """Opens a view under a name.
+
+        Parameters
+        ----------
+        name : str
+            What `rows` and `close` call it.
+        words : str
+            Its subcommand and options, such as `merge -d 10`.
+
+        Raises
+        ------
+        Refused
+            An option is wrong, the name is taken, or too many views are open.
+
+        Examples
+        --------
+        >>> session.open("blocks", "merge -d 100")
+        >>> session.rows("blocks")
+        [Row(chromosome='chr1', start=100, end=400)]
+        """
         listed = _words(words)
         self._send_one(line_of("open", name, " ".join(listed)), done=lambda _: self._named.update({name: listed}))
 
     @alone
     def watch(self, words: str) -> str:
-        """Opens a view if none is open with these options, and returns them, by which `show_all` has its rows."""
+        """Opens a view if none is open with these options, and returns them, by which `show_all` has its rows.
+
+        Parameters
+        ----------
+        words : str
+            Its subcommand and options, such as `merge -d 10`.
+
+        Raises
+        ------
+        Refused
+            An option is wrong, or too many views are open.
+
+        Examples
+        --------
+        >>> session.watch("merge  -d 100")
+        'merge -d 100'
+        """
         return " ".join(self._named[self._view(words)])
 
     def close(self, name: Optional[str] = None) -> None:
-        """Closes a view, or ends the session."""
+        """Closes a view, or ends the session.
+
+        Parameters
+        ----------
+        name : str, optional
+            The name of the view. Without it the session ends.
+
+        Raises
+        ------
+        Refused
+            No view of that name is open.
+
+        Examples
+        --------
+        >>> session.open("blocks", "merge")
+        >>> session.close("blocks")
+        """
         if name is None:
             self.end()
             return
@@ -339,33 +724,132 @@ class Session:
 
     @alone
     def rows(self, name: str) -> list[Row]:
-        """The rows of an open view, as the records are now."""
+        """The rows of an open view, as the records are now.
+
+        Parameters
+        ----------
+        name : str
+            The name that it was opened under.
+
+        Raises
+        ------
+        Refused
+            No view of that name is open.
+
+        Examples
+        --------
+        >>> session.open("depth", "genomecov -bg")
+        >>> session.add("chr1", 150, 200, "geneC")
+        >>> session.rows("depth")[1]
+        Row(chromosome='chr1', start=150, end=200, depth=2)
+        """
         return self._rows(name, line_of("print", name))
 
     @alone
     def view(self, words: str) -> list[Row]:
-        """The rows of a view, such as `merge -d 10`. It stays open, so that the next look at it is a print."""
+        """The rows of a view. It stays open, so that the next look at it is a print.
+
+        Parameters
+        ----------
+        words : str
+            Its subcommand and options, such as `merge -d 10`.
+
+        Returns
+        -------
+        list of Row
+            Start counts from 0, and end is not included; `position` of `genomecov -d` counts from 1.
+
+        Raises
+        ------
+        Refused
+            An option is wrong, or too many views are open.
+
+        Examples
+        --------
+        >>> session.view("intersect")[0]
+        Row(chromosome='chr1', start=150, end=200, name='geneA')
+        """
         return self.rows(self._view(words))
 
     @alone
     def show(self, words: str, chromosome: str, start: int, end: int) -> list[Row]:
-        """The rows of a view, such as `merge -d 10`, that share a position with an interval of a chromosome, whole.
+        """The rows of a view that share a position with an interval of a chromosome, whole.
 
-        Of records, cluster, intersect, subtract and getfasta: the rows of the records that do so. The view stays open, as by `view`.
+        Of records, cluster, intersect, subtract and getfasta: the rows of the records that do so. The view stays open, as by
+        `view`.
+
+        Parameters
+        ----------
+        words : str
+            Its subcommand and options, such as `merge -d 10`.
+        chromosome : str
+            The chromosome.
+        start, end : int
+            The interval: start counts from 0, and end is not included.
+
+        Raises
+        ------
+        Refused
+            An option or the interval is wrong, or too many views are open.
+
+        Examples
+        --------
+        >>> session.show("merge", "chr1", 199, 300)
+        [Row(chromosome='chr1', start=100, end=200)]
         """
         name = self._view(words)
         return self._rows(name, line_of("show", name, chromosome, start, end))
 
     @alone
     def stream(self, words: str, take: Callable[[bytes], object], region: Optional[Region] = None) -> None:
-        """Hands on the rows of a view, or those of a region, as the program prints them: some whole lines at a time."""
+        r"""Hands on the rows of a view, or those of a region, as the program prints them: some whole lines at a time.
+
+        Parameters
+        ----------
+        words : str
+            Its subcommand and options, such as `merge -d 10`.
+        take : callable
+            What is called with some lines, as bytes.
+        region : tuple of str, int, int, optional
+            Chromosome, start (from 0) and end (not included).
+
+        Raises
+        ------
+        Refused
+            An option or the region is wrong, or too many views are open.
+
+        Examples
+        --------
+        >>> session.stream("merge", print, ("chr1", 0, 200))
+        b'chr1\t100\t200\n'
+        """
         name, lines = self._view(words), Lines()
         line = line_of("show", name, *region) if region else line_of("print", name)
         self._send_one(line, lambda piece: take(lines.whole(piece)))
 
     @alone
     def show_all(self, chromosome: str, start: int, end: int) -> dict[str, str]:
-        """The rows of each open view that `show` gives, by its options, as text: as the program prints them, each with its end."""
+        r"""The rows of each open view that `show` gives, by its options, as text: as the program prints them, each with its end.
+
+        Parameters
+        ----------
+        chromosome : str
+            The chromosome.
+        start, end : int
+            The interval: start counts from 0, and end is not included.
+
+        Raises
+        ------
+        Refused
+            The interval is wrong.
+
+        Examples
+        --------
+        >>> session.watch("merge")
+        'merge'
+        >>> session.show_all("chr1", 0, 200)
+        {'merge': 'chr1\t100\t200\n'}
+        """
         printed: list[bytes] = []
         if self._named:
             self._send_one(line_of("showall", chromosome, start, end), printed.append)
@@ -373,7 +857,13 @@ class Session:
 
     @alone
     def records(self) -> list[Row]:
-        """All records in the order of the genome file."""
+        """All records in the order of the genome file.
+
+        Examples
+        --------
+        >>> session.records()[1]
+        Row(chromosome='chr1', start=300, end=400, name='geneB')
+        """
         rows: list[Row] = []
         reader = Reader(["records"], self.width)
         self._print_track(lambda lines: rows.extend(reader.rows(lines)))
@@ -383,7 +873,24 @@ class Session:
     def region(self, chromosome: str, start: int = 0, end: Optional[int] = None) -> list[Row]:
         """The records that overlap an interval, or all of a chromosome, in their order.
 
-        An end past that of the chromosome is taken for it. ValueError if the genome has no such chromosome or position.
+        Parameters
+        ----------
+        chromosome : str
+            The chromosome.
+        start : int, optional
+            Where the interval begins, from 0.
+        end : int, optional
+            Where it ends, not included. One past that of the chromosome is taken for it.
+
+        Raises
+        ------
+        ValueError
+            The genome has no such chromosome or position.
+
+        Examples
+        --------
+        >>> session.region("chr1", 350)
+        [Row(chromosome='chr1', start=300, end=400, name='geneB')]
         """
         if end is None:
             end = LONGEST
@@ -397,8 +904,20 @@ class Session:
     def around(self, regions: Iterable[Region]) -> Counter[Record]:
         """The number of copies of each record that overlaps any of the regions, by one exchange with the program.
 
-        A region is chromosome, start, end; what of it isn't in the genome is left out. Records are tuples of text, of at most
-        six columns.
+        Parameters
+        ----------
+        regions : iterable of tuples of str, int, int
+            Chromosome, start (from 0) and end (not included); what of a region isn't in the genome is left out.
+
+        Returns
+        -------
+        Counter
+            Its records are tuples of text, of at most six columns.
+
+        Examples
+        --------
+        >>> session.around([("chr1", 0, 150), ("chr2", 0, 500)])
+        Counter({('chr1', '100', '200', 'geneA'): 1})
         """
         asked = Regions(regions, self.lengths)
         rows: Counter[bytes] = Counter()
@@ -415,12 +934,34 @@ class Session:
 
     @alone
     def find(self, name: str) -> list[Row]:
-        """The records of that name, in their order."""
+        """The records of that name, in their order.
+
+        Parameters
+        ----------
+        name : str
+            The whole name.
+
+        Examples
+        --------
+        >>> session.find("geneB")
+        [Row(chromosome='chr1', start=300, end=400, name='geneB')]
+        """
         return self._rows_of(record for record in self._with(name) if record[3] == name)
 
     @alone
     def named(self, names: Iterable[str]) -> dict[str, list[Record]]:
-        """The records of each of the names, in their order, as tuples of text, of at most six columns."""
+        """The records of each of the names, in their order, as tuples of text, of at most six columns.
+
+        Parameters
+        ----------
+        names : iterable of str
+            The whole names.
+
+        Examples
+        --------
+        >>> session.named(["geneB", "geneX"])
+        {'geneB': [('chr1', '300', '400', 'geneB')], 'geneX': []}
+        """
         found: dict[bytes, list[Record]] = {encoded(name): [] for name in names}
         for line in self._printed().split(b"\n")[:-1] if self.width > NARROWEST else ():
             name = line.split(b"\t", NARROWEST + 1)[NARROWEST]
@@ -430,12 +971,43 @@ class Session:
 
     @alone
     def search(self, part: str) -> list[Row]:
-        """The records that have this in their names, in any case, in their order."""
+        """The records that have this in their names, in any case, in their order.
+
+        Parameters
+        ----------
+        part : str
+            Some of a name.
+
+        Examples
+        --------
+        >>> session.search("NEB")
+        [Row(chromosome='chr1', start=300, end=400, name='geneB')]
+        """
         return self._rows_of(record for record in self._with(part) if part.casefold() in record[3].casefold())
 
     @alone
     def near(self, chromosome: str, start: int, end: int, count: int = 3) -> list[Row]:
-        """The records of a chromosome whose start and end are nearest, the nearest first. ValueError as `region` raises it."""
+        """The records of a chromosome whose start and end are nearest, the nearest first.
+
+        Parameters
+        ----------
+        chromosome : str
+            The chromosome.
+        start, end : int
+            Start counts from 0, and end is not included.
+        count : int, optional
+            How many records, at most.
+
+        Raises
+        ------
+        ValueError
+            The genome has no such chromosome or position.
+
+        Examples
+        --------
+        >>> session.near("chr1", 300, 401, count=1)
+        [Row(chromosome='chr1', start=300, end=400, name='geneB')]
+        """
         def distance(row: Row) -> int:
             return abs(row.start - start) + abs(row.end - end)
 
@@ -449,61 +1021,185 @@ class Session:
 
     @alone
     def tails(self, record: Columns, second: bool = False) -> list[str]:
-        """The columns from the seventh on of each copy of a record, each after a TAB, in the order in which copies are taken.
+        r"""The columns from the seventh on of each copy of a record, each after a TAB, in the order in which copies are taken.
 
-        Of the record the first six columns count. A file without such columns has none.
+        A file without such columns has none.
+
+        Parameters
+        ----------
+        record : sequence of str or int
+            The record, of which the first six columns count: start counts from 0, and end is not included.
+        second : bool, optional
+            In the second file.
+
+        Examples
+        --------
+        >>> with bedkeep.Session("sizes", "exons.bed", wide=True) as session:
+        ...     session.tails(("chr1", 100, 200, "geneA", 0, "+"))
+        ['\t100\t200\t0\t2\t10,20\t0,80']
         """
         return self._wide.tails_of(_columns(record), second) if self._wide else []
 
     def columns(self, second: bool = False) -> int:
-        """The number of columns of a file with those from the seventh on: 0 if it has no record, or isn't there."""
+        """The number of columns of a file with those from the seventh on: 0 if it has no record, or isn't there.
+
+        Parameters
+        ----------
+        second : bool, optional
+            Of the second file.
+
+        Examples
+        --------
+        >>> session.columns(), session.columns(second=True)
+        (4, 3)
+        """
         if self._wide:
             return self._wide.columns(second)
-        return width_of(self._files.get("-b", "")) or 0 if second else self.width
+        return self._second_width if second else self.width
 
     @alone
     def format(self, second: bool = False) -> str:
-        """The format of these columns, such as BED12 or narrowPeak, by the file's first record. Empty if they are text, or none."""
+        """The format of these columns, such as BED12 or narrowPeak, by the file's first record. Empty if they are text, or none.
+
+        Parameters
+        ----------
+        second : bool, optional
+            Of the second file.
+
+        Examples
+        --------
+        >>> with bedkeep.Session("sizes", "exons.bed", wide=True) as session:
+        ...     session.format()
+        'BED12'
+        """
         return self._wide.format(second) if self._wide else ""
 
     @alone
     def net(self, record: Columns, second: bool = False) -> int:
-        """How many copies of a record the edits put in, less those that they took out. Of its columns the first six count.
+        """How many copies of a record the edits put in, less those that they took out.
 
-        second: into the second file
+        Parameters
+        ----------
+        record : sequence of str or int
+            The record, of which the first six columns count: start counts from 0, and end is not included.
+        second : bool, optional
+            Into the second file.
+
+        Examples
+        --------
+        >>> session.add("chr1", 100, 200, "geneA")
+        >>> session.net(("chr1", 100, 200, "geneA"))
+        1
         """
         return self._copies(second).net(record_of(_columns(record)))
 
     @alone
     def taken(self, record: Columns, second: bool = False) -> int:
-        """How many copies of a record edits took out that haven't come back: if there are any, an `add` of it puts one back."""
+        """How many copies of a record edits took out that haven't come back: if there are any, an `add` of it puts one back.
+
+        Parameters
+        ----------
+        record : sequence of str or int
+            The record, of which the first six columns count: start counts from 0, and end is not included.
+        second : bool, optional
+            Out of the second file.
+
+        Examples
+        --------
+        >>> session.remove("chr1", 100, 200, "geneA")
+        >>> session.taken(("chr1", 100, 200, "geneA"))
+        1
+        """
         return self._copies(second).taken(record_of(_columns(record)))
+
+    @alone
+    def moves(self) -> list[Move]:
+        r"""What each accepted edit of the track did, in their order: the record that it took out and the one that it put in, or None.
+
+        They are lines of BED with all their columns, the numbers without leading zeros.
+
+        Examples
+        --------
+        >>> session.add("chr1", 0, 5, "geneC")
+        >>> session.moves()
+        [(None, 'chr1\t0\t5\tgeneC')]
+        """
+        return list(self._script.moves())
 
     @property
     @alone
     def lengths(self) -> Mapping[str, int]:
-        """The length of each chromosome now."""
+        """The length of each chromosome now.
+
+        Examples
+        --------
+        >>> dict(session.lengths)
+        {'chr1': 1000, 'chr2': 500}
+        """
         return MappingProxyType(self._script.changes().lengths)
 
     def length(self, chromosome: str) -> int:
-        """The length of a chromosome now. ValueError if the genome has none such."""
+        """The length of a chromosome now.
+
+        Parameters
+        ----------
+        chromosome : str
+            Its name in the genome.
+
+        Raises
+        ------
+        ValueError
+            The genome has none such.
+
+        Examples
+        --------
+        >>> session.resize("chr2", 600)
+        >>> session.length("chr2")
+        600
+        """
         lengths = self.lengths
         if chromosome not in lengths:
             raise ValueError(absent(chromosome, lengths))
         return lengths[chromosome]
 
     def is_suspended(self) -> bool:
-        """Whether a signal stopped the program, so that it answers once another one has it go on. Ended if it has ended."""
+        """Whether a signal stopped the program, so that it answers once another one has it go on.
+
+        Raises
+        ------
+        Ended
+            It has ended.
+
+        Examples
+        --------
+        >>> session.is_suspended()
+        False
+        """
         state = self._talk.state
         if state is not None and state != os.CLD_STOPPED:
             self._send("")
         return state == os.CLD_STOPPED
 
     @alone
-    def to_frame(self, words: Optional[str] = None, names: str = "bedkeep") -> Any:
+    def to_frame(self, words: Optional[str] = None, names: str = "bedkeep") -> DataFrame:
         """The rows of a view, or all records, as a DataFrame of pandas, which has to be installed.
 
-        names: what the columns of a record are called, as in the rows ("bedkeep"), in bioframe or in pyranges.
+        Parameters
+        ----------
+        words : str, optional
+            The subcommand and options of the view, such as `merge -d 10`.
+        names : str, optional
+            What the columns of a record are called, as in the rows ("bedkeep"), in bioframe or in pyranges.
+
+        Raises
+        ------
+        Refused
+            An option is wrong, or too many views are open.
+
+        Examples
+        --------
+        >>> session.to_frame("merge", names="bioframe")["end"].tolist()
+        [200, 400]
         """
         pieces: list[bytes] = []
         if words is None:
@@ -516,12 +1212,30 @@ class Session:
 
     @alone
     def save(self, path: Path, sorted: bool = False) -> None:
-        """Writes the BED file as it is after the edits, whole or not at all; `-` is standard output.
+        """Writes the BED file as it is after the edits, whole or not at all.
 
         Each line that no edit is about stays where it is, byte for byte; a record that replaces another is where that one was;
-        one that is added is after the record that it follows in the track. A path that ends in .gz or .bgz is packed. sorted: the
-        headers, then all records in their order; so are those of a table or of a pipe. ValueError if the session reads the path,
-        or if the BED file was written again since it was read.
+        one that is added is after the record that it follows in the track.
+
+        Parameters
+        ----------
+        path : path
+            Where to. `-` is standard output, and one that ends in .gz or .bgz is packed.
+        sorted : bool, optional
+            The headers, then all records in their order; so are those of a table or of a pipe.
+
+        Raises
+        ------
+        ValueError
+            The session reads the path, or the BED file was written again since it was read.
+
+        Examples
+        --------
+        >>> session.remove("chr1", 100, 200, "geneA")
+        >>> session.save("corrected.bed")
+        >>> with open("corrected.bed") as file:
+        ...     print(file.read(), end="")
+        chr1  300  400  geneB
         """
         if self.reads(path):
             raise ValueError(f"{os.fspath(path)} is a file of this session, which isn't changed")
@@ -530,22 +1244,60 @@ class Session:
 
     @alone
     def stream_file(self, take: Callable[[bytes], object], sorted: bool = False) -> None:
-        """Hands on what `save` writes, some bytes at a time."""
+        r"""Hands on what `save` writes, some bytes at a time.
+
+        Parameters
+        ----------
+        take : callable
+            What is called with some bytes.
+        sorted : bool, optional
+            As by `save`.
+
+        Raises
+        ------
+        ValueError
+            The BED file was written again since it was read.
+
+        Examples
+        --------
+        >>> session.remove("chr1", 100, 200, "geneA")
+        >>> pieces = []
+        >>> session.stream_file(pieces.append)
+        >>> b"".join(pieces)
+        b'chr1\t300\t400\tgeneB\n'
+        """
         self._talk.refuse_ended()
         if self._source is None:
             self._print_track(take)
             return
         if stamp(self._source) != self._source_read:
-            raise ValueError(f"{self._files['-i']} was written again since it was read, so where its lines were isn't known")
-        if sorted:
-            take(encoded("".join(f"{line}\n" for line in headers_of(self._source))))
-            self._print_track(take)
-            return
-        write_placed(self._source, self._script.moves(), Looks(self.around, Order(self.lengths)), take)
+            raise ValueError(f"{self._name} was written again since it was read, so where its lines were isn't known")
+        form = self._wide.form if self._wide else BED
+        with tempfile.TemporaryDirectory(prefix="bedkeep-") as folder:
+            source = plain(self._source, folder)
+            if not sorted:
+                write_placed(source, self._script.moves(), Looks(self.around, Order(self.lengths)), take, form)
+                return
+            headers, rest = headers_of(source, form)
+            printed = form.printer(source)
+            take(headers)
+            self._print_track(lambda rows: take(printed(rows)))
+            take(rest)
 
     def reads(self, path: Path) -> bool:
-        """Whether the session reads this file, under any of its names."""
-        return any(same_file(file, path) for file in self._files.values())
+        """Whether the session reads this file, under any of its names.
+
+        Parameters
+        ----------
+        path : path
+            The file, which needn't be there.
+
+        Examples
+        --------
+        >>> session.reads("./genes.bed")
+        True
+        """
+        return any(same_file(file, path) for file in self._inputs)
 
     # What the calls above are made of
 
@@ -561,7 +1313,7 @@ class Session:
         return rows
 
     def _print_track(self, take: Callable[[bytes], object]) -> None:
-        """Hands on the lines of all records, in their order."""
+        """Hands on the rows of all records, in their order."""
         joined = self._wide.joiner() if self._wide else bytes
         self.stream("records", lambda lines: take(joined(lines)))
 
@@ -656,7 +1408,9 @@ class Session:
                 text = accepted(lines[:sent], refused)
             if text:
                 done(text)
-        return [Refused(reason, number, lines[number - 1], tuple(hints.get(number, ()))) for number, reason in refused.items()]
+        unknown = other_version(self._program) if UNKNOWN in refused.values() else ()
+        return [Refused(reason, number, lines[number - 1], (*(unknown if reason == UNKNOWN else ()), *hints.get(number, ())))
+                for number, reason in refused.items()]
 
     def _find_width(self, command: str, loads: bool = False) -> int:
         """Asks for the number of columns of a record, by records of empty columns: only one of them has the right number."""
@@ -699,11 +1453,9 @@ def _together(text: str, refused: Sequence[Refused], before: int) -> list[Refuse
     return [numbers.get(number) or Refused(because, number, line) for number, line in enumerate(text.split("\n"), 1) if is_edit(line)]
 
 
-def needs_wide(track: Track) -> bool:
+def needs_wide(path: Path) -> bool:
     """Whether it is a file that only a wide session takes."""
-    if not isinstance(track, (str, os.PathLike)) or not os.path.isfile(track):
-        return False
-    return not is_plain(track) or (width_of(track) or 0) > WIDEST
+    return (width_of(path) or 0) > WIDEST
 
 
 def _columns(record: object) -> list[str]:

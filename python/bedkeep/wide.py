@@ -11,6 +11,7 @@ from itertools import chain, islice, repeat
 from typing import Iterable, Iterator, NamedTuple, Optional, Sequence
 
 from .formats import BED12, DIGITS, NARROW, default_tail, faults_of, follow, format_of, names_of, worse
+from .forms import BED, Form
 from .record import WIDEST, Record, split_row
 
 ABSENT = "no such record"
@@ -98,8 +99,8 @@ class Tails:
     copies of the file that are all the same the last ones are left.
     """
 
-    def __init__(self, width: int, rows: Iterable[str]) -> None:
-        self.width = width
+    def __init__(self, width: int, rows: Iterable[str], form: Form = BED) -> None:
+        self.width, self._form = width, form
         self._file: dict[Record, list[str]] = defaultdict(list)
         self._net: dict[Record, Counter[str]] = {}  # tails that were put, less those that were taken
         for row in rows:
@@ -127,6 +128,14 @@ class Tails:
 
         leave: whether what can't hold is only a warning, and columns that can't follow are left as they are
         """
+        step = self._plan(old, new, old_tail, new_tail, leave)
+        fault = self._form.fault(step.new_row, old is None) if step and step.new_row else ""
+        if fault:
+            raise Unfit(fault)
+        return step
+
+    def _plan(self, old: Optional[Record], new: Optional[Record], old_tail: Optional[str], new_tail: Optional[str],
+              leave: bool) -> Optional[Step]:
         taken = ""
         if old:
             tails = self.of(old)

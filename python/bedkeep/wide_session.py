@@ -15,7 +15,7 @@ from typing import Callable, Iterator, NamedTuple, Optional, Sequence
 
 from .bed import Bed
 from .conversation import Answer
-from .encoding import Path, decoded, encoded
+from .encoding import decoded, encoded
 from .errors import FIELD, Error, field_of
 from .formats import DIGITS
 from .record import WIDEST, record_of
@@ -43,22 +43,20 @@ class Plan(NamedTuple):
 class Wide:
     """The BED files of a session.
 
-    given: their names, by option; narrow: what the program reads; source: the path of the track with all its columns, unpacked
+    narrow: what the program reads, by option; source: the path of the track with all its columns, unpacked; form: of that
     width: of the track; leave: whether columns that can't follow are left as they are, with a warning
     steps: what the edits did that were accepted last, if a file is wide; None for those of another file
     """
 
-    def __init__(self, bed: Path, second: Optional[Path], width: Optional[int] = None, leave: bool = False) -> None:
+    def __init__(self, paths: Mapping[str, str], names: Mapping[str, str], width: Optional[int] = None, leave: bool = False) -> None:
         folder = tempfile.mkdtemp(prefix="bedkeep-")
         self.close = weakref.finalize(self, _remove, folder, os.getpid())
-        paths = {"-i": bed} if second is None else {"-i": bed, "-b": second}
-        self._beds = {option: Bed(path, folder, width or 0) for option, path in paths.items()}
-        self.given = {option: os.fspath(path) for option, path in paths.items()}
+        self._beds = {option: Bed(path, names.get(path, path), folder, width or 0) for option, path in paths.items()}
         self.narrow = {option: file.narrow for option, file in self._beds.items()}
-        self.source = self._beds["-i"].source
+        self.source, self.form = self._beds["-i"].source, self._beds["-i"].form
         self.width = self._beds["-i"].width
         self.steps: list[Optional[Step]] = []
-        self._tails = {option: Tails(file.width, file.rows()) for option, file in self._beds.items() if file.is_wide}
+        self._tails = {option: Tails(file.width, file.rows(), file.form) for option, file in self._beds.items() if file.is_wide}
         self._leave = leave
         self._script: Optional[Script] = None
         self._lengths: Mapping[str, int] = {}
@@ -179,7 +177,7 @@ class Wide:
         """Hints on a line with the names of the files as they were given, and with the number that a field has among all columns."""
         text = "\n".join(hints)
         for bed in self._beds.values():
-            text = text.replace(bed.narrow, bed.path)
+            text = text.replace(bed.narrow, bed.name)
         command, *fields = line.split("\t")
         tails, field = self._of(command), field_of(hints) or 0
         if tails and field > 1 + WIDEST and cut(command, fields, tails.width).old_tail is not None:

@@ -6,7 +6,7 @@ import sys
 from typing import NamedTuple, Optional, Sequence, Union
 
 from ..encoding import Path
-from ..errors import Refused
+from ..errors import Error, Refused
 from .input_files import Inputs
 from .options import add_options, messages, write_refused
 
@@ -17,9 +17,20 @@ replacement comes where the old record was, and an addition after the record tha
 class Applied(NamedTuple):
     """What came of corrections.
 
-    refused:    the lines that were refused, each with its number in its file
-    messages:   of these lines, and of those that are there already or were done with a warning, as the command prints them
-    is_written: whether the track was written
+    Attributes
+    ----------
+    refused : list of Refused
+        The lines that were refused, each with its number in its file.
+    messages : list of str
+        Of these lines, and of those that are there already or were done with a warning, as the command prints them.
+    is_written : bool
+        Whether the track was written.
+
+    Examples
+    --------
+    >>> applied = bedkeep.apply("sizes", "genes.bed", "corrections", "corrected.bed")
+    >>> print(applied.messages[0])
+    corrections: line 3: no such record: chr1 300 401 geneB
     """
 
     refused: list[Refused]
@@ -32,13 +43,46 @@ def apply(genome: Path, bed: Path, corrections: Union[Path, Sequence[Path]], out
           refused: Optional[Path] = None) -> Applied:
     """Writes the track that scripts of corrections make of a BED file, which isn't changed.
 
-    Each line that no correction is about stays where it is, byte for byte. Raises an Error, an OSError or a ValueError if a file
-    can't be used, and writes nothing then; a line that is refused raises nothing.
+    Each line that no correction is about stays where it is, byte for byte. A line that is refused raises nothing.
 
-    sorted: the headers, then all records in the order of the genome; strict: writes nothing if there is a message;
-    copies: whether an `add` of a record that is there puts a copy in; leave_blocks: whether a line is done after which columns
-    from the seventh on can't hold; refused: a file for the messages of the refused lines
+    Parameters
+    ----------
+    genome, bed : path
+        The genome file and the BED file.
+    corrections : path, or sequence of paths
+        The scripts: positions count from 0, and ends are not included.
+    output : path
+        Where to.
+    second : path, optional
+        The second file.
+    sorted : bool, optional
+        Writes the headers, then all records in the order of the genome.
+    strict : bool, optional
+        Writes nothing if there is a message.
+    copies : bool, optional
+        Whether an `add` of a record that is there puts a copy in.
+    leave_blocks : bool, optional
+        Whether a line is done after which columns from the seventh on can't hold.
+    refused : path, optional
+        A file for the messages of the refused lines.
+
+    Raises
+    ------
+    Error, OSError, ValueError
+        A file can't be used. Nothing is written then.
+
+    Examples
+    --------
+    >>> applied = bedkeep.apply("sizes", "genes.bed", "corrections", "corrected.bed")
+    >>> [(one.number, one.reason) for one in applied.refused]
+    [(3, 'no such record')]
+    >>> with open("corrected.bed") as file:
+    ...     print(file.read(), end="")
+    chr1  100  250  geneA
+    chr1  300  400  geneB
     """
+    if output == refused == "-":
+        raise Error("only one file can be standard output")
     with Inputs(genome, bed, corrections, second) as inputs, inputs.session(leave_blocks) as session:
         lines = inputs.carry(session, copies)
         said = list(messages(inputs.lines))
@@ -59,11 +103,11 @@ def options(parser: argparse.ArgumentParser) -> None:
 
 
 def run(given: argparse.Namespace) -> int:
-    """Writes the corrected track, and returns the status: 1 if lines were refused."""
+    """Writes the corrected track, and returns the status: 1 if lines were refused that no file lists, or nothing was written."""
     applied = apply(given.genome, given.bed, given.corrections, given.output, given.second, given.sorted, given.strict,
                     given.copies, given.leave_blocks, given.refused)
     for message in applied.messages:
         print(message, file=sys.stderr)
     if not applied.is_written:
         print("nothing is written", file=sys.stderr)
-    return 1 if applied.refused or not applied.is_written else 0
+    return 1 if applied.refused and not given.refused or not applied.is_written else 0

@@ -113,8 +113,8 @@ def with_reasons(lines: Sequence[Line]) -> tuple[list[str], dict[int, Line]]:
     places: dict[int, Line] = {}
     last = None
     for line in lines:
-        if not last or (last.heading, last.group) != (line.heading, line.group):
-            texts += line.heading or ([""] if texts else [])
+        if not last or (last.above, last.group) != (line.above, line.group):
+            texts += line.above or ([""] if texts else [])
         texts.append(line.sent)
         places[len(texts)] = last = line
     return texts, places

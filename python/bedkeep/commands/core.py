@@ -25,13 +25,15 @@ from ..printed_rows import RECORD
 from ..program import MOST
 from ..record import WIDEST
 from ..regions import Region
-from ..script import inverse_of, is_marker, is_reason
+from ..script import comments_of, inverse_of, is_marker, is_reason
 from ..session import Seen, Session, needs_wide
+from .authors import blame
 from .carry import Carrier
-from .corrections import Line
+from .corrections import Author, Line
 from .counts import Counts
 from .explain import explain
 from .journal import Changed, Journal
+from .loading import loading
 from .places import NoPlace
 from .prompt_commands import Commands
 from .prompt_edits import Edit, Edits, Move, taken_back
@@ -88,7 +90,7 @@ class Entry:
 
     edit: its accepted lines, if there are any; before: whether the script had it at the start; changed: the version of its last change
     by, takes: the number of the correction that took it back, if it wasn't the last one then; and of the one that it took back
-    markers: the comments above it that say what it decides about; answers: the number of that item
+    markers: the comments above it that say what it decides about; answers: the number of that item; author: who made it
     """
 
     def __init__(self, lines: Sequence[str], reason: str, verdict: str, edit: Optional[Edit] = None) -> None:
@@ -98,6 +100,7 @@ class Entry:
         self.message = ""
         self.warnings: list[str] = []
         self.markers: list[str] = []
+        self.author = edit.author if edit else Author()
         self.place: Optional[Region] = None
         self.answers: Optional[int] = None
         self.by: Optional[int] = None
@@ -117,7 +120,7 @@ class Entry:
     def as_json(self) -> Answer:
         return {"number": self.number, "lines": self.lines, "reason": self.reason, "verdict": self.verdict, "before": self.before,
                 "message": self.message, "warnings": self.warnings, "place": self.place, "answers": self.answers,
-                "by": self.by, "takes": self.takes}
+                "by": self.by, "takes": self.takes, "author": self.author.name, "date": self.author.date}
 
 
 class Core:
@@ -140,11 +143,12 @@ class Core:
         self.entries: list[Entry] = []
         self.worklist: Optional[Worklist] = None
         self.looking: Optional[threading.Thread] = None
-        self._edits = Edits(session, Carrier(session, given.copies), journal)
+        self._edits = Edits(session, Carrier(session, given.copies), journal, given.sign)
         self._counts: Optional[Counts] = None  # once they are needed, as the others
         self._mirror: Optional[Mirror] = None
         self._bases: Optional[Bases] = None
         self.began = self._edits.replay() if journal else []
+        blame(self.began)
         with self.changed:
             self._enter_all(self.began, True)
 
@@ -360,7 +364,7 @@ class Core:
         texts, reasons = _texts(texts), [*(item.lines[0].comments if item else ()), *reason.splitlines()]
         markers = item.markers(WAS) if item else []
         sight = Sight(self.session, self._around(texts), keep=True)
-        lines = self._edits.carry(texts, [*_comments(reasons), *markers], title or f"{len(texts)} lines" * (len(texts) > 1), sight)
+        lines = self._edits.carry(texts, [*comments_of(reasons), *markers], title or f"{len(texts)} lines" * (len(texts) > 1), sight)
         return {**self._answer(lines, sight), **self._entered(lines, markers, item)}
 
     @doing
@@ -371,7 +375,7 @@ class Core:
             raise Stale("another edit came meanwhile: look at the list before you take one back")
         inverse, region = self._edits.inverse(edit), self._around(entry.lines)
         before = self.session.show_all(*region) if region else {}
-        self._edits.undo([*_comments(reason.splitlines()), *_reopened(entry.markers)])
+        self._edits.undo([*comments_of(reason.splitlines()), *_reopened(entry.markers)])
         self._follow(inverse, [(second, new, old) for second, old, new in edit.moves])
         self._set(entry, BACK)
         seen = Seen([], before, self.session.show_all(*region) if region else {}, list(map(inverse_of, reversed(inverse))), [])
@@ -387,6 +391,7 @@ class Core:
         answer = self._answer(lines, sight)
         if entry and self._edits.undone is not undone:
             entry.edit = self._edits.done[-1]
+            entry.author = entry.edit.author
             self._follow(entry.edit.lines, entry.edit.moves)
             self._set(entry, DROPPED if entry.lines and not entry.edit.lines else DONE)
             answer.update(entry=entry.as_json(), version=self.version)
@@ -403,7 +408,7 @@ class Core:
             raise Stale(f"there is no correction {number} that could be taken back")
         if self._edits.done and entry.edit is self._edits.done[-1]:
             return self.undo(number, reason)
-        comments = [*_comments(reason.splitlines()), *_reopened(entry.markers)]
+        comments = [*comments_of(reason.splitlines()), *_reopened(entry.markers)]
         if not entry.edit or not entry.edit.lines:
             back = self._enter(Entry([], reason, DONE, self._edits.note(taken_back(entry.reason, comments))))
             self._set(entry, BACK, back)
@@ -426,9 +431,9 @@ class Core:
     def explain(self, reason: str) -> bool:
         """Gives the last correction another reason, and says whether that could be. IndexError if there is none."""
         entry, edit = self._last()
-        is_done = self._edits.explain([*_comments(reason.splitlines()), *(one for one in edit.comments if is_marker(one))])
+        is_done = self._edits.explain([*comments_of(reason.splitlines()), *(one for one in edit.comments if is_marker(one))])
         if is_done:
-            entry.reason = edit.reason
+            entry.reason, entry.author = edit.reason, edit.author
             self._touch(entry)
         return is_done
 
@@ -439,7 +444,7 @@ class Core:
         if not reason.strip():
             raise ValueError("why is it dropped? The script keeps the reason")
         markers = item.markers(DROPPED)
-        edit = self._edits.note([*_comments([*item.lines[0].comments, *reason.splitlines()]), *markers])
+        edit = self._edits.note([*comments_of([*item.lines[0].comments, *reason.splitlines()]), *markers])
         entry = Entry([line.text for line in item.lines], edit.reason, DROPPED, edit)
         entry.markers, entry.answers, entry.place = markers, number, item.place
         self._set(self._enter(entry), DROPPED)
@@ -449,7 +454,7 @@ class Core:
     def leave(self, reasons: Sequence[str]) -> None:
         """Writes down reasons that no correction came for."""
         if reasons and self._journal:
-            self._journal.append([], _comments(reasons))
+            self._journal.leave(comments_of(reasons))
 
     @alone
     def take_worklist(self, worklist: Worklist) -> None:
@@ -480,7 +485,7 @@ class Core:
         if not done:
             return {}
         edit = self._edits.done[-1]
-        entry = Entry([], edit.reason if edit.comments else "", DONE, edit)
+        entry = Entry([], edit.reason, DONE, edit)
         for line in done:
             entry.take(line, edit, self.session.lengths)
         entry.markers, entry.answers = list(filter(kind_of, markers)), item.number if item else None
@@ -523,10 +528,11 @@ class Core:
         for line in lines:
             if line.text.startswith("#"):
                 comments.append(line.text)
-                self._enter_decision(line.text, comments, before)
+                self._enter_decision(line, comments, before)
             elif line.is_run:
                 if not above or not line.group or line.group is not above.group:
                     self._enter(Entry([], " ".join(line.comments), THERE)).before = before
+                    self.entries[-1].author = line.author
                     self.entries[-1].markers = [text for text in comments if kind_of(text) in (WAS, REOPENED)]
                 self.entries[-1].take(line, next(owners) if line.is_done else None, lengths)
                 self._touch(self.entries[-1])
@@ -534,13 +540,13 @@ class Core:
             elif not line.text:
                 comments = []
 
-    def _enter_decision(self, text: str, comments: Sequence[str], before: bool) -> None:
+    def _enter_decision(self, line: Line, comments: Sequence[str], before: bool) -> None:
         """Takes what a marker of the script says of items that were dropped, or that need a decision again."""
-        kind, about = kind_of(text), text.partition(": ")[2]
+        kind, about = kind_of(line.text), line.text.partition(": ")[2]
         if kind == DROPPED:
             reason = " ".join(one.lstrip("# ") for one in comments if is_reason(one))
             entry = self._enter(Entry([about], reason, DROPPED))
-            entry.before, entry.markers = before, [text]
+            entry.before, entry.markers, entry.author = before, [line.text], line.author
             self._touch(entry)
         elif kind == REOPENED:
             taken = next((one for one in reversed(self.entries) if about in decided(one.markers) and one.verdict in (DONE, DROPPED)), None)
@@ -614,7 +620,8 @@ def opened(given: Given, views: Sequence[str], stack: ExitStack, looks: bool = T
     decision, or is refused in the script itself
     """
     wide = any(needs_wide(path) for path in (given.bed, given.second) if path)
-    session = Session(given.genome, given.bed, given.second, given.fasta, wide=wide, leave_blocks=given.leave_blocks, limit=MOST)
+    with loading(given.bed):
+        session = Session(given.genome, given.bed, given.second, given.fasta, wide=wide, leave_blocks=given.leave_blocks, limit=MOST)
     stack.callback(session.end)
     if given.script and session.reads(given.script):
         raise Error(f"{given.script} is a file of this session, which isn't changed")
@@ -656,12 +663,6 @@ def _texts(texts: Sequence[str]) -> list[str]:
     if not listed:
         raise ValueError("no correction")
     return listed
-
-
-def _comments(reasons: Sequence[str]) -> list[str]:
-    """Reasons as comments, of which none is taken for a marker."""
-    comments = [f"# {reason}".rstrip().replace("\t", " ").replace("\0", "") for reason in reasons]
-    return [f'# "{comment[2:]}"' if is_marker(comment) else comment for comment in comments]
 
 
 def _reopened(markers: Sequence[str]) -> list[str]:

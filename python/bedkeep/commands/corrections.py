@@ -4,14 +4,15 @@
 formed has its records, and one that was refused a message that names the field.
 
 A reason is the block of comments directly above a paragraph: the lines down to the next comment or empty line. A comment that
-begins with `together:` makes the paragraph a group, whose lines are done whole or not at all. Markers, such as `# was: ..`, are
-comments that a program wrote about one line: they are no reason, and no paragraph begins or ends with them.
+begins with `together:` makes the paragraph a group, whose lines are done whole or not at all. Directly above the reason, or the
+paragraph without one, may be a signature. Markers, such as `# was: ..`, are comments that a program wrote about one line: they are
+no reason, and no paragraph begins or ends with them.
 """
 from __future__ import annotations
 
 import os
 import re
-from typing import Iterable, Optional, Sequence
+from typing import Iterable, Iterator, Mapping, NamedTuple, Optional, Sequence
 
 from ..changes import halves
 from ..encoding import Path, decoded
@@ -19,7 +20,7 @@ from ..errors import field_of
 from ..files import read_bytes
 from ..printed_rows import RECORD
 from ..record import NARROWEST, WIDEST, Record, record_of
-from ..script import EDITS, TOGETHER, VIEWS, is_reason, is_together
+from ..script import EDITS, SIGNATURE, TOGETHER, VIEWS, is_marker, is_reason, is_signature, is_together
 from ..wide import cut
 
 ABSENT = "no such record"
@@ -27,6 +28,20 @@ UNLIKE = "the record is there with"  # how a session says that the columns after
 PLACE = re.compile(r"[^:]+:[0-9,]+-[0-9,]+")
 ABOUT_COMMANDS = {"no such command or wrong fields", "no second file"}
 WRONG_NUMBER = "wrong number of columns"
+
+
+class Author(NamedTuple):
+    """Who made a correction, when, and the commit that has it, as far as that is known. date: ISO 8601, with a time zone"""
+
+    name: str = ""
+    date: str = ""
+    commit: str = ""
+
+
+def author_of(signature: str, blamed: Author = Author()) -> Author:
+    """Who signed; without a signature what git knows."""
+    signed = SIGNATURE.fullmatch(signature)
+    return Author(signed[1], signed[2], blamed.commit) if signed else blamed
 
 
 class Group:
@@ -41,7 +56,8 @@ class Line:
 
     number:   through all files, from 1; place: in its file
     text:     without its end; command, fields: its parts; narrow: the fields without columns after the sixth
-    heading:  the comments that are its reason, as they are in the file
+    heading:  the comments that are its reason, as they are in the file; signature: the line above them that says who accepted it
+    blamed:   what git knows of its author, once that is looked for
     group:    the lines that are done with it or not at all, itself among them; or None
     refusal:  why the program, or the package, refused it; empty if it was done or isn't run
     message:  the same with the field that it is about, and its value
@@ -55,9 +71,10 @@ class Line:
     """
 
     def __init__(self, number: int, file: str, place: int, text: str, heading: Sequence[str] = (),
-                 group: Optional[Group] = None) -> None:
+                 group: Optional[Group] = None, signature: str = "") -> None:
         self.number, self.file, self.place, self.text = number, file, place, text
-        self.heading, self.group = tuple(heading), group
+        self.heading, self.group, self.signature = tuple(heading), group, signature
+        self.blamed = Author()
         self.command, *self.fields = text.split("\t")
         self.refusal = self.message = self.warning = ""
         self.hints: tuple[str, ...] = ()
@@ -78,6 +95,16 @@ class Line:
         """The reason, line by line, without `#` and `together:`."""
         texts = [comment[1:].strip() for comment in self.heading]
         return tuple(text[len(TOGETHER):].strip() if text.startswith(TOGETHER) else text for text in texts if text != TOGETHER)
+
+    @property
+    def above(self) -> tuple[str, ...]:
+        """All that is above its paragraph: the signature and the reason."""
+        return (self.signature, *self.heading) if self.signature else self.heading
+
+    @property
+    def author(self) -> Author:
+        """Who made it, by its signature if it has one, else by git."""
+        return author_of(self.signature, self.blamed)
 
     @property
     def is_run(self) -> bool:
@@ -116,7 +143,7 @@ class Line:
 
     def again(self, text: str) -> Line:
         """Another line in its place."""
-        line = Line(self.number, self.file, self.place, text, self.heading)
+        line = Line(self.number, self.file, self.place, text, self.heading, signature=self.signature)
         line.cut(self.width)
         return line
 
@@ -138,7 +165,7 @@ class Line:
         """The record that it takes out and the one that it puts in, whatever becomes of it; none if they can't be records."""
         if self._asked is None:
             old, new = halves(self.command, self.narrow)
-            sound = all(_is_record(columns) for columns in (old, new) if columns)
+            sound = all(is_record(columns) for columns in (old, new) if columns)
             self._asked = record_of(old) if sound and old else None, record_of(new) if sound and new else None
         return self._asked
 
@@ -180,7 +207,8 @@ class Line:
         return f"{'old' if field - 2 < half else 'new'} {RECORD[(field - 2) % half]}, field {field}"
 
 
-def _is_record(columns: Sequence[str]) -> bool:
+def is_record(columns: Sequence[str]) -> bool:
+    """Whether columns begin with a sequence, and a start below an end."""
     if len(columns) < NARROWEST:
         return False
     start, end = columns[1:NARROWEST]
@@ -196,12 +224,17 @@ def _is_offer(hint: str) -> bool:
     return "\t" in hint and hint.split("\t")[0] in EDITS
 
 
-def read_lines(files: Iterable[Path]) -> list[Line]:
-    """All lines of some scripts, comments and empty ones too."""
-    lines: list[Line] = []
+def read_scripts(files: Iterable[Path]) -> list[list[Line]]:
+    """The lines of each of some scripts, comments and empty ones too. They are numbered through all."""
+    scripts: list[list[Line]] = []
     for file in files:
-        lines += read_text(decoded(read_bytes(file)), os.fspath(file), len(lines))
-    return lines
+        scripts.append(read_text(decoded(read_bytes(file)), os.fspath(file), sum(map(len, scripts))))
+    return scripts
+
+
+def read_lines(files: Iterable[Path]) -> list[Line]:
+    """All lines of some scripts."""
+    return [line for lines in read_scripts(files) for line in lines]
 
 
 def read_text(text: str, file: str = "-", before: int = 0) -> list[Line]:
@@ -210,15 +243,40 @@ def read_text(text: str, file: str = "-", before: int = 0) -> list[Line]:
     heading: list[str] = []
     group: Optional[Group] = None
     begun = False  # a reason, by the line directly above
+    signature = ""
     texts = text.split("\n")
     for place, row in enumerate(texts if texts[-1] else texts[:-1], 1):
         row = row[:-1] if row.endswith("\r") else row
         if is_reason(row):
             heading = [*heading, row] if begun else [row]
             group = Group() if is_together(row) else group if begun else None
-        elif not row:
-            heading, group = [], None
+            signature = signature if begun or lines and lines[-1].text == signature else ""
+        elif not row or is_signature(row):
+            heading, group, signature = [], None, row
         begun = is_reason(row)
         is_line = not row.startswith("#")
-        lines.append(Line(before + place, file, place, row, heading if is_line else (), group if is_line else None))
+        lines.append(Line(before + place, file, place, row, heading if is_line else (), group if is_line else None, signature))
     return lines
+
+
+def rewritten(lines: Sequence[Line], written: Mapping[int, tuple[Sequence[str], bool]]) -> Iterator[str]:
+    """The lines of scripts again, some of them otherwise. Reasons stay where they are, and none becomes that of another line.
+
+    written: by the number of a line what is written for it, and whether that leaves it out, as comments alone
+    """
+    is_left = False  # whether a line was left out last, whose reason is above
+    before: Optional[Line] = None
+    for line in lines:
+        is_comment = line.text.startswith("#")
+        ends = is_comment and not is_marker(line.text)
+        begins = bool(before and before.file != line.file
+                      and (before.text.startswith("#") or not ends and (before.above or is_left)))
+        if line.text and (is_left and (ends or begins) or begins):
+            yield ""
+        if line.number in written:
+            texts, is_left = written[line.number]
+            yield from texts
+        else:
+            yield line.text
+            is_left = is_left and is_comment and not ends
+        before = line

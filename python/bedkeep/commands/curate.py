@@ -1,4 +1,4 @@
-"""A prompt for corrections: python3 -m bedkeep curate GENOME BED [SECOND] [--script FILE]"""
+"""A prompt for corrections: python3 -m bedkeep curate GENOME BED [-b SECOND] [--script FILE]"""
 from __future__ import annotations
 
 import argparse
@@ -67,11 +67,14 @@ class Typed:
 def options(parser: argparse.ArgumentParser) -> None:
     parser.description = "A prompt for corrections of a BED file."
     add_editing(parser)
-    parser.add_argument("second", metavar="SECOND", nargs="?", help="the second file, for intersect and subtract")
+    parser.add_argument("third", metavar="SECOND", nargs="?", help="the same as -b SECOND")
 
 
 def run(given: argparse.Namespace) -> int:
     _take_any_bytes()
+    if given.second and given.third:
+        raise ValueError(f"two second files: {given.second} and {given.third}")
+    given.second = given.second or given.third
     if given.second:
         _refuse_script(given.second)
     if given.replay and not given.script:

@@ -27,7 +27,6 @@ LAST = 1.5  # seconds that a page has to hear why there is no track
 def options(parser: argparse.ArgumentParser) -> None:
     parser.description = DESCRIPTION
     add_editing(parser, ". Without this it is beside the BED file, with .corrections after its name")
-    parser.add_argument("-b", dest="second", metavar="SECOND", help="the second file")
     parser.add_argument("--port", type=int, default=0, metavar="N", help="of 127.0.0.1; without this a free one")
     parser.add_argument("--no-browser", action="store_true", help="only prints the address")
 

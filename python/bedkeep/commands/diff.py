@@ -19,6 +19,7 @@ from ..errors import Error
 from ..pairs import Change, changes
 from ..record import NAMELESS, name_of, split_row
 from .differences import Rows, differences
+from .loading import loading
 
 DESCRIPTION = """Prints the script of corrections that makes NEW of OLD: `replace` if a record moved or changed, else `remove` and
 `add`; a split or a join is a paragraph of lines that are done together."""
@@ -55,7 +56,23 @@ class Difference:
 
 
 def diff(old: Path, new: Path) -> list[str]:
-    """The lines of the script that makes the new BED file of the old one, with empty lines between paragraphs. Error if it can't be."""
+    r"""The lines of the script that makes the new BED file of the old one, with empty lines between paragraphs.
+
+    Parameters
+    ----------
+    old, new : path
+        The BED files, which may be packed by gzip.
+
+    Raises
+    ------
+    Error, OSError, ValueError
+        A file can't be used, or one has more columns than the other.
+
+    Examples
+    --------
+    >>> bedkeep.diff("genes.bed", "next.bed")
+    ['', 'replace\tchr1\t300\t400\tgeneB\tchr1\t320\t400\tgeneB']
+    """
     return list(Difference(os.fspath(old), os.fspath(new)).script())
 
 
@@ -112,7 +129,8 @@ def options(parser: argparse.ArgumentParser) -> None:
 def run(given: argparse.Namespace) -> int:
     if [given.old, given.new] == ["-", "-"]:
         raise Error("only one file can be standard input")
-    difference = Difference(given.old, given.new)
+    with loading(given.new):
+        difference = Difference(given.old, given.new)
     sys.stdout.buffer.writelines(encoded(f"{line}\n") for line in difference.script())
     sys.stdout.flush()
     if difference.copies:

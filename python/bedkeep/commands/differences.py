@@ -6,44 +6,50 @@ Those that aren't found so are held, and counted.
 from __future__ import annotations
 
 import os
+import tempfile
+from contextlib import suppress
 from itertools import islice, repeat
 from operator import itemgetter
-from typing import Iterator
+from typing import Iterator, NoReturn
 
-from ..bed import is_header
+from ..bed import Bed
 from ..encoding import decoded, encoded
-from ..errors import Error
-from ..files import opened, plain
+from ..errors import Error, NotFound
+from ..files import line_text, opened, plain
+from ..forms import BED, form_of, is_header
 from ..pairs import beyond
 from ..record import NARROWEST, WIDEST, split_row
+from .input_files import refuse_damaged
 
 AT_ONCE = 4096  # lines
 AHEAD = 64  # lines in which the place is looked for where two files go on alike
 ALIKE = 3  # lines that have to be alike there
+LONGEST = 4_000_000_000  # bases that a sequence can have
 NO_RECORD = frozenset(b"#tb\r\n")  # with what a line begins that may be none
 Lines = list[bytes]
 
 
 class Rows:
-    """The lines of a BED file that have a record, which can be read several times.
+    """The lines of a BED file that have a record, or the rows of GFF3 or GTF, which can be read several times.
 
     path: as it was given; width: of the first record, or 0
     """
 
     def __init__(self, path: str, folder: str) -> None:
         self.path, self._file = path, path if os.path.isfile(path) else plain(path, folder)
+        self._form = form_of(self._file)
         self.width = 0
         first = _text(next((chunk[0] for chunk in self._chunks() if chunk), b""))
-        self.width = first.count(b"\t") + 1 if first else 0
-        if self.width == 1 and len(first.split()) >= NARROWEST:
-            raise Error(f"{path}: record 1 has spaces instead of TABs: `sed 's/  */\\t/g' {path}` prints TABs, if no name has a space")
+        if first:
+            self.row(first)
+            self.width = first.count(b"\t") + 1
 
     def chunks(self) -> Iterator[Lines]:
         """The lines with their ends, many at a time. Error if one has another number of columns than the first one."""
         number = 0
         for chunk in self._chunks():
             counts = list(map(bytes.count, chunk, repeat(b"\t")))
-            if counts and (self.width < NARROWEST or counts.count(self.width - 1) < len(counts)):
+            if counts.count(self.width - 1) < len(counts):
                 wrong = next((at for at, count in enumerate(counts) if count != self.width - 1), 0)
                 raise Error(f"{self.path}: record {number + wrong + 1}: wrong number of columns")
             number += len(chunk)
@@ -56,14 +62,37 @@ class Rows:
         for line in (line for chunk in self._chunks() for line in chunk):
             columns = line.split(b"\t", WIDEST)
             if len(columns) == NARROWEST or columns[NARROWEST].rstrip(b"\r\n") in wanted:
-                yield _row(_text(line))
+                yield self.row(_text(line))
+
+    def row(self, line: bytes) -> str:
+        """A line with its numbers as the program prints them. Error if it is no record."""
+        columns = line.split(b"\t", NARROWEST)
+        if len(columns) < NARROWEST or not all(map(bytes.isdigit, columns[1:NARROWEST])):
+            self._refuse()
+        record, tail = split_row(decoded(line))
+        return "\t".join(record) + tail
+
+    def _refuse(self) -> NoReturn:
+        """Raises what the program says of the first line that is no record, and of what the file looks like."""
+        with tempfile.TemporaryDirectory(prefix="bedkeep-") as folder, suppress(NotFound):
+            bed = Bed(self._file, self.path, folder, 0)
+            refuse_damaged({row.split("\t")[0]: LONGEST for row in bed.rows()}, bed.narrow, self.path)
+        raise Error(f"{self.path}: it is no BED file")
 
     def _chunks(self) -> Iterator[Lines]:
         with opened(self._file) as file:
-            for chunk in iter(lambda: list(islice(file, AT_ONCE)), []):
-                if not NO_RECORD.isdisjoint(map(itemgetter(0), chunk)):
+            lines = file if self._form is BED else self._rows_of(map(line_text, file))
+            for chunk in iter(lambda: list(islice(lines, AT_ONCE)), []):
+                if self._form is BED and not NO_RECORD.isdisjoint(map(itemgetter(0), chunk)):
                     chunk = [line for line in chunk if not is_header(decoded(_text(line)))]
                 yield chunk
+
+    def _rows_of(self, lines: Iterator[str]) -> Iterator[bytes]:
+        """The rows of the lines of another form."""
+        try:
+            yield from (encoded(row) for row in self._form.rows(lines) if row)
+        except ValueError as failure:
+            raise Error(f"{self.path}: {failure}") from None
 
 
 def differences(old: Rows, new: Rows) -> tuple[list[str], list[str]]:
@@ -71,8 +100,8 @@ def differences(old: Rows, new: Rows) -> tuple[list[str], list[str]]:
     gone: list[str] = []
     come: list[str] = []
     for mine, theirs in _unlike(old.chunks(), new.chunks()):
-        gone += map(_row, mine)
-        come += map(_row, theirs)
+        gone += map(old.row, mine)
+        come += map(new.row, theirs)
     return beyond(gone, come), beyond(come, gone)
 
 
@@ -109,9 +138,3 @@ def _text(line: bytes) -> bytes:
     """A line without its end."""
     line = line[:-1] if line.endswith(b"\n") else line
     return line[:-1] if line.endswith(b"\r") else line
-
-
-def _row(line: bytes) -> str:
-    """A line with its numbers as the program prints them."""
-    record, tail = split_row(decoded(line))
-    return "\t".join(record) + tail

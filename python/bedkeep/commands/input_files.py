@@ -6,6 +6,7 @@
 """
 from __future__ import annotations
 
+import copy
 import os
 import tempfile
 from types import TracebackType
@@ -13,13 +14,24 @@ from typing import Optional, Sequence, Union
 
 from ..bed import lengths_of, width_of
 from ..encoding import Path
-from ..errors import Ended, Error
+from ..errors import Damaged, Ended, Error
 from ..files import plain, refuse_inputs
+from ..given import Genome
 from ..program import MOST
 from ..record import NARROWEST
+from ..runs import merge
 from ..session import Session
 from .carry import Carrier
-from .corrections import Line, read_lines
+from .corrections import Line, read_scripts
+from .loading import loading
+
+
+def refuse_damaged(genome: Genome, bed: str, name: str) -> None:
+    """Raises Damaged, with what the file looks like, if the program doesn't take its records. name: what messages call the file"""
+    try:
+        merge(genome, bed).close()
+    except Damaged as failure:
+        raise Damaged(failure.status, failure.message.replace(bed, name, 1), failure.hint) from None
 
 
 class Inputs:
@@ -27,7 +39,7 @@ class Inputs:
 
     genome:  the path of the genome file; lengths: its sequences and their lengths, in its order
     bed, second: the paths of the BED files; widths: their numbers of columns, by whether it is the second
-    lines:   of the corrections, with comments, empty lines and lines of views
+    lines:   of the corrections, with comments, empty lines and lines of views; scripts: those of each script
     given:   the names of all files, as they were given
     """
 
@@ -39,10 +51,12 @@ class Inputs:
         self._folder = tempfile.TemporaryDirectory(prefix="bedkeep-")
         self._named: dict[str, str] = {}  # the names as they were given, by the paths that the program reads
         try:
-            self.lines: list[Line] = read_lines(given[2:2 + len(scripts)])
-            self.genome = self._plain(given[0])
-            self.bed = self._plain(given[1])
-            self.second = self._plain(given[-1]) if second else None
+            self.scripts = read_scripts(given[2:2 + len(scripts)])
+            self.lines: list[Line] = [line for lines in self.scripts for line in lines]
+            with loading(given[1]):
+                self.genome = self._plain(given[0])
+                self.bed = self._plain(given[1])
+                self.second = self._plain(given[-1]) if second else None
         except BaseException:
             self.close()
             raise
@@ -61,6 +75,8 @@ class Inputs:
         self.close()
         if isinstance(failure, Ended):
             failure.message = self.named(failure.message)
+        elif type(failure) is Error:
+            failure.args = (self.named(str(failure)),)
 
     def close(self) -> None:
         """Removes the copies that the program read."""
@@ -76,10 +92,17 @@ class Inputs:
             message = message.replace(f"{path}: ", f"{name}: ")
         return message
 
+    def with_lines(self, lines: Sequence[Line]) -> Inputs:
+        """The same files with some of the lines, or others. They are closed with these."""
+        inputs = copy.copy(self)
+        inputs.lines = list(lines)
+        return inputs
+
     def session(self, leave_blocks: bool = False) -> Session:
         """A session over the files, with all their columns. leave_blocks: as for a Session."""
         width = next((self.widths[second] for second in self._empty if self.widths[second]), None)
-        return Session(self.genome, self.bed, self.second, width=width, wide=True, leave_blocks=leave_blocks, limit=MOST)
+        with loading(self.given[1]):
+            return Session(self.genome, self.bed, self.second, width=width, wide=True, leave_blocks=leave_blocks, limit=MOST)
 
     def second_session(self) -> Session:
         """A session over the second file alone, as its track. It does what a session over both files did."""

@@ -11,17 +11,22 @@ import re
 from contextlib import suppress
 from typing import NamedTuple, Optional, Sequence
 
+from ..bgzf import ENDINGS
 from ..encoding import decoded, encoded
 from ..errors import Error
-from ..script import EDITS, VIEWS, is_reason
+from ..files import GZIP
+from ..script import EDITS, VIEWS, is_reason, is_signature
 
 BLOCK = 4096  # bytes that the disk has all of, or none
 REASON = re.compile(r"(?:^#.*\n)+\Z", re.MULTILINE)  # at the end of a text
 
 
 def paragraph(above: str, lines: Sequence[str], comments: Sequence[str]) -> list[str]:
-    """The lines of a paragraph below a line, which is empty if there is none."""
-    apart = bool(above) and (not any(map(is_reason, comments)) or above.startswith("#"))
+    """The lines of a paragraph below a line, which is empty if there is none. A signature is what begins it, or else an empty line.
+
+    So both are kept when git merges two scripts that had the same end: no line is common to what is appended to both.
+    """
+    apart = bool(above) and (not any(map(is_reason, comments)) or above.startswith("#")) and not any(map(is_signature, comments))
     return [*([""] if apart else []), *comments, *lines]
 
 
@@ -49,12 +54,16 @@ class Journal:
     """
 
     def __init__(self, path: str) -> None:
+        if path.endswith(ENDINGS):
+            raise Error(f"{path}: lines are appended to a script as text, so its name doesn't end in .{path.rpartition('.')[2]}")
         self.path = path
         self._file = _locked(path)
         self._last: list[Written] = []
         self._more = ""  # of another program, not handed out yet
         try:
             self._stamp, self._bytes = self._now(), bytearray(self._read())
+            if self._bytes.startswith(GZIP):
+                raise Error(f"{path}: gzip packed it, and lines are appended to a script as text: gunzip it first")
             end = _end_of_whole(self._bytes)
             self.text = decoded(bytes(self._bytes[:end]))
             _refuse_other_files(path, self.text)
@@ -79,6 +88,10 @@ class Journal:
         self._write(paragraph(self._above, lines, comments))
         self._last.append(written)
         return written
+
+    def leave(self, comments: Sequence[str]) -> None:
+        """Writes comments down that no line came for. An empty line ends them, so that they are above none."""
+        self.append([""], comments)
 
     @property
     def content(self) -> str:

@@ -1,39 +1,23 @@
 """The script again, with lines that fit: what `replay --mend` writes.
 
 A line that is mended comes below `# was: LINE`. One that is already so, or there, is left as `# dropped: LINE`. One in conflict
-is commented out below `# conflict: ..`, and so are all lines of its group. Reasons stay where they are, and none becomes that of
-another line.
+is commented out below `# conflict: ..`, and so are all lines of its group. Reasons and signatures stay where they are, and none
+becomes that of another line.
 """
 from __future__ import annotations
 
-from typing import Iterable, Iterator, Optional, Sequence
+from typing import Iterator, Sequence
 
-from ..script import is_marker
 from .causes import BAD, CONFLICT, DOABLE, GONE, SO, TAKEN, THERE, Finding
-from .corrections import Line
+from .corrections import Line, rewritten
 from .three_way import Version
 
 
-def mended(lines: Sequence[Line], findings: Iterable[Finding]) -> Iterator[str]:
+def mended(lines: Sequence[Line], findings: Sequence[Finding]) -> Iterator[str]:
     """The lines of the scripts again. findings: of those that are run."""
-    found = {finding.line.number: finding for finding in findings}
-    out = {id(finding.line.group) for finding in found.values() if finding.line.group and finding.kind not in DOABLE}
-    is_left = False  # whether a line was left out last, whose reason is above
-    before: Optional[Line] = None
-    for line in lines:
-        finding = found.get(line.number)
-        is_comment = line.text.startswith("#")
-        ends = is_comment and not is_marker(line.text)
-        begins = before and before.file != line.file and not ends and bool(before.heading or is_left)
-        if line.text and (is_left and (ends or begins) or begins):
-            yield ""
-        if finding:
-            text, is_left = written(finding, bool(line.group) and id(line.group) in out)
-            yield from text
-        else:
-            yield line.text
-            is_left = is_left and is_comment and not ends
-        before = line
+    out = {id(finding.line.group) for finding in findings if finding.line.group and finding.kind not in DOABLE}
+    return rewritten(lines, {finding.line.number: written(finding, bool(finding.line.group) and id(finding.line.group) in out)
+                             for finding in findings})
 
 
 def written(finding: Finding, is_out: bool) -> tuple[list[str], bool]:

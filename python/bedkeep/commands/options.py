@@ -11,8 +11,11 @@ from .input_files import Inputs
 
 
 EPILOG = """A file may be packed by gzip; - is standard input. A line of six columns over a BED file of more leaves the others,
-and has those follow that begin or end where the record does. On standard error a message is FILE: line N: and why the line was
-refused, or `done, but` and what doesn't hold, or `already there:`. The last two are warnings, and the status is 1 only for the first."""
+and has those follow that begin or end where the record does. GFF3 and GTF are taken as BED of ten columns: start - 1, end, name, score,
+strand, then source, type, phase and attributes. The name is the record's own: ID, else Name, of GFF3, and in GTF what is called as
+the type is, such as exon_id. On standard error a message is FILE: line N: and why the line was
+refused, or `done, but` and what doesn't hold, or `already there:`. The last two are warnings, and the status is 1 only for the first.
+With --refused it is 0 for these too, once FILE has their messages."""
 
 
 def add_options(parser: argparse.ArgumentParser) -> None:
@@ -22,7 +25,7 @@ def add_options(parser: argparse.ArgumentParser) -> None:
     parser.add_argument("corrections", metavar="CORRECTIONS", nargs="+", help="scripts, read as one")
     parser.add_argument("-b", dest="second", metavar="SECOND", help="the second file")
     add_judging(parser)
-    parser.add_argument("--refused", metavar="FILE", help="writes the messages of the refused lines alone there too")
+    parser.add_argument("--refused", metavar="FILE", help="writes the messages of the refused lines there too; then they are no failure")
 
 
 def add_judging(parser: argparse.ArgumentParser) -> None:
@@ -36,10 +39,12 @@ def add_editing(parser: argparse.ArgumentParser, no_script: str = "") -> None:
     """Adds the options that `curate` and `desk` share. no_script: what is so without --script"""
     parser.add_argument("genome", metavar="GENOME", help="the genome file")
     parser.add_argument("bed", metavar="BED", help="the BED file that is corrected, and not changed")
+    parser.add_argument("-b", dest="second", metavar="SECOND", help="the second file, for intersect and subtract")
     parser.add_argument("--fasta", metavar="FASTA", help="the bases, for getfasta")
     parser.add_argument("--script", metavar="FILE", help="is carried out if it is there; each accepted line is appended at once" + no_script)
     parser.add_argument("--replay", metavar="OLD", action="append", default=[], help="a script for an earlier release: what fits "
                         "begins the new script, and each other line needs a decision")
+    parser.add_argument("--sign", metavar="NAME", help="has a line with NAME and the time begin each accepted paragraph of the script")
     parser.add_argument("--view", metavar="'merge -d 10'", action="append", help="a view to see, instead of the usual ones")
     add_judging(parser)
 
@@ -69,4 +74,4 @@ def write_refused(path: Optional[Path], inputs: Inputs) -> None:
         return
     refuse_inputs(path, inputs.given)
     with whole(path) as file:
-        file.writelines(encoded(f"{line.file}: line {line.place}: {line.message}\n") for line in inputs.lines if line.refusal)
+        file.writelines(encoded(f"{message}\n") for message in messages([line for line in inputs.lines if line.refusal]))

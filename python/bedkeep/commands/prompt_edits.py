@@ -5,10 +5,10 @@ from typing import Optional, Sequence
 
 from ..interrupts import Interrupts
 from ..record import Record
-from ..script import TOGETHER, is_reason
+from ..script import TOGETHER, is_reason, is_signature, signature
 from ..session import Session
 from .carry import Carrier, Editing
-from .corrections import Line, read_text
+from .corrections import Author, Line, author_of, read_text
 from .journal import FAILURES, Journal, Written, paragraph
 
 Move = tuple[bool, Optional[Record], Optional[Record]]
@@ -35,20 +35,30 @@ class Edit:
         self.moves.append((line.is_second, *line.asked()))
 
     @property
+    def author(self) -> Author:
+        """Who signed it."""
+        return author_of("".join(self.comments[:1]))
+
+    @property
     def reason(self) -> str:
-        """What to call it: its reason, or else its first line."""
+        """Its reason, or nothing."""
         texts = [comment[1:].strip().removeprefix(TOGETHER).strip() for comment in self.comments if is_reason(comment)]
-        return " ".join(filter(None, texts)) or " ".join(self.lines[:1]).replace("\t", " ")
+        return " ".join(filter(None, texts))
+
+    @property
+    def called(self) -> str:
+        """What to call it: its reason, or else its first line."""
+        return self.reason or " ".join(self.lines[:1]).replace("\t", " ")
 
 
 class Edits:
     """Has a session carry out what is typed. Each accepted paragraph is in the script, and in the journal if there is one.
 
-    done: the accepted edits in their order, without those that `undo` took back
+    done: the accepted edits in their order, without those that `undo` took back; name: who signs them, if somebody does
     """
 
-    def __init__(self, session: Session, carrier: Carrier, journal: Optional[Journal]) -> None:
-        self._session, self._carrier, self._journal = session, carrier, journal
+    def __init__(self, session: Session, carrier: Carrier, journal: Optional[Journal], name: Optional[str] = None) -> None:
+        self._session, self._carrier, self._journal, self._name = session, carrier, journal, name
         self.done: list[Edit] = []
         self._undone: list[Edit] = []
 
@@ -100,7 +110,7 @@ class Edits:
     def explain(self, comments: Sequence[str]) -> bool:
         """Puts comments above the last edit, and says whether it still is the last one of the journal. IndexError without one."""
         edit = self._last()
-        heading = _heading(comments, edit.title)
+        heading = self._signed(_heading(comments, edit.title))
         with Interrupts():
             if self._journal and not self._journal.explain(edit.written, edit.lines, heading):
                 return False
@@ -117,7 +127,7 @@ class Edits:
         with Interrupts():
             inverse = self._take_back(edit)
             try:
-                self._take_out(edit, inverse, taken_back(edit.reason, comments))
+                self._take_out(edit, inverse, taken_back(edit.called, comments))
             except FAILURES:
                 self._carrier.carry(_lines(edit))
                 raise
@@ -142,8 +152,8 @@ class Edits:
         comments: as for `undo`. None may be `standing` on it.
         """
         inverse = self.inverse(edit)
-        title = edit.reason if len(inverse) > 1 else ""
-        back = Edit(inverse, _heading(taken_back(edit.reason, comments), title), title)
+        title = edit.called if len(inverse) > 1 else ""
+        back = Edit(inverse, _heading(taken_back(edit.called, comments), title), title)
         back.takes = edit
         lines = self._carry(back, by)
         if any(line.is_done for line in lines):
@@ -192,7 +202,8 @@ class Edits:
         return lines
 
     def _keep(self, edit: Edit) -> None:
-        """Writes down an edit that was done; it is taken back if that can't be."""
+        """Writes down an edit that was done, signed now; it is taken back if that can't be."""
+        edit.comments = self._signed(edit.comments)
         try:
             edit.written = self._journal.append(edit.lines, edit.comments) if self._journal else None
         except FAILURES:
@@ -207,7 +218,12 @@ class Edits:
         if edit.written and self._journal.is_last(edit.written):
             self._journal.cut(edit.written)
         else:
-            self._journal.append(inverse, _heading(comments, "", len(inverse) > 1))
+            self._journal.append(inverse, self._signed(_heading(comments, "", len(inverse) > 1)))
+
+    def _signed(self, comments: Sequence[str]) -> list[str]:
+        """Comments below the signature of now, if somebody signs, and no other one."""
+        signatures = [signature(self._name)] if self._name else []
+        return [*signatures, *(text for text in comments if not is_signature(text))]
 
     def _take_back(self, edit: Edit) -> list[str]:
         """Has the session take back the last edit, and returns the lines that reverse it."""
@@ -230,11 +246,11 @@ class Edits:
 
     def _take_over(self, line: Line, above: Optional[Line]) -> None:
         """Keeps a line of the journal that was done, and the one above it."""
-        continues = above is not None and (above.heading, above.group) == (line.heading, line.group)
+        continues = above is not None and (above.above, above.group) == (line.above, line.group)
         if continues and line.group:
             self.done[-1].lines.append(line.text)
         else:
-            self.done.append(Edit([line.text], line.heading))
+            self.done.append(Edit([line.text], line.above))
             self.done[-1].continues = continues
         self.done[-1].take(line)
 

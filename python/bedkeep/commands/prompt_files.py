@@ -8,6 +8,7 @@ from typing import Callable, NamedTuple, Optional, Sequence
 
 from ..encoding import encoded
 from ..files import whole
+from ..script import signature
 from ..session import Session
 
 SORTED = "--sorted"
@@ -16,7 +17,7 @@ SORTED = "--sorted"
 class Given(NamedTuple):
     """The files of the prompt, and what it does with copies, and with blocks that can't hold.
 
-    script: where the accepted lines are kept; replayed: scripts for an earlier release
+    script: where the accepted lines are kept; replayed: scripts for an earlier release; sign: the name of who accepts lines
     """
 
     genome: str
@@ -27,11 +28,15 @@ class Given(NamedTuple):
     fasta: Optional[str] = None
     script: Optional[str] = None
     replayed: Sequence[str] = ()
+    sign: Optional[str] = None
 
     @classmethod
     def of(cls, given: argparse.Namespace, script: Optional[str]) -> Given:
-        """The files that the options of `curate` and `desk` name."""
-        return cls(given.genome, given.bed, given.second, given.copies, given.leave_blocks, given.fasta, script, given.replay)
+        """The files that the options of `curate` and `desk` name. ValueError if nobody can sign by the name."""
+        if given.sign is not None:
+            signature(given.sign)
+        return cls(given.genome, given.bed, given.second, given.copies, given.leave_blocks, given.fasta, script, given.replay,
+                   given.sign)
 
 
 class PromptFiles:

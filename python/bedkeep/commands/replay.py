@@ -49,11 +49,38 @@ def replay(genome: Path, bed: Path, corrections: Union[Path, Sequence[Path]], se
            ignore: Union[str, Sequence[str]] = (), copies: bool = False, leave_blocks: bool = False) -> Replayed:
     """Replays scripts of corrections over a BED file, which may be another release than the one they were made for.
 
-    No file is changed. Positions count from 0, and ends are not included. Raises an Error if a file can't be used; a line that
-    doesn't fit raises nothing, and has its finding.
+    No file is changed. A line that doesn't fit raises nothing, and has its finding.
 
-    ignore: which of `name`, `score` and `strand` may differ; copies: whether an `add` of a record that is there puts a copy in;
-    leave_blocks: whether a line is done after which columns from the seventh on can't hold
+    Parameters
+    ----------
+    genome, bed : path
+        The genome file and the BED file.
+    corrections : path, or sequence of paths
+        The scripts: positions count from 0, and ends are not included.
+    second : path, optional
+        The second file.
+    ignore : str or sequence of str, optional
+        Which of `name`, `score` and `strand` may differ.
+    copies : bool, optional
+        Whether an `add` of a record that is there puts a copy in.
+    leave_blocks : bool, optional
+        Whether a line is done after which columns from the seventh on can't hold.
+
+    Returns
+    -------
+    Replayed
+        Its `findings`, one for each correction, and the script again by `mended()`.
+
+    Raises
+    ------
+    Error, OSError, ValueError
+        A file can't be used.
+
+    Examples
+    --------
+    >>> replayed = bedkeep.replay("sizes", "genes.bed", "corrections")
+    >>> [finding.kind for finding in replayed.findings]
+    ['fits', 'moved']
     """
     with Inputs(genome, bed, corrections, second) as inputs:
         return replay_inputs(inputs, [ignore] if isinstance(ignore, str) else ignore, copies, leave_blocks)
@@ -125,9 +152,9 @@ def options(parser: argparse.ArgumentParser) -> None:
 
 
 def run(given: argparse.Namespace) -> int:
-    """Prints what each line is about, and returns the status: 1 if lines don't fit."""
-    if given.mend == "-":
-        raise Error("--mend needs a file, since the report is on standard output")
+    """Prints what each line is about, and returns the status: 1 if lines don't fit that no file lists."""
+    if "-" in (given.mend, given.refused):
+        raise Error(f"{'--mend' if given.mend == '-' else '--refused'} needs a file, since the report is on standard output")
     if given.mend and os.path.lexists(given.mend):
         raise Error(f"{given.mend} is there already")
     with Inputs(given.genome, given.bed, given.corrections, given.second) as inputs:
@@ -139,4 +166,4 @@ def run(given: argparse.Namespace) -> int:
     rows = table(replayed.findings) if given.tsv else report(replayed.findings)
     sys.stdout.buffer.writelines(encoded(f"{row}\n") for row in rows)
     sys.stdout.flush()
-    return 1 if replayed.is_refused else 0
+    return 1 if replayed.is_refused and not given.refused else 0

@@ -23,10 +23,10 @@ def options(parser: argparse.ArgumentParser) -> None:
 
 
 def run(given: argparse.Namespace) -> int:
-    """Writes the page, and returns the status: 1 if lines were refused."""
+    """Writes the page, and returns the status: 1 if lines were refused that no file lists."""
     contents = write_page(given.genome, given.bed, given.corrections, given.page, given.second, given.distance, given.igv,
                           given.copies, given.leave_blocks, given.refused)
     counts = Counter(state_of(line) for line in contents.run)
     there = f", {counts['there']} already there" if counts["there"] else ""
     print(f"{given.page}: {counts['done']} done, {counts['refused']} refused{there}", file=sys.stderr)
-    return 1 if counts["refused"] else 0
+    return 1 if counts["refused"] and not given.refused else 0

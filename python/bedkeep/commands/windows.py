@@ -19,7 +19,10 @@ from typing import BinaryIO, Iterable, Iterator, NamedTuple, Optional, Sequence
 
 from ..bed import lengths_of
 from ..errors import Error
+from ..files import line_text, opened
+from ..forms import is_header
 from ..program import find
+from .input_files import refuse_damaged
 
 FILES = ("-g", "-i", "-a", "-bed", "-b", "-fi")
 VALUED = (*FILES, "-d", "-c", "-o", "-width", "-limit")
@@ -144,6 +147,19 @@ def check(run: Run) -> None:
         unknown = [name for name in names_in(bed) if name not in known]
         if unknown:
             raise NoRows(f"{bed}: unknown sequence: {unknown[0]}")
+        if os.path.isfile(bed):
+            check_first(run.genome, bed)
+
+
+def check_first(genome: str, bed: str) -> None:
+    """Refuses a file whose first record the program doesn't take, such as one of GFF, whose columns awk would take for others."""
+    with opened(bed) as file, tempfile.NamedTemporaryFile(prefix="bedkeep-") as first:
+        for line in file:
+            first.write(line)
+            if not is_header(line_text(line)):
+                break
+        first.flush()
+        refuse_damaged(genome, first.name, bed)
 
 
 def windows_of(run: Run, size: int) -> list[Window]:

@@ -152,8 +152,8 @@ class Worklist:
         lines = [finding.line for unit in self._units if unit.number not in self.items for finding in unit.findings
                  if finding.line.is_done]
         above = ""
-        for (heading, _), listed in groupby(lines, key=_paragraph):
-            for above in paragraph(above, [line.text for line in listed], heading):
+        for (comments, _), listed in groupby(lines, key=_paragraph):
+            for above in paragraph(above, [line.text for line in listed], comments):
                 yield above
 
     def as_json(self) -> dict[str, Any]:
@@ -163,4 +163,4 @@ class Worklist:
 
 def _paragraph(line: Line) -> tuple[tuple[str, ...], int]:
     """What the lines of a paragraph share."""
-    return line.heading, id(line.group)
+    return line.above, id(line.group)

@@ -31,4 +31,5 @@ def _with_others(old: Record, tail: str, new: Record, others: Mapping[str, str])
     record, tail = (old, tail) if followed.fault else (new, followed.tail)
     for name in sorted(others, key=lambda name: name != "blocks"):
         record, tail = with_field(record, tail, name, others[name])
-    return (*record[:3], *new[3:]), tail
+    name = record[3] if new[3] == old[3] else new[3]  # Attributes that are given have it.
+    return (*record[:3], name, *new[4:]), tail

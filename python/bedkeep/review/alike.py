@@ -17,11 +17,15 @@ SHOWN = 3  # lines of a card of many that have pictures
 
 
 class Unit(NamedTuple):
-    """The lines of a card. together: whether they are done whole or not at all; title: what they have in common, of several"""
+    """The lines of a card. together: whether they are done whole or not at all; title: what they have in common, of several
+
+    kind: the class of what two scripts make of one record
+    """
 
     findings: Sequence[Finding]
     together: bool = False
     title: str = ""
+    kind: str = ""
 
     @property
     def is_long(self) -> bool:

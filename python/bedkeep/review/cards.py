@@ -12,6 +12,7 @@ from .parts import BOLD, CODE, LINE, LINK, RECORDS, Note, Part, columns_of
 from .reviewer import Reviewed
 
 THERE = "already there"
+AUTHORS = 3  # that are named on a card
 
 
 class Card(NamedTuple):
@@ -29,7 +30,8 @@ class Card(NamedTuple):
     @property
     def groups(self) -> list[str]:
         """By what the filters find it."""
-        return list(dict.fromkeys(group for one in self.reviewed for group in _groups_of(one)))
+        own = [self.unit.kind] if self.unit.kind else []
+        return list(dict.fromkeys([*own, *(group for one in self.reviewed for group in _groups_of(one))]))
 
     @property
     def sequences(self) -> list[str]:
@@ -63,23 +65,37 @@ def _groups_of(reviewed: Reviewed) -> list[str]:
 def html_of(card: Card, several: bool) -> str:
     """several: whether the lines are of several scripts, so that each names its own."""
     first = card.reviewed[0].line
-    reasons = "".join(f"<p class=reason>{escaped(comment)}</p>" for comment in first.comments if comment)
+    own = len({one.line.comments for one in card.reviewed}) > 1  # reasons of each line, or one for all
+    reasons = "" if own else _reasons(first)
+    authors = f"<p class=author>{escaped(_authors(card))}</p>" if _authors(card) else ""
     shown = card.reviewed[:len(card.unit.shown)]
     title = f"<h3>{escaped(card.unit.title)}</h3>" if card.unit.title else ""
-    parts = [_line(one, several) for one in shown] if len(card.reviewed) > 1 else [_body(one) for one in shown]
+    parts = [_line(one, several, own) for one in shown] if len(card.reviewed) > 1 else [_body(one) for one in shown]
     listed = _all(card, several) if card.unit.is_long else ""
     return (f'<article id=L{first.number} class={card.state} data-groups="{escaped("|".join(card.groups))}" '
             f'data-command="{escaped("|".join(card.commands))}" data-sequence="{escaped(chr(9).join(card.sequences))}" '
             f'data-lines="{_ranges(one.line.number for one in card.reviewed)}" data-search="{escaped(_searched(shown, several))}">'
             f'<header><a class=number href="#L{first.number}">{escaped(_places(card, several))}</a>{_verdict(card)}'
             '<label><input type=checkbox class=seen> seen</label></header>'
-            f'{reasons or "<p class=none>no reason given</p>"}{title}{"".join(parts)}{listed}</article>\n')
+            f'{reasons}{authors}{title}{"".join(parts)}{listed}</article>\n')
+
+
+def _reasons(line: Line) -> str:
+    reasons = "".join(f"<p class=reason>{escaped(comment)}</p>" for comment in line.comments if comment)
+    return reasons or "<p class=none>no reason given</p>"
+
+
+def _authors(card: Card) -> str:
+    """Who made the corrections of a card, and when, as far as that is known."""
+    said = dict.fromkeys(", ".join(filter(None, [author.name, author.date[:10]])) for author in (one.line.author for one in card.reviewed))
+    listed = [text for text in said if text]
+    return "; ".join(listed[:AUTHORS]) + (f"; {number(len(listed) - AUTHORS)} more" if len(listed) > AUTHORS else "")
 
 
 def _searched(shown: Iterable[Reviewed], several: bool) -> str:
     """What the search looks at, beside the list of all lines."""
     texts = [text for one in shown for text in (one.line.text.replace("\t", " "), *one.line.comments, one.line.refusal,
-                                                one.line.warning, _place(one.line, several))]
+                                                one.line.warning, one.line.author.name, _place(one.line, several))]
     return " ".join(dict.fromkeys(texts)).lower()
 
 
@@ -89,8 +105,8 @@ def _place(line: Line, several: bool) -> str:
 
 def _places(card: Card, several: bool) -> str:
     lines = [one.line for one in card.reviewed]
-    if len(lines) == 1:
-        return _place(lines[0], several)
+    if len(lines) == 1 or card.unit.kind and not card.unit.is_long:
+        return ", ".join(_place(line, several) for line in lines)
     file = f"{lines[0].file}: " if several else ""
     return f"{file}lines {number(lines[0].place)} to {number(lines[-1].place)}"
 
@@ -109,6 +125,7 @@ def _verdict(card: Card) -> str:
     lines = [one.line for one in card.reviewed]
     kinds = dict.fromkeys(one.finding.kind for one in card.reviewed if one.line.refusal)
     chips = [f"<span class=state>{THERE if card.state == 'there' else card.state}</span>"]
+    chips += [f"<span class=kind>{card.unit.kind}</span>"] if card.unit.kind else []
     chips += ["<span class=kind>together</span>"] if card.unit.together else []
     chips += [f"<span class=kind>{escaped(kind)}</span>" for kind in kinds]
     chips += ['<span class="kind warned">warning</span>'] if any(line.warning for line in lines) else []
@@ -117,8 +134,10 @@ def _verdict(card: Card) -> str:
     return "".join(chips) + (f"<b class=why>{escaped('; '.join(list(refusals)[:2]))}</b>" if refusals else "")
 
 
-def _line(reviewed: Reviewed, several: bool) -> str:
-    return f"<section><p class=line>{escaped(_place(reviewed.line, several))}</p>{_body(reviewed)}</section>"
+def _line(reviewed: Reviewed, several: bool, own: bool) -> str:
+    """A line of several. own: whether its reasons aren't those of the card"""
+    reasons = _reasons(reviewed.line) if own else ""
+    return f"<section><p class=line>{escaped(_place(reviewed.line, several))}</p>{reasons}{_body(reviewed)}</section>"
 
 
 def _body(reviewed: Reviewed) -> str:

@@ -10,6 +10,7 @@ from typing import Iterable, Iterator, Optional, Sequence
 from ..commands.input_files import Inputs
 from ..commands.options import write_refused
 from ..encoding import encoded
+from ..errors import Error
 from ..files import refuse_inputs, whole
 from .igv import colour_rows, session_rows
 from .page import Contents, page
@@ -23,13 +24,15 @@ def write_page(genome: str, bed: str, corrections: Sequence[str], path: str, sec
 
     distance: of the blocks; igv: what IGV calls the genome; copies, leave_blocks, refused: as for `apply`
     """
+    if path == "-":
+        raise Error("-o needs a file, since others come beside the page")
     with tempfile.TemporaryDirectory(prefix="bedkeep-") as folder:
         files = [_kept(name, folder) for name in (genome, bed, *([second] if second else []), *corrections)]
         stem = os.path.splitext(path)[0]
         outputs = [f"{stem}.corrections.bed", f"{stem}.session.xml", *([] if igv else [f"{stem}.chrom.sizes"]), path]
         for output in outputs:
             refuse_inputs(output, files)
-        sums = list(_sums(files))
+        sums = list(sums_of(files))
         with Inputs(files[0], files[1], files[-len(corrections):], files[2] if second else None) as inputs:
             contents = review(inputs, distance, sums, copies, leave_blocks)
             write_refused(refused, inputs)
@@ -62,7 +65,7 @@ def _kept(path: str, folder: str) -> str:
     return copy
 
 
-def _sums(paths: Iterable[str]) -> Iterator[tuple[str, str]]:
+def sums_of(paths: Iterable[str]) -> Iterator[tuple[str, str]]:
     """The SHA-256 of files as they are."""
     for path in paths:
         with open(path, "rb") as file:

@@ -24,6 +24,7 @@ class Contents(NamedTuple):
 
     scripts, bed: as they were given; sums: the SHA-256 of each input; version: the program's
     lines: all of the scripts; cards: of all corrections; before, after: the track; distance: of the blocks
+    note: what else is to be known, if the cards aren't all lines one after another
     """
 
     scripts: Sequence[str]
@@ -37,6 +38,7 @@ class Contents(NamedTuple):
     after: Totals
     distance: int
     has_second: bool
+    note: str = ""
 
     @property
     def run(self) -> list[Line]:
@@ -70,7 +72,7 @@ def _text(name: str) -> str:
 def _head(contents: Contents) -> str:
     views = sum(bool(line.text) and not line.text.startswith("#") and not line.is_run for line in contents.lines)
     left = f" {counted(views, 'line')} of views {'is' if views == 1 else 'are'} left out." if views else ""
-    return f"{escaped(contents.version)}.{left}"
+    return " ".join(filter(None, [f"{escaped(contents.version)}.{left}", contents.note]))
 
 
 def _counts(contents: Contents) -> str:
@@ -124,6 +126,7 @@ def _options(values: Iterable[str]) -> str:
 
 def _footer(contents: Contents) -> str:
     sums = "".join(f"<tr><td>{escaped(name)}</td><td><code>{digest}</code></td></tr>" for name, digest in contents.sums)
+    follow = "" if contents.note else "The pictures between follow its verdicts line by line, and arrive at that track. "
     return ("<footer><h2>What this page rests on</h2><p class=quiet>Each verdict, and the track and its blocks before and after "
-            "all lines, are the program's. The pictures between follow its verdicts line by line, and arrive at that track. These "
+            f"{'them' if contents.note else 'all lines'}, are the program's. {follow}These "
             f"files were read (SHA-256):</p><div class=scroll><table class=sums><tbody>{sums}</tbody></table></div></footer>")

@@ -3,8 +3,9 @@ from __future__ import annotations
 
 import subprocess
 from contextlib import ExitStack
-from typing import Sequence
+from typing import Collection, Optional, Sequence
 
+from ..commands.authors import blame
 from ..commands.input_files import Inputs
 from ..commands.replay import replay_inputs
 from ..program import find
@@ -16,13 +17,18 @@ from .reviewer import Reviewer
 from .totals import Totals
 
 
-def review(inputs: Inputs, distance: int, sums: Sequence[tuple[str, str]], copies: bool = False, leave_blocks: bool = False) -> Contents:
-    """All that the page shows. Differs if the program does otherwise with the lines that it did at first."""
+def review(inputs: Inputs, distance: int, sums: Sequence[tuple[str, str]], copies: bool = False, leave_blocks: bool = False,
+           shown: Optional[Collection[int]] = None) -> Contents:
+    """All that the page shows. Differs if the program does otherwise with the lines that it did at first.
+
+    shown: the numbers of the lines that have pictures, if not those of all cards have them
+    """
     lengths = inputs.lengths
     findings = replay_inputs(inputs, copies=copies, leave_blocks=leave_blocks).findings
     lines = [finding.line for finding in findings]
+    blame(inputs.lines)
     units = list(units_of(findings))
-    pictured = {finding.line.number for unit in units for finding in unit.shown}
+    pictured = {finding.line.number for unit in units for finding in unit.shown} if shown is None else shown
     with ExitStack() as stack:
         sessions = {False: stack.enter_context(inputs.session(leave_blocks=True))}
         if inputs.second:

@@ -43,7 +43,7 @@ function fill(head, all, mark, make, what) {
   if (at >= most) most = at + MORE;
   cards = new Map();
   for (const one of all.slice(0, most)) {
-    const here = one.number === mark, seen = JSON.stringify([one.number, here, one.verdict || one.state, one.lines[0], one.reason]);
+    const here = one.number === mark, seen = JSON.stringify([one.number, here, one.verdict || one.state, one.lines[0], one.reason, one.date]);
     cards.set(seen, before.get(seen) || make(one, here));
   }
   const rest = Math.max(0, all.length - most), more = `Show ${number(Math.min(MORE, rest))} more of ${number(rest)} ${what}`;
@@ -63,7 +63,7 @@ const KINDS = { refused: 'refused', 'taken back': 'back', 'already there': 'back
 function correction(entry, here) {
   const kind = KINDS[entry.verdict] || 'done', said = entry.verdict === 'refused' ? `✗ ${short(shown(entry.message), 300)}` : entry.verdict === 'done'
     ? (entry.warnings || []).map(shown).join('; ') : `${entry.verdict}${entry.by ? ` by ${number(entry.by)}` : ''}`;
-  return card(number(entry.number), kind, here, titleOf(entry), entry.reason,
+  return card(number(entry.number), kind, here, titleOf(entry), entry.reason, authorOf(entry),
     said ? el('span', { class: `state ${kind === 'refused' ? 'no' : 'meant'}` }, said) : null, () => visit(entry));
 }
 
@@ -77,14 +77,18 @@ function decisions(worklist) {
 
 function undecided(item, here) {
   const line = lineOf(item), open = item.state === 'open', unlike = open && unlikeOf(line);
-  return card(line.at, open ? 'open' : item.state === 'dropped' ? 'back' : 'done', here, toldOf(item), item.reason,
+  return card(line.at, open ? 'open' : item.state === 'dropped' ? 'back' : 'done', here, toldOf(item), item.reason, '',
     el('span', { class: `state ${open ? 'no' : 'yes'}` }, open ? `${line.kind}${unlike ? `: ${shown(unlike)}` : ''}` : `✓ ${stateOf(item)}`), () => choose(item));
 }
 
-function card(at, kind, here, told, reason, state, onclick) {
+// Who made a correction, and on which day, if that is known.
+const authorOf = entry => [entry.author, entry.date.slice(0, 10)].filter(Boolean).join(', ');
+
+function card(at, kind, here, told, reason, author, state, onclick) {
   return el('button', { type: 'button', class: `card ${kind}${here ? ' at' : ''}`, 'aria-current': here ? 'true' : undefined, onclick },
     el('span', { class: 'number' }, at), el('span', { class: 'told name' }, told),
-    reason ? el('span', { class: 'reason name' }, short(shown(reason), 400)) : el('span', { class: 'reason none' }, 'no reason'), state);
+    reason ? el('span', { class: 'reason name' }, short(shown(reason), 400)) : el('span', { class: 'reason none' }, 'no reason'),
+    author ? el('span', { class: 'author name' }, short(shown(author), 80)) : null, state);
 }
 
 // Goes to a correction, and shows what it does and what became of it.
@@ -102,6 +106,7 @@ async function visit(entry) {
   const refused = entry.verdict === 'refused', said = refused ? `✗ Refused: ${short(shown(entry.message), 400)}` : done ? '✓ done' : entry.verdict;
   hand.prepend(el('p', { class: `verdict said ${refused ? 'no' : done ? 'yes' : 'meant'}` }, `${number(entry.number)}. ${said}`,
     entry.reason ? el('small', {}, ' “', name(short(entry.reason, 300)), '”') : null,
+    authorOf(entry) ? el('small', { class: 'author' }, ' ', name(short(authorOf(entry), 80))) : null,
       isBack(entry) ? button('Take it back', '⌫', () => takeBack(entry)) : null),
   ...linesOf(entry.lines, 4, 'said').filter(Boolean));
   if (refused) hand.className = 'refused';

@@ -4,8 +4,10 @@ export const rowsOf = text => text ? text.replace(/\n$/, '').split('\n').map(row
 export const keyOf = record => record.join('\t');
 
 export const SIX = 6;
+const FEATURE = ['source', 'type', 'phase', 'attributes'];
 const NAMES = { BED8: ['thickStart', 'thickEnd'], BED9: ['thickStart', 'thickEnd', 'itemRgb'], BED12: ['thickStart', 'thickEnd', 'itemRgb', 'blocks'],
-  narrowPeak: ['signalValue', 'pValue', 'qValue', 'summit'], broadPeak: ['signalValue', 'pValue', 'qValue'] };
+  narrowPeak: ['signalValue', 'pValue', 'qValue', 'summit'], broadPeak: ['signalValue', 'pValue', 'qValue'],
+  GFF3: FEATURE, GTF: FEATURE };
 const listed = text => (text || '').replace(/,$/, '').split(',').map(Number);
 
 // The blocks of a BED12 record on the sequence, or nothing if they can't be read.

@@ -1,0 +1,82 @@
+"""Merges scripts of corrections as git's merge drivers do, paragraph by paragraph, so that each line keeps its reason.
+
+What one side changed is taken. If one side only added paragraphs, they come after those of the other; one that both added is there
+once. What both changed otherwise is a conflict.
+"""
+from __future__ import annotations
+
+import os
+import tempfile
+from itertools import chain
+from typing import Iterator, Optional, Sequence
+
+from ..encoding import Path, encoded
+from ..script import is_reason, is_signature
+from .git_merge import Merged, said_of, text_of
+from .git_texts import NAMES, OURS, File, Part, Style
+
+Paragraph = tuple[str, ...]  # its lines: the signature and the reason, the corrections, and an empty line if one ends it
+
+
+def merge_scripts(base: Path, ours: Path, theirs: Path, style: Style = Style()) -> Merged:
+    """Merges two versions of a script, either of which gzip may have packed. No file is changed."""
+    with tempfile.TemporaryDirectory(prefix="bedkeep-") as folder:
+        files = [File(given, os.path.join(folder, name)) for given, name in zip((base, ours, theirs), NAMES)]
+        listed = [list(paragraphs(file.lines())) for file in files]
+        known = list(dict.fromkeys(chain(*listed)))
+        numbers = {paragraph: number for number, paragraph in enumerate(known)}
+        for file, side in zip(files, listed):
+            with open(file.path, "wb") as copy:  # a line for each paragraph
+                copy.writelines(encoded(f"{numbers[paragraph]}\n") for paragraph in side)
+        parts = list(_parts(style.merged([file.path for file in files]), known, style))
+        return Merged(text_of(parts, files), files[OURS].is_packed, list(said_of(parts, [])), [])
+
+
+def paragraphs(lines: Sequence[str]) -> Iterator[Paragraph]:
+    """The paragraphs of a script: one begins by its signature or reason, or after an empty line."""
+    begun: list[str] = []
+    for line in lines:
+        if begun and (not begun[-1] or is_signature(line) or is_reason(line) and not _is_heading(begun[-1])):
+            yield tuple(begun)
+            begun = []
+        begun.append(line)
+    if begun:
+        yield tuple(begun)
+
+
+def _is_heading(line: str) -> bool:
+    return is_reason(line) or is_signature(line)
+
+
+def _parts(merged: Sequence[Part], known: Sequence[Paragraph], style: Style) -> Iterator[Part]:
+    """The parts of the merged script. merged: the same with the numbers of paragraphs as lines"""
+    last = ""  # the line above
+    for part in merged:
+        settled = _settled(part)
+        if settled is None:
+            base, ours, theirs = ([line for number in side for line in known[int(number)]] for side in part.sides or ())
+            yield style.conflict((base, ours, theirs))
+            last = ""
+            continue
+        lines: list[str] = []
+        for number in settled:
+            paragraph = known[int(number)]
+            lines += [""] * _would_join(last, paragraph[0]) + list(paragraph)
+            last = paragraph[-1]
+        yield Part(lines)
+
+
+def _settled(part: Part) -> Optional[Sequence[str]]:
+    """The paragraphs of a part, or None if both sides changed them otherwise than by adding others."""
+    if not part.sides:
+        return part.lines
+    base, *sides = part.sides
+    for one, other in (sides[1], sides[0]), (sides[0], sides[1]):
+        if one[:len(base)] == base:
+            return [*other, *(number for number in one[len(base):] if number not in other)]
+    return None
+
+
+def _would_join(last: str, first: str) -> bool:
+    """Whether a paragraph would be taken for a part of the one above it."""
+    return bool(last and first) and (not _is_heading(first) or _is_heading(last) and not is_signature(first))
