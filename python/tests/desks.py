@@ -79,7 +79,7 @@ class Here(Asked):
         command.options(parser)
         given = parser.parse_args(["sizes", "genes.bed", "--script", script, *words])
         files, views = command.asked(given)
-        there = {name: value and os.path.join(folder, value) for name, value in files._asdict().items() if isinstance(value, str)}
+        there = {name: value and os.path.join(folder, value) for name, value in files._asdict().items() if isinstance(value, str) and name != "sign"}
         files = files._replace(**there, replayed=[os.path.join(folder, path) for path in files.replayed])
         self._stack = ExitStack()
         self.server = Server(0)

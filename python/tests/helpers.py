@@ -123,7 +123,7 @@ class Prompted(Case):
 
     def has(self, *script):
         """That the script has these lines, with spaces for TABs."""
-        self.assertEqual(self.path.read_text(), script_of("\n".join(script)) if script else "")
+        self.assertEqual(self.path.read_text(), script_of("\n".join([*script, ""])) if script else "")
 
 
 class Corrected(Case):
@@ -138,6 +138,30 @@ class Corrected(Case):
         outcome.track, outcome.said = (outcome.status, outcome.rows), (outcome.status, outcome.messages)
         outcome.carried = (*outcome.track, outcome.messages)
         return outcome
+
+
+class Repository:
+    """A git repository in a folder, with the settings of nobody."""
+
+    def __init__(self, folder, branch="main"):
+        self.folder = folder
+        self.git("init", "-q", "-b", branch)
+
+    def git(self, *words, **more):
+        alone = {name: value for name, value in os.environ.items() if not name.startswith("GIT_")}
+        given = {**alone, "GIT_CONFIG_GLOBAL": os.devnull, "GIT_CONFIG_NOSYSTEM": "1", **more}
+        return subprocess.run(["git", "-C", self.folder, *words], env=given, stdout=subprocess.PIPE, check=True).stdout.decode().strip()
+
+    def by(self, name, *words, date="2026-01-01T00:00:00+0000"):
+        """What somebody does."""
+        who = {f"GIT_{role}_{what}": value for role in ("AUTHOR", "COMMITTER") for what, value in (("NAME", name), ("EMAIL", "x@y"))}
+        return self.git(*words, **who, GIT_AUTHOR_DATE=date)
+
+    def commit(self, name, **date):
+        """Commits all there is, and returns the commit."""
+        self.git("add", "-A")
+        self.by(name, "commit", "-q", "--allow-empty", "-m", "x", **date)
+        return self.git("rev-parse", "--short=10", "HEAD")
 
 
 class Outcome:
@@ -175,7 +199,7 @@ def tabs(text):
 
 def script_of(text):
     """The text of a script with TABs for the spaces of its lines, and not for those of comments."""
-    return "".join((line if line.startswith("#") else line.replace(" ", "\t")) + "\n" for line in text.rstrip("\n").split("\n"))
+    return "".join((line if line.startswith("#") else line.replace(" ", "\t")) + "\n" for line in text.removesuffix("\n").split("\n"))
 
 
 def printed(*words, **options):

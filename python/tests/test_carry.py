@@ -1,9 +1,11 @@
 """Scripts of corrections: reasons, groups and markers; and what comes of their lines."""
+import gzip
 import subprocess
 import sys
 from unittest import mock
 
 import bedkeep
+from bedkeep.commands import CLOSED
 from bedkeep.commands.carry import Carrier
 from bedkeep.commands.corrections import read_text
 from bedkeep.commands.three_way import Version, merge
@@ -229,9 +231,13 @@ class Options(Case):
     def test_refused_lines_alone_in_a_file(self):
         listed = self.folder / "listed"
         outcome = self.apply("--refused", listed)
-        self.assertEqual((outcome.status, listed.read_text()), (1, f"{self.script}: line 2: no such record: chr1 1 2 x\n"))
+        self.assertEqual((outcome.status, listed.read_text()), (0, f"{self.script}: line 2: no such record: chr1 1 2 x\n"))
         self.assertEqual(outcome.err.count("\n"), 2)
-        self.assertEqual(Outcome("replay", self.sizes, self.genes, self.script, "--refused", listed).status, 1)
+        for command, status in (("replay", 0), ("review", 0), ("apply", 1)):
+            words = ["-o", self.folder / "written"] if command != "replay" else []
+            strict = ["--strict"] if status else []  # Nothing is written then.
+            self.assertEqual(Outcome(command, self.sizes, self.genes, self.script, *words, *strict, "--refused", listed).status, status)
+        self.assertEqual(self.apply().status, 1)
         self.script.write_text("")
         self.assertEqual((self.apply("--refused", listed).status, listed.read_text()), (0, ""))
         self.assertEqual(self.apply("--refused", self.genes).failed, (2, f"{self.genes}: an input is never written over\n"))
@@ -248,7 +254,6 @@ class Options(Case):
         with mock.patch("os.fsync", side_effect=OSError(28, "No space left on device")):
             self.assertEqual(Outcome(*words, mend).failed, (2, f"{mend}: no space left on device\n"))
         self.assertFalse(mend.exists())
-        self.assertEqual(Outcome(*words, "-").failed, (2, "--mend needs a file, since the report is on standard output\n"))
         self.assertEqual(Outcome(*words, "/dev/full").failed, (2, "/dev/full is there already\n"))
 
     def test_nobody_reads_the_output(self):
@@ -258,15 +263,19 @@ class Options(Case):
             process.stdout.close()
             self.assertNotIn(b"pipe", process.stderr.read())
             process.stderr.close()
-            process.wait()
+            self.assertEqual(process.wait(), CLOSED)
 
     def test_a_file_of_another_format(self):
         """The program knows it by its columns, of which it is given six otherwise."""
-        for text, name in (("chr1\tx\tgene\t100\t200\t.\t+\t.\tID=a\n", "GFF"),
-                           ("##fileformat=VCFv4.2\n#CHROM\tPOS\tID\tREF\tALT\tQUAL\tFILTER\tINFO\nchr1\t100\trs1\tA\tG\t.\tPASS\t.\n", "VCF")):
-            outcome = Outcome("apply", self.sizes, self.file("other.bed", text), self.script)
-            self.assertEqual(outcome.status, 2)
-            self.assertRegex(outcome.err, f"(?s)^{self.folder}/other.bed: line .*looks like {name}.*awk")
+        text = "##fileformat=VCFv4.2\n#CHROM\tPOS\tID\tREF\tALT\tQUAL\tFILTER\tINFO\nchr1\t100\trs1\tA\tG\t.\tPASS\t.\n"
+        other, page = self.file("other.bed", text), self.folder / "page.html"
+        for words in (["apply", self.sizes, other, self.script], ["apply", self.sizes, self.genes, self.script, "-b", other],
+                      ["replay", self.sizes, other, self.script], ["review", self.sizes, other, self.script, "-o", page],
+                      ["curate", self.sizes, other], ["desk", self.sizes, other, "--no-browser"],
+                      ["diff", self.genes, other], ["diff", self.file("packed.gz", gzip.compress(text.encode())), other]):
+            outcome = Outcome(*words)
+            self.assertEqual(outcome.gave, (2, ""))
+            self.assertRegex(outcome.err, r"(?s)(other\.bed|packed\.gz): line .*looks like VCF.*awk")
 
 
 class Merges(Case):

@@ -1,11 +1,15 @@
 import gzip
+import io
 import os
+import re
 import subprocess
 import sys
+import time
 from unittest import mock
 
 import bedkeep
 from bedkeep import commands, program
+from bedkeep.commands.loading import CLEAR, in_command, loading
 from helpers import EXAMPLES, PROGRAM, Case, Outcome, tabs
 
 
@@ -25,9 +29,23 @@ class CommandLine(Case):
             outcome = Outcome(*words)
             self.assertEqual((outcome.status, outcome.out), (2, ""))
             self.assertTrue(outcome.err.startswith(message))
-        self.assertEqual(Outcome("--version").out, f"bedkeep {bedkeep.__version__}\n")
         for command in "apply", "diff", "replay", "curate":
             self.assertEqual((Outcome(command, "--help").status, Outcome(command, "--no-such").status), (0, 2))
+
+    def test_the_version(self):
+        """That of the program too if it is another one."""
+        old, absent, version = self.script("old", "echo bedkeep 0.9.1"), self.folder / "absent", bedkeep.__version__
+        for program, said in ((PROGRAM, ""), (self.script("other", "exit 1"), ""), (absent, f"no program '{absent}': "),
+                              (old, f"the program {old} is of version 0.9.1, and the package of {version}\n")):
+            with self.subTest(program), mock.patch.dict(os.environ, BEDKEEP=str(program)):
+                outcome = Outcome("--version")
+                self.assertEqual(outcome.gave, (0, f"bedkeep {version}\n"))
+                self.assertTrue(outcome.err.startswith(said) and bool(outcome.err) == bool(said))
+
+    def test_the_man_page_has_each_command(self):
+        page = (EXAMPLES.parent / "man/bedkeep-desk.1").read_text()
+        self.assertEqual(re.findall(r"^\.It Cm (\w+) .*\n(.*)$", page, re.M), list(commands.COMMANDS.items()))
+        self.assertEqual({int(status) for status in re.findall(r"^\.It (\d+)$", page, re.M)}, {0, 1, 2, commands.INTERRUPTED, commands.CLOSED})
 
     def test_installed_it_is_beside_the_program(self):
         def make(target):
@@ -44,13 +62,81 @@ class CommandLine(Case):
     def test_an_interrupt_leaves_nothing(self):
         with mock.patch("bedkeep.commands.input_files.Inputs.carry", side_effect=KeyboardInterrupt):
             outcome = Outcome("apply", self.sizes, self.genes, self.file("corrections", ""), "-o", self.folder / "corrected.bed")
-        self.assertEqual((outcome.status, outcome.err, os.path.exists(self.folder / "corrected.bed")), (2, "interrupted\n", False))
+        self.assertEqual((outcome.status, outcome.err, os.path.exists(self.folder / "corrected.bed")), (130, "interrupted\n", False))
+
+    def test_an_output_that_cannot_be_written(self):
+        """That is said once, and not at all if nobody reads it."""
+        script = self.file("corrections", "remove\tchr1\t100\t201\tgeneA\n")
+        environment = {name: text for name, text in os.environ.items() if name != "PYTHONUNBUFFERED"}
+        reader, unread = os.pipe()
+        os.close(reader)
+        with open(unread, "wb") as closed, open("/dev/full", "wb") as full:
+            for words in (["--help"], ["--version"], ["apply", "--help"], ["apply", self.sizes, self.genes, script, "-o", "-"],
+                          ["replay", self.sizes, self.genes, script], ["diff", self.genes, self.file("new.bed", "")], ["curate", self.sizes, self.genes]):
+                for output, status, said in (closed, 141, b""), (full, 2, b"standard output: no space left on device\n"):
+                    with self.subTest(words, output=output.name):
+                        run = subprocess.run([sys.executable, "-m", "bedkeep", *map(str, words)], stdin=subprocess.DEVNULL, stdout=output,
+                                             stderr=subprocess.PIPE, env=environment)
+                        self.assertEqual((run.returncode, run.stderr), (status, said))
+        words = [sys.executable, "-m", "bedkeep", "apply", self.sizes, self.genes, self.file("none", ""), "-o", self.folder / "corrected.bed"]
+        run = subprocess.run(["bash", "-c", '"$@" >&-', "bash", *map(str, words)], stderr=subprocess.PIPE)
+        self.assertEqual((run.returncode, run.stderr, (self.folder / "corrected.bed").read_bytes()), (0, b"", self.genes.read_bytes()))
 
     def test_it_runs_as_a_module(self):
         run = started("--help")
         self.assertEqual((run.returncode, run.stdout.decode()), (0, Outcome("--help").out))
         run = started("diff", self.genes, "no-such-file")
         self.assertEqual((run.returncode, run.stdout, run.stderr), (2, b"", b"no-such-file: no such file\n"))
+
+
+class Terminal(io.StringIO):
+    def isatty(self):
+        return True
+
+
+class Loading(Case):
+    """One line at a terminal, while files are read that take long."""
+
+    LINE = f"loading genes.bed{CLEAR}"
+
+    def setUp(self):
+        super().setUp()
+        slow = self.script("slow", f'sleep 0.4\nexec {PROGRAM} "$@"')
+        self.words = self.sizes, self.genes, self.file("corrections", "")
+        for patch in (mock.patch.dict(os.environ, BEDKEEP=str(slow), TERM="xterm"), mock.patch("bedkeep.commands.loading.SOON", 0.1)):
+            patch.start()
+            self.addCleanup(patch.stop)
+
+    def test_it_is_shown_and_taken_away(self):
+        page = self.folder / "page.html"
+        with mock.patch("io.StringIO", Terminal):
+            for words in ["apply", *self.words], ["replay", *self.words], ["review", *self.words, "-o", page]:
+                outcome = Outcome(*words)
+                self.assertEqual((outcome.status, outcome.err[:len(self.LINE)]), (0, self.LINE))
+                self.assertNotIn("loading", outcome.err.replace(self.LINE, ""))
+            with mock.patch("bedkeep.commands.loading.SOON", 60):
+                self.assertEqual(Outcome("apply", *self.words).err, "")
+
+    def test_only_a_person_gets_it(self):
+        """Nobody who calls a function, reads a pipe, or has a terminal that can't take a line away."""
+        self.assertEqual(Outcome("apply", *self.words).err, "")
+        with mock.patch("sys.stderr", Terminal()) as terminal:
+            bedkeep.apply(*self.words, self.folder / "corrected.bed")
+            self.assertEqual(terminal.getvalue(), "")
+        with mock.patch("io.StringIO", Terminal), mock.patch.dict(os.environ, TERM="dumb"):
+            self.assertEqual(Outcome("apply", *self.words).err, "")
+
+    def test_a_terminal_that_hangs_up(self):
+        with mock.patch("sys.stderr", Terminal()) as terminal, self.assertRaises(SystemExit), in_command(), loading("x"):
+            time.sleep(0.3)
+            terminal.write = mock.Mock(side_effect=OSError)
+            sys.exit(129)
+
+    def test_it_fits_into_a_line(self):
+        for name, shown in ("-", "standard input"), ("a/b\x1b[2Jc", "b?[2Jc"), ("x" * 99, "x" * 71):
+            with self.subTest(name), mock.patch("sys.stderr", Terminal()) as terminal, in_command(), loading(name):
+                time.sleep(0.3)
+            self.assertEqual(terminal.getvalue(), f"loading {shown}{CLEAR}")
 
 
 class Apply(Case):
@@ -121,6 +207,14 @@ class Apply(Case):
                 outcome = Outcome("apply", self.sizes, self.genes, script, "-o", name)
                 self.assertEqual((outcome.status, [path.read_bytes() for path in (self.sizes, self.genes, script)]), (2, before))
                 self.assertIn(said, outcome.err)
+
+    def test_standard_output_has_one_file(self):
+        words = self.sizes, self.genes, self.file("corrections", "")
+        for more, said in ((["apply", *words, "--refused", "-"], "only one file can be standard output"),
+                           (["replay", *words, "--refused", "-"], "--refused needs a file, since the report is on standard output"),
+                           (["replay", *words, "--mend", "-"], "--mend needs a file, since the report is on standard output"),
+                           (["review", *words, "-o", "-"], "-o needs a file, since others come beside the page")):
+            self.assertEqual(Outcome(*more).all, (2, "", f"{said}\n"))
 
     def test_nothing_is_written_unless_all_is(self):
         self.corrected.write_text("as before\n")

@@ -3,9 +3,11 @@ import itertools
 import json
 import os
 import random
+import shutil
 import signal
 import threading
 import time
+import unittest
 from contextlib import ExitStack, suppress
 from unittest import mock
 
@@ -15,7 +17,7 @@ from bedkeep.commands.core import Stale, Unwell, opened
 from bedkeep.commands.corrections import read_text
 from bedkeep.commands.journal import Journal
 from bedkeep.commands.prompt_files import Given
-from helpers import Case, Outcome, lines, script_of, tabs
+from helpers import Case, Outcome, Repository, lines, script_of, tabs
 from random_tracks import LENGTHS, Maker
 
 A, B = "chr1 100 200 geneA", "chr1 300 400 geneB"
@@ -179,7 +181,7 @@ class Done(Cores):
         self.assertEqual(self.script(), ["# one", f"remove {A}", "# three, which is longer", "# and goes on", f"remove {B}"])
         core.edit(lines("add chr1 1 2 x"), "four")
         core.leave(["for later"])
-        self.assertEqual(self.script()[-2:], ["add chr1 1 2 x", "# for later"])
+        self.assertEqual(self.script()[-3:], ["add chr1 1 2 x", "# for later", ""])
 
     def test_lines_that_are_made(self):
         core = self.core()
@@ -365,6 +367,91 @@ class Decisions(Released):
         self.assertEqual([entry.verdict for entry in core.entries], ["refused", "refused", "refused", "done"])
         core.drop(7, "gone")
         self.assertEqual(self.states(core.again()), ["open", "open", "decided"])
+
+
+class Signed(Released):
+    """Each paragraph that a prompt writes with --sign begins with a signature, which is never a reason."""
+
+    ADA, BO = (f"# signed: {name} 2026-03-01T12:00:00+01:00" for name in ("Ada", "Bo"))
+
+    def setUp(self):
+        super().setUp()
+        now = mock.patch("bedkeep.commands.prompt_edits.signature", lambda name: f"# signed: {name} 2026-03-01T12:00:00+01:00")
+        now.start()
+        self.addCleanup(now.stop)
+
+    def authors(self, core):
+        return [(one["reason"], one["author"], one["date"][:10]) for one in core.state()["corrections"]]
+
+    def test_what_is_written(self):
+        core = self.core(sign="Ada")
+        core.edit(lines("add chr1 1 2 x"))
+        core.edit(lines("add chr1 3 4 y", "add chr1 5 6 z"), f"both\n{self.BO[2:]}")
+        core.edit(lines("remove chr1 3 4 y"), "no")
+        core.explain("not one")
+        core.leave(["for later"])
+        core.take_back(1)
+        written = [self.ADA, "add chr1 1 2 x", self.ADA, "# together: both", f'# "{self.BO[2:]}"', "add chr1 3 4 y", "add chr1 5 6 z",
+                   self.ADA, "# not one", "remove chr1 3 4 y"]
+        after = [self.ADA, "# taken back: add chr1 1 2 x", "remove chr1 1 2 x"]
+        self.assertEqual(self.script(), [*written, "# for later", "", *after])
+        said = [("", "Ada", "2026-03-01"), (f'both "{self.BO[2:]}"', "Ada", "2026-03-01"), ("not one", "Ada", "2026-03-01"),
+                ("taken back: add chr1 1 2 x", "Ada", "2026-03-01")]
+        self.assertEqual(self.authors(core), said)
+        core = core.again()
+        self.assertEqual(self.authors(core), said)
+        self.assertEqual(core.accepted().replace("\t", " ").split("\n")[:-1], [*written, *after])
+
+    def test_another_day(self):
+        """What another one takes back, or does again, that one signs."""
+        self.path.write_text("\n".join([self.BO, "# why", *lines("add chr1 1 2 x", "add chr1 3 4 y"), ""]))
+        core = self.core(sign="Ada")
+        self.assertEqual(self.authors(core), [("why", "Bo", "2026-03-01")] * 2)
+        core.undo()
+        core.redo()
+        self.assertEqual(self.script()[4:], [self.ADA, "# taken back: why", "remove chr1 3 4 y", self.ADA, "# why", "add chr1 3 4 y"])
+        core = core.again()
+        core.undo(reason="no")
+        self.assertEqual(self.script()[10:], [self.ADA, "# taken back: no", "remove chr1 3 4 y"])
+        core = self.core(script=str(self.file("unsigned", self.path.read_text())))
+        core.undo()
+        core.redo()
+        self.assertEqual((self.folder / "unsigned").read_text().replace("\t", " ").split("\n")[13:-1], [
+            "# taken back: taken back: no", "add chr1 3 4 y", "# taken back: no", "remove chr1 3 4 y"])
+
+    def test_decisions(self):
+        """What fits keeps its signature; who decides signs."""
+        self.old.write_text(self.old.read_text().replace("# fits", f"{self.BO}\n# fits").replace("# cut", f"{self.BO}\n# cut"))
+        core = self.core(sign="Ada", replayed=[str(self.old)])
+        core.edit(core.worklist.items[3].offered, "so", 3)
+        core.drop(8, "not there")
+        written = [self.BO, "# fits", "replace chr2 100 200 geneC chr2 100 210 geneC",
+                   self.ADA, "# cut", "# so", "# was: replace chr1 100 200 geneA chr1 110 200 geneA",
+                   "replace chr1 105 205 geneA chr1 115 205 geneA",
+                   self.ADA, "# an artefact", "# not there", "# dropped: remove chr2 5 9 gone"]
+        self.assertEqual(self.script(), written)
+        said = [("fits", "Bo", "2026-03-01"), ("cut so", "Ada", "2026-03-01"), ("an artefact not there", "Ada", "2026-03-01")]
+        self.assertEqual(self.authors(core), said)
+        core = core.again()
+        self.assertEqual(self.authors(core), said)
+        core.take_back(3)
+        self.assertEqual(self.script()[len(written):], [self.ADA, "# taken back: an artefact not there", "# reopened, was: remove chr2 5 9 gone"])
+
+    @unittest.skipUnless(shutil.which("git"), "no git")
+    def test_who_committed(self):
+        """Without a signature git says who made what the script had before."""
+        self.path.write_text("\n".join(["# why", *lines("add chr1 1 2 x"), self.BO, *lines("add chr1 3 4 y"), ""]))
+        Repository(self.folder).commit("Cy")
+        core = self.core(sign="Ada")
+        core.edit(lines("add chr1 5 6 z"), "new")
+        said = [("why", "Cy", "2026-01-01"), ("", "Bo", "2026-03-01"), ("new", "Ada", "2026-03-01")]
+        self.assertEqual((self.authors(core), self.authors(core.again())), (said, said))
+
+    def test_a_name_that_nobody_can_sign_by(self):
+        for command in "curate", "desk":
+            outcome = Outcome(command, self.sizes, self.genes, "--script", self.path, "--sign", "A\nB", typed=[])
+            self.assertEqual(outcome.failed, (2, "a name is one line without TABs and without spaces around it, and not 'A\\nB'\n"))
+            self.assertFalse(self.path.exists())
 
 
 class Well(Cores):

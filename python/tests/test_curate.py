@@ -1,4 +1,5 @@
 import contextlib
+import gzip
 import io
 import os
 import pathlib
@@ -267,6 +268,14 @@ class Curate(Prompt):
                 self.assertEqual(run.stdout.split(b"\n")[2:-1], [b"chr1\t1\t2\tg\xc3\xa8ne", b"chr1\t3\t4\tg\xe8ne", b"named g\xe8ne:",
                                                               b"chr1\t3\t4\tg\xe8ne"])
 
+    def test_the_second_file(self):
+        """It is -b, as in each command, or the third word."""
+        rows = self.typed("intersect -u", words=(self.sizes, self.genes, self.mask))
+        self.assertEqual(self.typed("intersect -u", words=(self.sizes, self.genes, "-b", self.mask)), rows)
+        self.assertEqual(rows, ["chr1\t100\t200\tgeneA", "chr1\t300\t400\tgeneB"])
+        self.assertEqual(self.typed(words=(self.sizes, self.genes, self.mask, "-b", self.genes), status=2),
+                         [f"two second files: {self.genes} and {self.mask}"])
+
     def test_a_script_in_the_place_of_the_second_file(self):
         script = self.file("corrections", "# why\nadd\tchr1\t1\t2\tx\n")
         self.assertEqual(self.typed(words=(self.sizes, self.genes, script), status=2),
@@ -353,6 +362,16 @@ class Kept(Prompted):
             outcome = Outcome("curate", self.sizes, self.genes, "--script", self.path, typed=["remove chr1 100 200 geneA"])
             self.assertEqual((outcome.all, self.path.read_text()), ((2, "", f"{self.path}: {said}\n"), text))
 
+    def test_a_packed_script(self):
+        """Lines are appended to it, which would be no part of what gzip packed."""
+        packed = gzip.compress(b"add\tchr1\t1\t2\tx\n")
+        for path, said in ((self.file("script.gz", packed), "so its name doesn't end in .gz"), (self.file("script", packed), "gunzip it first"),
+                           (self.folder / "new.bgz", "so its name doesn't end in .bgz")):
+            outcome = Outcome("curate", self.sizes, self.genes, "--script", path, typed=["add chr1 1 2 y"])
+            self.assertEqual((outcome.status, outcome.out), (2, ""))
+            self.assertIn(said, outcome.err)
+            self.assertEqual(path.read_bytes() if path.exists() else packed, packed)
+
     def test_no_empty_file_is_left(self):
         with self.prompt(asked=False):
             self.assertTrue(self.path.exists())
@@ -399,7 +418,7 @@ class Kept(Prompted):
         words = "curate", self.sizes, self.genes, "--script"
         said = "2 records of 4 columns; `help` lists the commands\ndone\n"
         self.assertEqual(Outcome(*words, self.path, typed=["add chr1 1 2 x", "# later", "quit"]).gave, (0, said))
-        self.has("add chr1 1 2 x", "# later")
+        self.has("add chr1 1 2 x", "# later", "")
         for script, message in (self.genes, f"{self.genes} is a file of this session"), (self.folder, "it is a folder"):
             outcome = Outcome(*words, script)
             self.assertEqual((outcome.status, message in outcome.err), (2, True))

@@ -441,8 +441,8 @@ class Page(Case):
         self.write("genes.bed", "".join(f"chr1\t{100 * at}\t{100 * at + 80}\t{name}\t0\t+\n" for at, name in enumerate(HOSTILE, 1)))
         with open(self.folder / "genes.bed", "ab") as file:
             file.write(b"chr1\t5000\t5100\tbad\xff\xfe\t0\t+\n")
-        self.write("corrections", f"# {HOSTILE[0]}\nremove\tchr1\t100\t180\t{HOSTILE[0]}\t0\t+\n\n# {HOSTILE[1]}\nremove\tchr1\t1\t2\t{HOSTILE[1]}\t0\t+\n")
-        desk = self.desk()
+        self.write("corrections", f"# signed: {HOSTILE[0]} 2026-03-01T12:00:00+01:00\n# {HOSTILE[0]}\nremove\tchr1\t100\t180\t{HOSTILE[0]}\t0\t+\n\n# {HOSTILE[1]}\nremove\tchr1\t1\t2\t{HOSTILE[1]}\t0\t+\n")
+        desk = self.desk("--sign", HOSTILE[3])
         tab = self.tab(desk)
         for name in HOSTILE[1:]:
             with self.subTest(name):
@@ -460,6 +460,8 @@ class Page(Case):
         self.assertEqual(tab.run("document.querySelectorAll('img, #list script, svg script').length"), 0)
         self.assertNotIn("\u202e", shown)
         self.assertIn("abc⟨202e⟩gnp.exe", shown)
+        self.assertIn(f"\n{HOSTILE[0]}, 2026-03-01", shown)
+        self.assertIn(f"\nabc⟨202e⟩gnp.exe, {desk.state()['corrections'][-1]['date'][:10]}", shown)
         # bytes that are no text come back as they were
         _, found = desk.ask("GET", "api/region?sequence=chr1&start=4990&end=5200&margin=0")
         row = json.loads(found)["views"]["records"].rstrip("\n").split("\t")

@@ -1,10 +1,12 @@
 """`diff`: the script between two files, over which `apply` gives the second one."""
 import gzip
+import os
 import random
 import re
 import subprocess
 import sys
 from collections import Counter
+from unittest import mock
 
 import bedkeep
 from helpers import Case, Outcome, tabs
@@ -65,10 +67,15 @@ class Changes(Diff):
         spaces, ragged = self.file("spaces.bed", "chr1 1 2 a\n"), self.file("ragged", tabs("chr1 1 2 a\nchr1 1 2"))
         for first, second, said in (
                 ("-", "-", "only one file can be standard input"), (old, new, f"cut -f1-4 {new}"), (new, old, f"cut -f1-4 {new}"),
-                (old, spaces, f"{spaces}: record 1 has spaces instead of TABs"), (old, ragged, f"{ragged}: record 2: wrong number of columns\n")):
+                (old, spaces, f"{spaces}: line 1: wrong number of columns"), (old, spaces, "spaces instead of TABs"),
+                (old, self.file("end.bed", tabs("chr1 1 2 a\nchr1 5 x b")), "end.bed: line 2: end is not a number"),
+                (self.file("wide.bed", tabs("chr1 1 2 a 0 + 1 2\nchr1 x 2 b 0 + 1 2")), self.file("one.bed", tabs("chr1 1 2 a 0 + 1 2")),
+                 "wide.bed: line 2: start is not a number"), (old, ragged, f"{ragged}: record 2: wrong number of columns\n")):
             outcome = Outcome("diff", first, second)
             self.assertEqual(outcome.gave, (2, ""))
             self.assertIn(said, outcome.err)
+        with mock.patch.dict(os.environ, BEDKEEP="absent"):  # Nothing says more of the file then.
+            self.assertEqual(Outcome("diff", old, spaces).all, (2, "", f"{spaces}: it is no BED file\n"))
 
     def test_a_reader_that_has_enough_is_no_failure(self):
         old, new = self.file("old.bed", ""), self.file("new.bed", "".join(f"chr1\t{at}\t{at + 1}\n" for at in range(50_000)))

@@ -319,8 +319,8 @@ class Types(Case):
         genome, bed = self.sizes, self.genes
         with self.session() as session:
             for call, error, said in (
-                (lambda: bedkeep.merge(genome, 5), TypeError, "a path is text, and not 5"),
-                (lambda: bedkeep.merge({"chr1": 1.5}, bed), TypeError, "text or a whole number, and not 1.5"),
+                (lambda: bedkeep.merge(genome, 5), TypeError, "a path, a table or rows are taken here, and not 5"),
+                (lambda: bedkeep.merge({"chr1": 1.5}, bed), TypeError, "row 1 of a genome is a sequence and its length, and not .'chr1', 1.5"),
                 (lambda: bedkeep.merge(genome, bed, d=2.5), TypeError, "d is a whole number.*not 2.5"),
                 (lambda: bedkeep.merge(genome, bed, c=[4.0]), TypeError, "c is a whole number.*not .4.0"),
                 (lambda: bedkeep.merge(genome, bed, program="absent"), bedkeep.NotFound, "no program 'absent'.*give program="),

@@ -13,7 +13,9 @@ from unittest import mock
 from bed_checks import peak_problems, problems
 from bedkeep import commands
 from bedkeep.commands.input_files import Inputs
+from bedkeep.commands.journal import Journal
 from helpers import Case, Outcome
+from random_scripts import cut_off
 from random_tracks import LENGTHS, WIDTHS, Maker, moved
 from slow_track import ABSENT, BAD, DONE, THERE, Slow, overlap, plain
 from test_replay import verdict
@@ -137,6 +139,8 @@ class Histories(Case):
             except Killed:
                 status = 0
                 self.seen["kill"] += 1
+                cut_off(script, random.Random(len(lines)))
+                Journal(str(script)).close()
         self.assertEqual(status, 0, out.getvalue())
 
     # What came of it

@@ -23,7 +23,7 @@ class Kept(Prompt):
         self.corrections.unlink(missing_ok=True)
         found = self.typed(*([typed] if isinstance(typed, str) else typed), f"save {saved}", words=self.words)
         self.assertEqual(found[:len(said)], [*said])
-        written = script_of("\n".join(script)) if script else ""
+        written = script_of("\n".join([*script, ""])) if script else ""
         self.assertEqual(self.corrections.read_text() if self.corrections.exists() else "", written)
         if script and saved.exists():
             self.assertEqual(Outcome("apply", self.sizes, self.genes, self.corrections).all, (0, saved.read_text(), ""))
@@ -99,7 +99,7 @@ class Together(Kept):
     def test_lines_that_are_typed_together(self):
         """As in a script: they are done whole or not at all, once the paragraph ends."""
         above, wrong = ("# together: one gene", "# of two"), "remove chr1 150 261 geneB 7 ."
-        for end, *after in ("",), ("records",), ("# another", "# another"), ("quit",):
+        for end, *after in ("",), ("records",), ("# another", "# another", ""), ("quit",):
             with self.subTest(end):
                 self.makes([*above, *self.joined, end], *above, *self.joined, *after, said=["done: 2 lines together"])
         self.corrections.unlink()

@@ -234,6 +234,18 @@ class Cards(Case):
                 self.assertEqual(len(self.lines_of(self.changed(change))), cards)
         self.assertEqual(self.lines_of(self.changed(same[0], 20)), [f"{at}-{at}" for at in range(1, 21)])  # too few
 
+    def test_authors(self):
+        """Who and when is below the reason of each card; of many some are named."""
+        signed = [f"# signed: {name} 2026-03-{day:02}T12:00:00+01:00" for day, name in enumerate(["<b>&'", *"ABCDEF"], 1)]
+        page = self.page("chr1 1 9 a\nchr1 11 19 b", f"{signed[0]}\n# why\nremove chr1 1 9 a\nremove chr1 1 9 a\n\nremove chr1 11 19 b")
+        self.assertIn("why<b>&', 2026-03-01remove", page.texts["L3"])
+        self.assertIn("<b>&'", page.articles["L4"]["data-search"])
+        self.assertNotIn("class=author", self.text[self.text.index("id=L6"):])
+        lines = self.changed(lambda start, end, name, score: (start + 5, end + 5, name, score, "+")).split("\n")[:-1]
+        rows = "".join(f"chr1 {1000 * at} {1000 * at + 50} g{at} {at} +\n" for at in range(30))
+        page = self.page(rows, "\n".join(f"{signed[at % 7]}\n{row}" for at, row in enumerate(lines)))
+        self.assertIn("<b>&', 2026-03-01; A, 2026-03-02; B, 2026-03-03; 4 more25 records", page.texts["L2"])
+
     def test_another_reason_is_another_card(self):
         lines = self.changed(lambda start, end, name, score: (start, end, name, 777, "+"), 30).split("\n")
         self.assertEqual(self.lines_of("# one\n" + "\n".join(lines[:22]) + "\n# other\n" + "\n".join(lines[22:])),
@@ -297,7 +309,8 @@ class Cards(Case):
         script = script.replace("190", "150")
         refused = self.folder / "refused"
         page = self.page(bed, script, "--refused", refused)
-        self.assertEqual((page.articles["L2"]["class"], refused.read_text().count("\n")), ("refused", 1))
+        self.assertEqual((page.articles["L2"]["class"], refused.read_text().count(": line 2: "), refused.read_text().count("\n  this would fit: ")),
+                         ("refused", 1, 1))
         page = self.page(bed, script, "--leave-blocks")
         self.assertEqual(page.articles["L2"]["data-groups"], "done|warnings")
         for part in '<span class="kind warned">warning</span>', "<p class=warning>", "warnings<b>1</b>":

@@ -7,6 +7,7 @@ import subprocess
 import sys
 import threading
 import time
+from pathlib import Path
 from unittest import mock
 
 import bedkeep
@@ -258,6 +259,24 @@ class Together(Case):
             self.assertEqual(session.script(), "\n".join(["# why", add[2], "", was, add[3], ""]))
             self.assertEqual([one.number for one in session.edit([*text[:4], "remove\tchr1\t1\t2\tx"])], [3, 5])
 
+    def test_a_signature_begins_a_paragraph(self):
+        """It goes with its lines, and the reason of the ones above doesn't hold for them."""
+        ada, bo = (f"# signed: {name} 2026-03-01T12:00:00+01:00" for name in ("Ada", "Bo"))
+        add, wrong = [f"add\tchr2\t1\t2\t{name}" for name in "abcdef"], "remove\tchr2\t1\t2\tx"
+        with bedkeep.Session(self.sizes, self.genes) as session:
+            session.edit([bo, "# lost", wrong, ada, "# together: both", add[0], add[1], bo, add[2], wrong, ada, "# together: no", add[3], wrong])
+            first = [ada, "# together: both", add[0], add[1], bo, add[2]]
+            self.assertEqual(session.script(), "\n".join([*first, ""]))
+            session.edit([ada, add[3]])
+            session.explain("why")
+            self.assertEqual(session.script(), "\n".join([*first, ada, "# why", add[3], ""]))
+            session.edit([bo, add[4]])
+            for left in [*first, ada, "# why", add[3]], first, first[:4]:
+                session.undo()
+                self.assertEqual(session.script(), "\n".join([*left, ""]))
+            self.assertEqual(session.undo().split("\n"), add[:2])
+            self.assertEqual(session.script(), "")
+
     def test_lengths_in_a_group(self):
         with self.session() as session:
             session.edit_together(["resize\tchr2\t600", "resize\tchr2\t700", "add\tchr2\t650\t700\tx"])
@@ -423,12 +442,12 @@ class Ends(Case):
         self.assertRaises(ValueError, bedkeep.Session, self.sizes, "/dev/stdin")
 
     def test_files_that_a_wide_session_takes(self):
-        packed = self.file("genes.bed.gz", gzip.compress(self.genes.read_bytes()))
         eight = self.file("eight.bed", "chr1\t1\t2\tx\t0\t+\t1\t2\n")
+        packed = self.file("eight.bed.gz", gzip.compress(eight.read_bytes()))
         for bed, second in (packed, None), (eight, None), (self.genes, eight):
             self.assertRaisesRegex(bedkeep.Ended, "wide=True", bedkeep.Session, self.sizes, bed, second)
             bedkeep.Session(self.sizes, bed, second, wide=True).close()
-        other = self.file("other.gff", "chr1\tsource\tgene\t10\t20\t.\t+\t.\tID=x\n")
+        other = self.file("other.vcf", "chr1\t100\trs1\tA\tG\t.\tPASS\t.\n")
         for wide in False, True:
             said = self.failure(bedkeep.Damaged, bedkeep.Session, self.sizes, other, wide=wide)
             self.assertEqual((said.reason, said.file), ("wrong number of columns", str(other)))
@@ -444,6 +463,18 @@ class Ends(Case):
         with mock.patch.dict(os.environ, PATH="", BEDKEEP=""), mock.patch("sys.executable", str(self.folder / "python")):
             self.assertEqual(len(self.session().records()), 2)
             self.assertRaises(bedkeep.NotFound, self.session, program="bedkeeper")
+
+    def test_a_program_of_another_version(self):
+        """What it doesn't know may be why it refuses something."""
+        old = self.script("old", '[ "$1" != --version ] || exec echo bedkeep 0.9.1\n'
+                                 '[ "$1" != merge ] || { echo "bedkeep: no such option" >&2; exit 2; }\nexec "$BEDKEEP" "$@"')
+        said = f"the program {old} is of version 0.9.1, and the package of {bedkeep.__version__}"
+        failure = self.failure(bedkeep.BadOptions, bedkeep.merge, self.sizes, self.genes, program=old)
+        self.assertEqual(str(failure), f"no such option (status 2): {said}")
+        for program, hinted in (old, True), (None, False):
+            with self.session(program=program) as session:
+                unknown, absent = session.edit(["frob\tchr1", "remove\tchr1\t1\t2\tx"])
+                self.assertEqual((said in str(unknown), said in absent.hint), (hinted, False))
 
     def test_no_memory(self):
         program = self.script("small", 'ulimit -v 8000\nexec "$BEDKEEP" "$@"')
@@ -591,7 +622,8 @@ class Interrupted(Case):
         alarm = threading.Timer(0.3, self.interrupt)
         alarm.start()
         begun = time.monotonic()
-        self.assertRaises(KeyboardInterrupt, self.session, program=self.script("slow", "exec sleep 60"))
+        interrupt = self.failure(KeyboardInterrupt, self.session, program=self.script("slow", "exec sleep 60"))
+        self.assertTrue(interrupt.__suppress_context__)
         self.assertLess(time.monotonic() - begun, 30)
         alarm.join()
         self.assertEqual(children(), [])
@@ -615,12 +647,20 @@ class Interrupted(Case):
             self.assertEqual(found, [2])
 
 
+def is_running(number):
+    """Whether a process of this number is there that hasn't ended."""
+    try:
+        return Path(f"/proc/{number}/stat").read_text().rpartition(")")[2].split()[0] not in "ZX"
+    except OSError:
+        return False
+
+
 class Stopped(Case):
     """Other signals end a command as an exit does."""
 
     def run_until(self, is_begun, number, *words, **environment):
         """The status of Python with these words, which gets a signal once it has begun."""
-        process = subprocess.Popen([sys.executable, *map(str, words)], env={**os.environ, **environment})
+        process = subprocess.Popen([sys.executable, *map(str, words)], env={**os.environ, **environment}, stderr=subprocess.DEVNULL)
         while not is_begun():
             self.assertIsNone(process.poll())
             time.sleep(0.01)
@@ -656,6 +696,23 @@ class Stopped(Case):
             self.assertEqual(signal.getsignal(signal.SIGHUP), signal.SIG_IGN)
             self.assertNotEqual(signal.getsignal(signal.SIGTERM), signal.SIG_DFL)
         self.assertEqual(signal.getsignal(signal.SIGTERM), signal.SIG_DFL)
+
+    def test_a_load_ends_too(self):
+        """The program would read a large file to its end before it saw that nobody is there any more."""
+        begun = self.folder / "begun"
+        slow = self.script("slow", f"read line\necho $$ > {begun}.new\nmv {begun}.new {begun}\nexec sleep 60")
+        code = "import sys, bedkeep\nbedkeep.Session(*sys.argv[1:])"
+        for number in signal.SIGTERM, signal.SIGHUP, signal.SIGINT:
+            for status, words in ((-number, ["-c", code, self.sizes, self.genes]),
+                                  (128 + number, ["-m", "bedkeep", "apply", self.sizes, self.genes, self.file("none", "")])):
+                self.assertEqual(self.run_until(begun.exists, number, *words, BEDKEEP=str(slow)), status)
+                program = int(begun.read_text())
+                begun.unlink()
+                for _ in range(500):
+                    if not is_running(program):
+                        break
+                    time.sleep(0.01)
+                self.assertFalse(is_running(program))
 
 
 class Written(Case):

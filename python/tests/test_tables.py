@@ -27,6 +27,12 @@ class Missing(Case):
 
 @unittest.skipUnless(pandas, "pandas isn't installed")
 class Frames(Case):
+    def test_repr(self):
+        table = pandas.DataFrame({"chrom": ["chr1"], "start": [1], "end": [2]})
+        with bedkeep.Session(self.sizes, table) as session:
+            self.assertEqual(repr(session), "<bedkeep.Session of a table: 3 columns, 0 edits>")
+            self.assertIn("of a table</b>", session._repr_html_())
+
     def rows(self, frame):
         """The rows of a frame as the package gives them: what is missing is None."""
         return [tuple(None if value is pandas.NA else value for value in row) for row in frame.itertuples(index=False)]
@@ -94,8 +100,8 @@ class Frames(Case):
     def test_tables_that_are_no_track(self):
         whole = pandas.DataFrame({"chrom": ["chr1"], "start": [1], "end": [3], "name": ["a"]})
         for change, error, message in (
-            ({"Chrom": "x"}, ValueError, "both 'chrom' and 'Chrom'"), ({"start": 1.5}, ValueError, "column start has numbers that aren't whole"),
-            ({"end": float("nan")}, ValueError, "column end has numbers that aren't whole"), ({"name": "a\tb"}, ValueError, "a TAB"),
+            ({"Chrom": "x"}, ValueError, "both 'chrom' and 'Chrom'"), ({"start": 1.5}, ValueError, "^row 1: start is a whole number, and not 1.5$"),
+            ({"end": float("nan")}, ValueError, "^row 1: end is a whole number, and not nan$"), ({"chrom": "#1"}, ValueError, "^row 1: a line that begins with #"), ({"name": "a\tb"}, ValueError, "a TAB"),
             ({"name": "a\nb"}, ValueError, "a TAB or the end of a line"), ({"start": 3}, bedkeep.Damaged, "^table: line 1: start not"),
         ):
             with self.subTest(message), self.assertRaisesRegex(error, message):

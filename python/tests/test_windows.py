@@ -58,6 +58,23 @@ class Windows(Case):
         self.assertEqual((part.status, part.err), (2, f"there is no window {number}\n"))
         self.assertEqual(Outcome("windows", "--window", 500, "--join", rows, *words).out, whole)
 
+    def test_a_track_that_apply_packed(self):
+        packed = self.folder / "corrected.bed.gz"
+        self.assertEqual(Outcome("apply", self.sizes, self.first, self.file("none", ""), "-o", packed).all, (0, "", ""))
+        subprocess.run(["tabix", "-p", "bed", packed], check=True)
+        found = subprocess.run(["tabix", packed, "chr2"], capture_output=True, check=True).stdout.decode()
+        self.assertEqual(found, "".join(line for line in self.first.read_text().splitlines(True) if line.startswith("chr2\t")))
+
+    def test_a_file_of_another_format(self):
+        """Its rows were those of no record."""
+        text = "chr1\tx\tgene\t100\t200\t.\t+\t.\tID=a\n"
+        packed = self.folder / "other.gff.gz"
+        packed.write_bytes(subprocess.run(["bgzip"], input=text.encode(), stdout=subprocess.PIPE, check=True).stdout)
+        subprocess.run(["tabix", "-p", "gff", packed], check=True)
+        outcome = Outcome("windows", "--window", 500, "records", "-g", self.sizes, "-i", packed)
+        self.assertEqual(outcome.gave, (2, ""))
+        self.assertRegex(outcome.err, f"(?s)^{packed}: line 1: .*looks like GFF.*awk")
+
     def test_what_is_refused(self):
         self.assertEqual(Outcome("windows", "--window", 0, "merge").status, 2)
         self.assertEqual(Outcome("windows", "merge", "-g", self.sizes).err, "a run names its genome file and its BED file\n")

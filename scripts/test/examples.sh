@@ -84,6 +84,21 @@ both() {
     echo "merge: status $?"
 }
 
+# by_records: two branches change neighbouring lines of a BED file
+by_records() {
+    python3 -m bedkeep git --install > /dev/null
+    git checkout -q -b by_records
+    sed -i 's/\t250\t/\t240\t/' edited.bed
+    git commit -qam 'geneA'
+    git checkout -q main
+    sed -i 's/\t400\t/\t410\t/' edited.bed
+    git commit -qam 'geneB'
+    git diff main by_records | grep ^replace
+    git merge -q --no-edit by_records > /dev/null
+    echo "merge by records: status $?"
+    head -n 3 edited.bed
+}
+
 # two_curators: two branches with corrections are merged, as the README of in_git says
 two_curators() {
     cp -R in_git "$found/two_curators"
@@ -97,6 +112,7 @@ two_curators() {
         git config core.hooksPath hooks
         git add .
         git commit -qm 'The track'
+        by_records
         both first '# geneD begins later.\nreplace\tchr1\t600\t700\tgeneD\tchr1\t610\t700\tgeneD' \
             '# geneF is no gene.\nremove\tchr2\t400\t500\tgeneF'
         silent_make

@@ -1,7 +1,7 @@
 #!/usr/bin/env python3
 """Makes lists of options from the one table of them, crates/iv_args/src/options.rt: the usage and the list of each help text, the list of views in
 the general help, the synopsis and the heads of the views in the man page, the completions, the options in the tables of README and FORMAT, and the
-keyword arguments of the Python package. An option that the list of its view in the man page lacks is added there by its meaning.
+keyword arguments of the Python package with what its docstrings say of them. An option that the list of its view in the man page lacks is added there by its meaning.
 
     python3 scripts/test/options.py --write            writes them into these files
     python3 scripts/test/options.py build/bedkeep      compares them with these files, and with the help of the built program, which
@@ -30,6 +30,15 @@ ZSH_VALUES = {"Nothing": "", "Genome": ":genome file:_files", "Bed": ":BED file:
 # the keyword arguments of the Python package, by the kind of their value
 ARGUMENTS = {"Nothing": "bool = False", "Distance": "Optional[int] = None", "Columns": "Union[int, Sequence[int]] = ()",
              "Operations": "Union[str, Sequence[str]] = ()"}
+# what its docstrings say: of an option's value, and of an argument that isn't one of a view
+TYPES = {"Nothing": "bool", "Distance": "int", "Columns": "int or sequence of int", "Operations": "str or sequence of str"}
+SAID = {"genome": ("path or dict", "The genome file, or the length of each chromosome."),
+        "bed": ("path or table", "The records, in any order: start counts from 0, and end is not included."),
+        "a": ("path or table", "The records, in any order: start counts from 0, and end is not included."),
+        "b": ("path or table", "The records of the second file."),
+        "fasta": ("path", "The bases of the sequences."),
+        "width": ("int, optional", "The number of columns of a BED file without a record, 3 to 6."),
+        "program": ("path, optional", "The program, instead of the one that is found.")}
 # rows of the package have the bases of a record on its line
 ALWAYS = ("-tab",)
 
@@ -264,6 +273,19 @@ def in_format(text, runs):
     return replaced(text, r"(?<=^\| Subcommand \| Options \|\n\|---\|---\|\n).*?(?=^$)", rows, "FORMAT")
 
 
+def parameters(run, names):
+    """What a docstring says of these arguments."""
+    of_view = {option.name.lstrip("-"): option for option in run.view}
+    lines = ""
+    for name in names:
+        if name in of_view:
+            said = TYPES[of_view[name].kind] + ", optional", re.sub(r"\bN\b", f"`{name}`", sentence(of_view[name].meaning).replace(", separated by commas", ""))
+        else:
+            said = SAID[name]
+        lines += f"    {name} : {said[0]}\n" + textwrap.fill(said[1], 124, initial_indent=" " * 8, subsequent_indent=" " * 8) + "\n"
+    return lines
+
+
 def in_package(text, runs):
     for run in runs[1:]:
         if not re.search(rf"^def {run.name}\(", text, re.M):
@@ -274,6 +296,11 @@ def in_package(text, runs):
         front, files = re.search(rf"^(def {run.name}\()([^*]*)\*,", text, re.M).groups()
         head = wrapped(front, [*re.findall(r"\w+: \w+,", files), "*,", *pieces], 123).replace("( ", "(", 1)
         text = replaced(text, rf"^def {run.name}\(.*?-> Rows:$", head, f"{run.name} of the package")
+        names = [*re.findall(r"(\w+):", files), *(piece.partition(":")[0] for piece in pieces)]
+        front, begin, rest = text.partition(f"def {run.name}(")
+        part, end, back = rest.partition("    return _run(")
+        part = replaced(part, r"(?<=^    ----------\n).*?(?=^    Raises$)", parameters(run, names) + "\n", f"{run.name} of the package")
+        text = front + begin + part + end + back
         words = ", ".join([f'"{run.name}"', *(f"{name}={True if option.name in ALWAYS else name}" for name, option in given)])
         text = replaced(text, rf'(?<=_words\()"{run.name}"[^)]*', words, f"{run.name} of the package")
     return text

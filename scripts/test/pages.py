@@ -1,14 +1,14 @@
 #!/usr/bin/env python3
-"""Runs the steps of README.md and of GUIDE.md, and compares what they print with what the pages show.
+"""Runs the steps of README.md and of pages of docs/, and compares what they print with what the pages show.
 
     scripts/test/pages.py PROGRAM [FOLDER]
 
-FOLDER has README.md, GUIDE.md or docs/GUIDE.md, and examples/: the sources, which is the default, or the documents of a
-release that was unpacked. A step is a block of commands, ```sh, and after it what it prints, ```text; a step without that
-prints nothing. The steps of a page run in their order, each by a bash of its own that has what they exported, in a temporary
-folder that has examples/, with the program on the path and the Python package beside it as they are installed. Standard output and standard error go into
-one pipe, as they would to a terminal. A block of Python is the text of a file of examples/, and a block without a language is
-a picture. Status 1 if anything differs.
+FOLDER has README.md, docs/ and examples/: the sources, which is the default, or the documents of a release that was unpacked.
+A step is a block of commands, ```sh, and after it what it prints, ```text; a step without that prints nothing. The steps of a
+page run in their order, each by a bash of its own that has what they exported, in a temporary folder that has examples/, with
+the program, bedkeep-desk and the Python package as they are installed. Standard output and standard error go into one pipe, as
+they would to a terminal. A block of Python is the text of a file of examples/, and a block without a language is a picture.
+Status 1 if anything differs.
 """
 import difflib
 import os
@@ -22,6 +22,7 @@ from pathlib import Path
 
 BLOCK = re.compile(r"^```(\w*)\n(.*?)^```$", re.M | re.S)
 SECONDS = 20
+PAGES = "README.md", "docs/GUIDE.md", "docs/LENGTHS.md", "docs/BASES.md", "docs/PIPELINES.md"
 
 
 def main():
@@ -31,9 +32,8 @@ def main():
     if not program.is_file():
         sys.exit(f"{sys.argv[1]} is not there: run `make build` first")
     top = Path(sys.argv[2] if len(sys.argv) == 3 else Path(__file__).parent.parent.parent).resolve()
-    guide = top / "docs" / "GUIDE.md"
     done, faults = [], []
-    for page in top / "README.md", guide if guide.is_file() else top / "GUIDE.md":
+    for page in (top / name for name in PAGES):
         if not page.is_file():
             faults.append(f"{page} is not there")
             continue
@@ -42,7 +42,7 @@ def main():
         done.append(f"{len(steps)} steps of {page.relative_to(top)}")
     if faults:
         sys.exit("\n".join(faults))
-    print(f"{' and '.join(done)} print what the pages show")
+    print(f"{', '.join(done)} print what the pages show")
 
 
 def read_page(page, examples):
@@ -81,11 +81,13 @@ def run_page(name, steps, program, top):
 
 
 def install(folder, program, top):
-    """Links to the program and to the Python package, of the sources or of a release, where `make install` puts them."""
-    sources = top / "python"
-    for place, target in ("bin/bedkeep", program), ("share/bedkeep/python", sources if sources.is_dir() else top.parent.parent / "bedkeep/python"):
+    """The program, bedkeep-desk and the Python package, of the sources or of a release, where `make install` puts them."""
+    sources, share = top / "python", top.parent.parent
+    package, desk = (sources, sources / "bedkeep-desk") if sources.is_dir() else (share / "bedkeep/python", share.parent / "bin/bedkeep-desk")
+    for place, target in ("bin/bedkeep", program), ("share/bedkeep/python", package):
         (folder / place).parent.mkdir(parents=True)
         (folder / place).symlink_to(target)
+    shutil.copy(desk, folder / "bin")  # it looks beside itself
 
 
 def run(commands, folder, environment):

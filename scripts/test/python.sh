@@ -15,7 +15,7 @@ sources=$(realpath "$(dirname "$0")/../../python")
 package=$(realpath "${2:-$sources}")
 export PYTHONDONTWRITEBYTECODE=1
 if command -v mypy > /dev/null; then
-    mypy --strict --cache-dir /dev/null "$package/bedkeep"
+    MYPYPATH=$package mypy --strict --cache-dir /dev/null "$package/bedkeep" "$sources/tests/typed_calls.py"
 fi
 cd "$sources/tests"
 export BEDKEEP=$program PYTHONPATH=$package
@@ -30,7 +30,7 @@ fi
 python3 -S -m unittest
 for python in python3 /usr/bin/python3; do
     if "$python" -c 'import pandas' 2> /dev/null; then
-        "$python" -m unittest test_tables
+        "$python" -m unittest test_tables test_reference.Docstrings.test_examples_of_tables
         exit
     fi
 done

@@ -26,9 +26,9 @@ FORBIDDEN = {
 }
 # In what users read. Pages on the code and comments have names of the code, among which are `stop` and `words`.
 FOR_USERS = {r"stops?": "end", r"words?": "arguments, options", r"(?:none|nothing|only|exactly),? where": "if, when"}
-# What is let through: the headline, which is quoted; texts of messages that are fixed; English.
+# What is let through: the headline, which is quoted; texts of messages that are fixed; English; an argument of that name.
 LET_THROUGH = (r"an\s+edit\s+is\s+refused\s+exactly\s+where\s+its\s+line\s+is\s+damaged|no sequence file|length fixed by the sequence file"
-               r"|stop codon|full stop|\bin words\b")
+               r"|stop codon|full stop|\bin words\b|\bwords : str\b")
 CODE = r"^## Glossary\n.*?(?=^## )|^```.*?^```$|``.+?``|`[^`\n]*`|^ {4,}(?![-*|] ).*?$|\]\([^)]*\)"
 
 
