@@ -17,7 +17,6 @@ inputs:
   second: { type: File?, inputBinding: { prefix: -b } }
 arguments: [-o, corrected.bed, --refused, refused.txt]
 stderr: messages.txt
-successCodes: [0, 1]
 outputs:
   corrected: { type: File, outputBinding: { glob: corrected.bed } }
   refused: { type: File, outputBinding: { glob: refused.txt } }
