@@ -343,13 +343,14 @@ class InGit(Case):
 
     def test_install(self):
         attributes = self.file(".gitattributes", "*.bed text\n*.gz binary\r\n# last")
-        lines = "*.bed diff=bedkeep merge=bedkeep\n*.bed.gz diff=bedkeep merge=bedkeep\n"
-        for added in 2, 0:
+        lines = ("*.bed diff=bedkeep merge=bedkeep\n*.bed.gz diff=bedkeep merge=bedkeep\n"
+                 "corrections merge=bedkeep-script\n*.corrections merge=bedkeep-script\n")
+        for added in 4, 0:
             outcome = Outcome("git", "--install")
-            self.assertEqual((outcome.status, outcome.err, outcome.out.count(": added "), outcome.out.count("git config ")), (0, "", added, 4))
+            self.assertEqual((outcome.status, outcome.err, outcome.out.count(": added "), outcome.out.count("git config ")), (0, "", added, 6))
             self.assertEqual(attributes.read_bytes().decode(), f"*.bed text\n*.gz binary\r\n# last\n{lines}")
         self.assertIn(f"{sys.executable} -m bedkeep git --merge %O %A %B %L %P", self.git("config", "merge.bedkeep.driver"))
-        self.assertEqual(Outcome("git", "--uninstall").out.count("removed"), 2)
+        self.assertEqual(Outcome("git", "--uninstall").out.count("removed"), 4)
         self.assertEqual(attributes.read_bytes().decode(), "*.bed text\n*.gz binary\r\n# last\n")
         self.assertNotIn("bedkeep", (self.folder / ".git/config").read_text())
         self.assertEqual(Outcome("git", "--uninstall").gave, (0, "nothing of it is there\n"))
@@ -358,6 +359,23 @@ class InGit(Case):
         self.assertEqual(attributes.read_text(), lines)
         Outcome("git", "--uninstall")
         self.assertFalse(attributes.exists())
+
+    def test_scripts_are_merged_by_paragraphs(self):
+        base, first, second, other = "# a|add 1|", "# b|add 2|", "# c|add 3|", "# b|add 4|"
+        for at, (ours, theirs, wanted) in enumerate((
+                (base + first, base + second, base + first + second), (base + first, base + first, base + first),
+                (base + first, base + other, base + first + other), (base, "# z|add 1|" + first, "# z|add 1|" + first),
+                (base + first, "# z|add 1|", "# z|add 1|" + first), ("# y|add 1|" + second, base + first, "# y|add 1|" + second + first),
+                (base + "|add 5|", base + "|add 6|", base + "|add 5||add 6|"), (base + "# later|", base + first, base + "# later||" + first),
+                (base + "|add 5|", base + first, base + "|add 5|" + first), (base + first, base + "|add 6|", base + first + "|add 6|"))):
+            with self.subTest(at):
+                files = [self.file(name, text.replace(" ", "\t").replace("#\t", "# ").replace("|", "\n"))
+                         for name, text in zip(("base", "ours", "theirs"), (base, ours, theirs))]
+                self.assertEqual(Outcome("git", "--merge-script", *files, 7, "x").gave, (0, ""))
+                self.assertEqual(files[1].read_text().replace("\t", " ").replace("\n", "|"), wanted)
+        files = [self.file(name, text) for name, text in (("base", "# a\nadd\t1\n"), ("ours", "# y\nadd\t1\n"), ("theirs", "# z\nadd\t1\n"))]
+        self.assertEqual(Outcome("git", "--merge-script", *files, 7, "x").failed, (1, "x: line 1: conflict: both changed these lines\n"))
+        self.assertEqual(files[1].read_text(), "<<<<<<< ours\n# y\nadd\t1\n=======\n# z\nadd\t1\n>>>>>>> theirs\n")
 
     def test_what_cannot_be_done(self):
         self.assertEqual(Outcome("git", "--merge", "a", "b").failed, (2, "a merge needs BASE OURS THEIRS SIZE PATH\n"))

@@ -13,7 +13,7 @@ from typing import Iterator, Optional, Sequence
 from ..encoding import Path, encoded
 from ..script import is_reason, is_signature
 from .git_merge import Merged, said_of, text_of
-from .git_texts import NAMES, OURS, File, Part, Style
+from .git_texts import BASE, NAMES, OURS, THEIRS, File, Part, Style
 
 Paragraph = tuple[str, ...]  # its lines: the signature and the reason, the corrections, and an empty line if one ends it
 
@@ -23,12 +23,13 @@ def merge_scripts(base: Path, ours: Path, theirs: Path, style: Style = Style()) 
     with tempfile.TemporaryDirectory(prefix="bedkeep-") as folder:
         files = [File(given, os.path.join(folder, name)) for given, name in zip((base, ours, theirs), NAMES)]
         listed = [list(paragraphs(file.lines())) for file in files]
-        known = list(dict.fromkeys(chain(*listed)))
+        known = {_without_end(paragraph): paragraph for paragraph in chain(listed[BASE], listed[THEIRS], listed[OURS])}
         numbers = {paragraph: number for number, paragraph in enumerate(known)}
         for file, side in zip(files, listed):
             with open(file.path, "wb") as copy:  # a line for each paragraph
-                copy.writelines(encoded(f"{numbers[paragraph]}\n") for paragraph in side)
-        parts = list(_parts(style.merged([file.path for file in files]), known, style))
+                copy.writelines(encoded(f"{numbers[_without_end(paragraph)]}\n") for paragraph in side)
+        merged = style._replace(kind="diff3").merged([file.path for file in files])
+        parts = list(_parts(merged, list(known.values()), style))
         return Merged(text_of(parts, files), files[OURS].is_packed, list(said_of(parts, [])), [])
 
 
@@ -42,6 +43,11 @@ def paragraphs(lines: Sequence[str]) -> Iterator[Paragraph]:
         begun.append(line)
     if begun:
         yield tuple(begun)
+
+
+def _without_end(paragraph: Paragraph) -> Paragraph:
+    """The paragraph without an empty line that ends it, which one side may have written for what it added."""
+    return paragraph[:-1] if not paragraph[-1] else paragraph
 
 
 def _is_heading(line: str) -> bool:
