@@ -5,7 +5,7 @@ use iv_session::{ScriptLimits, Unseen, run_script};
 use iv_workspace::Session;
 use std::alloc::Global;
 use std::test::Fail;
-use test_faults::RefusesNth;
+use test_faults::{RefusesNth, seen};
 
 /// Where the memory of a session comes from, and that of the lines that are read.
 #[derive(Clone, Copy)]
@@ -158,8 +158,9 @@ fn holds_of_edits(rt: &HostRuntime, memory: Memory<'_>) -> Result<bool, Fail> {
         width: 6,
         ..alone(record, 9)
     };
-    let mut session = session_in(memory.session, &files)?;
-    are_edits_reported(rt, memory, &mut session)
+    seen(session_in(memory.session, &files), |session| {
+        are_edits_reported(rt, memory, session)
+    })
 }
 
 #[test]
@@ -195,8 +196,9 @@ fn holds_beside<'a>(
     script: &[u8],
     lines: &[Refusal<'_>],
 ) -> Result<bool, Fail> {
-    let mut session = session_in(memory.session, files)?;
-    are_lines_reported(rt, memory, &mut session, script, lines)
+    seen(session_in(memory.session, files), |session| {
+        are_lines_reported(rt, memory, session, script, lines)
+    })
 }
 
 /// The same in memory of its own.
