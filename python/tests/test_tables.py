@@ -30,8 +30,8 @@ class Frames(Case):
     def test_repr(self):
         table = pandas.DataFrame({"chrom": ["chr1"], "start": [1], "end": [2]})
         with bedkeep.Session(self.sizes, table) as session:
-            self.assertEqual(repr(session), "<bedkeep.Session of a table: 3 columns, 0 edits>")
-            self.assertIn("of a table</b>", session._repr_html_())
+            self.assertEqual(repr(session), "<bedkeep.Session of table: 3 columns, 0 edits>")
+            self.assertIn("of table</b>", session._repr_html_())
 
     def rows(self, frame):
         """The rows of a frame as the package gives them: what is missing is None."""
