@@ -65,9 +65,8 @@ def _groups_of(reviewed: Reviewed) -> list[str]:
 def html_of(card: Card, several: bool) -> str:
     """several: whether the lines are of several scripts, so that each names its own."""
     first = card.reviewed[0].line
-    own = len({one.line.comments for one in card.reviewed}) > 1  # reasons of each line, or one for all
-    reasons = "" if own else _reasons(first)
-    authors = f"<p class=author>{escaped(_authors(card))}</p>" if _authors(card) else ""
+    own = len({one.line.comments for one in card.reviewed}) > 1  # reasons and authors of each line, or of all
+    why = "" if own else _why([one.line for one in card.reviewed])
     shown = card.reviewed[:len(card.unit.shown)]
     title = f"<h3>{escaped(card.unit.title)}</h3>" if card.unit.title else ""
     parts = [_line(one, several, own) for one in shown] if len(card.reviewed) > 1 else [_body(one) for one in shown]
@@ -77,19 +76,16 @@ def html_of(card: Card, several: bool) -> str:
             f'data-lines="{_ranges(one.line.number for one in card.reviewed)}" data-search="{escaped(_searched(shown, several))}">'
             f'<header><a class=number href="#L{first.number}">{escaped(_places(card, several))}</a>{_verdict(card)}'
             '<label><input type=checkbox class=seen> seen</label></header>'
-            f'{reasons}{authors}{title}{"".join(parts)}{listed}</article>\n')
+            f'{why}{title}{"".join(parts)}{listed}</article>\n')
 
 
-def _reasons(line: Line) -> str:
-    reasons = "".join(f"<p class=reason>{escaped(comment)}</p>" for comment in line.comments if comment)
-    return reasons or "<p class=none>no reason given</p>"
-
-
-def _authors(card: Card) -> str:
-    """Who made the corrections of a card, and when, as far as that is known."""
-    said = dict.fromkeys(", ".join(filter(None, [author.name, author.date[:10]])) for author in (one.line.author for one in card.reviewed))
+def _why(lines: Sequence[Line]) -> str:
+    """The reason of lines, who made them, and when, as far as that is known."""
+    reasons = "".join(f"<p class=reason>{escaped(comment)}</p>" for comment in lines[0].comments if comment)
+    said = dict.fromkeys(", ".join(filter(None, [line.author.name, line.author.date[:10]])) for line in lines)
     listed = [text for text in said if text]
-    return "; ".join(listed[:AUTHORS]) + (f"; {number(len(listed) - AUTHORS)} more" if len(listed) > AUTHORS else "")
+    authors = "; ".join(listed[:AUTHORS]) + (f"; {number(len(listed) - AUTHORS)} more" if len(listed) > AUTHORS else "")
+    return (reasons or "<p class=none>no reason given</p>") + (f"<p class=author>{escaped(authors)}</p>" if authors else "")
 
 
 def _searched(shown: Iterable[Reviewed], several: bool) -> str:
@@ -135,9 +131,9 @@ def _verdict(card: Card) -> str:
 
 
 def _line(reviewed: Reviewed, several: bool, own: bool) -> str:
-    """A line of several. own: whether its reasons aren't those of the card"""
-    reasons = _reasons(reviewed.line) if own else ""
-    return f"<section><p class=line>{escaped(_place(reviewed.line, several))}</p>{reasons}{_body(reviewed)}</section>"
+    """A line of several. own: whether its reason isn't that of the card"""
+    why = _why([reviewed.line]) if own else ""
+    return f"<section><p class=line>{escaped(_place(reviewed.line, several))}</p>{why}{_body(reviewed)}</section>"
 
 
 def _body(reviewed: Reviewed) -> str:
