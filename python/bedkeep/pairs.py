@@ -3,11 +3,11 @@ from __future__ import annotations
 
 from bisect import bisect_left
 from collections import Counter, defaultdict
-from typing import Callable, Iterable, Iterator, Mapping, NamedTuple, Optional, Sequence
+from typing import Callable, Generic, Hashable, Iterable, Iterator, Mapping, NamedTuple, Optional, Sequence, TypeVar
 
 from .record import COMMON, NAMELESS, Record, distance, name_of, overlap, split_row, strand_of
 
-
+Item = TypeVar("Item", bound=Hashable)
 KEYS: tuple[Callable[[Record], Record], ...] = (  # what two records share of which one became the other, the surest first
     lambda record: record[:4],
     lambda record: (name_of(record),) if name_of(record) not in NAMELESS else (),
@@ -15,6 +15,22 @@ KEYS: tuple[Callable[[Record], Record], ...] = (  # what two records share of wh
     lambda record: (*record[:2], name_of(record)),
     lambda record: (record[0], record[2], name_of(record)),
 )
+
+
+class Groups(Generic[Item]):
+    """Which items are in one group, however many join them."""
+
+    def __init__(self) -> None:
+        self._above: dict[Item, Item] = {}
+
+    def join(self, one: Item, other: Item) -> None:
+        self._above[self.first(one)] = self.first(other)
+
+    def first(self, item: Item) -> Item:
+        """The item that is the same for all of its group."""
+        while (above := self._above.setdefault(item, item)) != item:
+            self._above[item] = item = self._above[above]
+        return item
 
 
 class Change(NamedTuple):

@@ -16,7 +16,7 @@ from collections import Counter, defaultdict
 from itertools import chain, groupby, zip_longest
 from typing import Any, Iterable, Iterator, Mapping, NamedTuple, Optional, Sequence
 
-from ..pairs import changes
+from ..pairs import Groups, changes
 from ..placement import Copy, Followed
 from ..record import record_of
 from ..regions import Order
@@ -161,20 +161,14 @@ def _equal(ones: Sequence[Fate], others: Sequence[Fate]) -> Iterator[Compared]:
 
 def _connected(ones: Sequence[Fate], others: Sequence[Fate]) -> Iterable[tuple[list[Fate], list[Fate]]]:
     """The fates of records of which one became another by either script, together."""
-    above: dict[str, str] = {}
-
-    def root(record: str) -> str:
-        while above.setdefault(record, record) != record:
-            above[record] = record = above[above[record]]
-        return record
-
+    groups: Groups[str] = Groups()
     for fate in chain(ones, others):
         if fate.old and fate.new:
-            above[root(fate.old)] = root(fate.new)
+            groups.join(fate.old, fate.new)
     parts: dict[str, tuple[list[Fate], list[Fate]]] = {}
     for side, fates in enumerate((ones, others)):
         for fate in fates:
-            parts.setdefault(root(fate.old or fate.new or ""), ([], []))[side].append(fate)
+            parts.setdefault(groups.first(fate.old or fate.new or ""), ([], []))[side].append(fate)
     return parts.values()
 
 

@@ -12,7 +12,7 @@ from itertools import zip_longest
 from typing import Callable, Iterator, Mapping, NamedTuple, Optional, Sequence
 
 from ..errors import Error
-from ..pairs import Change, beyond, changes
+from ..pairs import Change, Groups, beyond, changes
 from ..record import COMMON, NAMELESS, Record, name_of, overlap, split_row
 from ..regions import absent
 from ..script import Move
@@ -54,19 +54,13 @@ def moves(old: Sequence[str], new: Sequence[str]) -> Iterator[Move]:
 
 def _groups(mine: Sequence[Change], yours: Sequence[Change]) -> Iterator[tuple[list[Change], list[Change]]]:
     """The changes of both sides, those together that are of one contest."""
-    joined = list(range(len(mine) + len(yours)))  # a change of the group of each
-
-    def first(at: int) -> int:
-        while joined[at] != at:
-            joined[at] = at = joined[joined[at]]
-        return at
-
+    groups: Groups[int] = Groups()
     for one, other in _links(mine, yours):
-        joined[first(len(mine) + other)] = first(one)
-    groups: dict[int, tuple[list[Change], list[Change]]] = defaultdict(lambda: ([], []))
+        groups.join(len(mine) + other, one)
+    sides: dict[int, tuple[list[Change], list[Change]]] = defaultdict(lambda: ([], []))
     for at, change in enumerate([*mine, *yours]):
-        groups[first(at)][at >= len(mine)].append(change)
-    yield from groups.values()
+        sides[groups.first(at)][at >= len(mine)].append(change)
+    yield from sides.values()
 
 
 def _links(mine: Sequence[Change], yours: Sequence[Change]) -> Links:

@@ -22,8 +22,9 @@ from .git_scripts import merge_scripts
 from .git_texts import Style
 
 DESCRIPTION = """Has git show BED files by records, as the script of corrections between two versions, and merge them by records, and
-scripts (corrections, *.corrections) by paragraphs, so that each line keeps its reason. --install sets a repository up: lines in .gitattributes, to be committed, and settings of this clone alone, which each clone needs.
-`git config bedkeep.genome FILE`, from the top of the repository, has a merge refuse records past the end of their sequence."""
+scripts (corrections, *.corrections) by paragraphs, so that each line keeps its reason. --install sets a repository up: lines in
+.gitattributes, to be committed, and settings of this clone alone, which each clone needs. `git config bedkeep.genome FILE`, from
+the top of the repository, has a merge refuse records past the end of their sequence."""
 EPILOG = """`git log -p` and `git show` show records with --ext-diff, and else lines, also of .bed.gz. What `git diff` shows is no
 patch: --no-ext-diff has one."""
 ATTRIBUTES = ("*.bed diff=bedkeep merge=bedkeep", "*.bed.gz diff=bedkeep merge=bedkeep",

@@ -11,18 +11,18 @@ from itertools import chain
 from typing import Iterator, Optional, Sequence
 
 from ..encoding import Path, encoded
-from ..script import is_reason, is_signature
+from ..script import is_reason, is_signature, paragraphs
 from .git_merge import Merged, said_of, text_of
 from .git_texts import BASE, NAMES, OURS, THEIRS, File, Part, Style
 
-Paragraph = tuple[str, ...]  # its lines: the signature and the reason, the corrections, and an empty line if one ends it
+Paragraph = tuple[str, ...]  # its lines, as `script.paragraphs` has them
 
 
 def merge_scripts(base: Path, ours: Path, theirs: Path, style: Style = Style()) -> Merged:
     """Merges two versions of a script, either of which gzip may have packed. No file is changed."""
     with tempfile.TemporaryDirectory(prefix="bedkeep-") as folder:
         files = [File(given, os.path.join(folder, name)) for given, name in zip((base, ours, theirs), NAMES)]
-        listed = [list(paragraphs(file.lines())) for file in files]
+        listed = [list(_paragraphs(file.lines())) for file in files]
         known = {_without_end(paragraph): paragraph for paragraph in chain(listed[BASE], listed[THEIRS], listed[OURS])}
         numbers = {paragraph: number for number, paragraph in enumerate(known)}
         for file, side in zip(files, listed):
@@ -33,16 +33,8 @@ def merge_scripts(base: Path, ours: Path, theirs: Path, style: Style = Style()) 
         return Merged(text_of(parts, files), files[OURS].is_packed, list(said_of(parts, [])), [])
 
 
-def paragraphs(lines: Sequence[str]) -> Iterator[Paragraph]:
-    """The paragraphs of a script: one begins by its signature or reason, or after an empty line."""
-    begun: list[str] = []
-    for line in lines:
-        if begun and (not begun[-1] or is_signature(line) or is_reason(line) and not _is_heading(begun[-1])):
-            yield tuple(begun)
-            begun = []
-        begun.append(line)
-    if begun:
-        yield tuple(begun)
+def _paragraphs(lines: Sequence[str]) -> Iterator[Paragraph]:
+    return (tuple(lines[places.start:places.stop]) for places in paragraphs(lines) if places)
 
 
 def _without_end(paragraph: Paragraph) -> Paragraph:
