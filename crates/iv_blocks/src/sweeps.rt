@@ -6,7 +6,8 @@ ghost use Rattle.iv_bytes.specs.Sinks.{Puts};
 ghost use Rattle.iv_lines.specs.Genome.{Sequences};
 ghost use Rattle.iv_lines.specs.Ordered.{AreInOrder};
 ghost use Rattle.iv_lines.specs.Read.{IsOnGenome};
-ghost use Rattle.iv_locators.specs.Inside.Spans.{record_of_span, span_records};
+ghost use Rattle.iv_lines.specs.Inside.Intervals.{interval_records};
+ghost use Rattle.iv_lines.specs.Intervals.{record_of_interval};
 ghost use Rattle.iv_cover.specs.Inside.RemainingBlocks.{remaining_blocks};
 ghost use Rattle.iv_cover.specs.TrackBlocks.{GivesFirst, blocks_of};
 ghost use Rattle.iv_blocks.specs.Inside.BlockSweeps.{interval_of, interval_row, next_start, numbered_row};
@@ -19,8 +20,8 @@ use crate::complement::put_gaps;
 use crate::side_blocks::{SideBlocks, SideRecords};
 use iv_bytes::{Sink, WriteFault};
 use iv_cover::Block;
-use iv_lines::{Genome, put_interval, put_numbered};
-use iv_locators::{Span, TextRecords};
+use iv_lines::{Genome, Interval, put_interval, put_numbered};
+use iv_locators::TextRecords;
 use std::alloc::Allocator;
 use std::marker::Model;
 
@@ -30,15 +31,15 @@ use std::marker::Model;
 /// fault the sink has taken a prefix of the text.
 pub fn put_merge<A: Allocator + Copy, S: Sink>(
     distance: u32,
-    spans: &[Span],
+    intervals: &[Interval],
     genome: &Genome<A>,
     sink: &mut S,
 ) -> Result<(), WriteFault>
-    requires order { AreInOrder (span_records spans.now) }
-    requires on_genome { All (IsOnGenome genome.now) (span_records spans.now) }
-    ensures { (o : BlockOptions) → IsByIntervals distance o → Puts (S.state sink.old) (S.state sink.new) result (merge_text o genome.now (span_records spans.now)) }
+    requires order { AreInOrder (interval_records intervals.now) }
+    requires on_genome { All (IsOnGenome genome.now) (interval_records intervals.now) }
+    ensures { (o : BlockOptions) → IsByIntervals distance o → Puts (S.state sink.old) (S.state sink.new) result (merge_text o genome.now (interval_records intervals.now)) }
 {
-    for block in SpanBlocks::of(spans, distance) {
+    for block in IntervalBlocks::of(intervals, distance) {
         put_block(block, genome, sink)?;
     }
     Ok(())
@@ -101,15 +102,15 @@ fn put_members<A: Allocator + Copy, S: Sink>(
 /// fault the sink has taken a prefix of the text.
 pub fn put_complement<A: Allocator + Copy, S: Sink>(
     limited: bool,
-    spans: &[Span],
+    intervals: &[Interval],
     genome: &Genome<A>,
     sink: &mut S,
 ) -> Result<(), WriteFault>
-    requires order { AreInOrder (span_records spans.now) }
-    requires on_genome { All (IsOnGenome genome.now) (span_records spans.now) }
-    ensures { Puts (S.state sink.old) (S.state sink.new) result (complement_text limited genome.now (span_records spans.now)) }
+    requires order { AreInOrder (interval_records intervals.now) }
+    requires on_genome { All (IsOnGenome genome.now) (interval_records intervals.now) }
+    ensures { Puts (S.state sink.old) (S.state sink.new) result (complement_text limited genome.now (interval_records intervals.now)) }
 {
-    let mut blocks = SpanBlocks::of(spans, 0);
+    let mut blocks = IntervalBlocks::of(intervals, 0);
     put_gaps(limited, genome, &mut blocks, &mut (), sink)
 }
 
@@ -118,33 +119,33 @@ pub fn put_complement<A: Allocator + Copy, S: Sink>(
 /// Intervals of one sequence that overlap, are book-ended or are at most `distance` bases apart are in one block. Blocks come by
 /// the sequence's rank, and then by start. The model is the list of those that are left. No call takes memory.
 #[derive(Drop)]
-pub(crate) struct SpanBlocks<'s> {
-    rest: &'s [Span],
+pub(crate) struct IntervalBlocks<'s> {
+    rest: &'s [Interval],
     distance: u32,
 }
 
-impl<'s> Model for SpanBlocks<'s> {
+impl<'s> Model for IntervalBlocks<'s> {
     ghost use Rattle.std.specs.Prelude.{List, None, map};
     ghost use Rattle.iv_cover.specs.Inside.RemainingBlocks.{remaining_blocks};
     ghost use Rattle.iv_cover.specs.declared.block.Block.{Block};
-    ghost use Rattle.iv_locators.specs.Inside.Spans.{span_records};
+    ghost use Rattle.iv_lines.specs.Inside.Intervals.{interval_records};
     ghost use Rattle.iv_blocks.specs.Inside.BlockSweeps.{interval_of};
 
     ghost Value = { List Block };
 
-    ghost view = { λ b. map interval_of (remaining_blocks b.distance None (span_records b.rest.now)) };
+    ghost view = { λ b. map interval_of (remaining_blocks b.distance None (interval_records b.rest.now)) };
 }
 
-impl<'s> SpanBlocks<'s> {
+impl<'s> IntervalBlocks<'s> {
     /// The blocks of intervals that are in the order of a track.
     ///
     /// They are the blocks of the definition for every genome that the intervals are on.
-    pub(crate) fn of(spans: &'s [Span], distance: u32) -> Self
-        requires { AreInOrder (span_records spans.now) }
-        ensures { (g : Sequences) → All (IsOnGenome g) (span_records spans.now) → result ≡ map interval_of (blocks_of distance g (span_records spans.now)) }
+    pub(crate) fn of(intervals: &'s [Interval], distance: u32) -> Self
+        requires { AreInOrder (interval_records intervals.now) }
+        ensures { (g : Sequences) → All (IsOnGenome g) (interval_records intervals.now) → result ≡ map interval_of (blocks_of distance g (interval_records intervals.now)) }
     {
-        SpanBlocks {
-            rest: spans,
+        IntervalBlocks {
+            rest: intervals,
             distance,
         }
     }
@@ -158,7 +159,7 @@ impl<'s> SpanBlocks<'s> {
     }
 }
 
-impl<'s> Iterator for SpanBlocks<'s> {
+impl<'s> Iterator for IntervalBlocks<'s> {
     type Item = Block;
 
     ghost next_gives = { YieldsFirst (λ blocks. blocks) };
@@ -174,7 +175,7 @@ impl<'s> Iterator for SpanBlocks<'s> {
     }
 }
 
-impl<'s> BlocksAhead for SpanBlocks<'s> {
+impl<'s> BlocksAhead for IntervalBlocks<'s> {
     /// A sweep counts no steps.
     type Meter = ();
 
@@ -192,24 +193,24 @@ impl<'s> BlocksAhead for SpanBlocks<'s> {
 }
 
 /// A block of one record alone.
-fn block_of(span: Span) -> Block
-    ensures { result ≡ record { sequence = span.seq; start = span.start; stop = span.stop } }
+fn block_of(interval: Interval) -> Block
+    ensures { result ≡ record { sequence = interval.seq; start = interval.start; stop = interval.stop } }
 {
     Block {
-        sequence: span.seq,
-        start: span.start,
-        stop: span.stop,
+        sequence: interval.seq,
+        start: interval.start,
+        stop: interval.stop,
     }
 }
 
 /// The block that an interval begins, with those of the others that join it, and the intervals after it.
-fn block_from(first: Span, others: &[Span], distance: u32) -> (Block, &[Span])
-    ensures { GivesFirst (remaining_blocks distance None (record_of_span first ∷ span_records others.now)) (Some result.0) (remaining_blocks distance None (span_records result.1.now)) }
+fn block_from(first: Interval, others: &[Interval], distance: u32) -> (Block, &[Interval])
+    ensures { GivesFirst (remaining_blocks distance None (record_of_interval first ∷ interval_records others.now)) (Some result.0) (remaining_blocks distance None (interval_records result.1.now)) }
 {
     let mut block = block_of(first);
     let mut rest = others;
-    while let Some((span, later)) = rest.split_first() {
-        let next = block_of(*span);
+    while let Some((interval, later)) = rest.split_first() {
+        let next = block_of(*interval);
         if !block.is_joined_by(next, distance) {
             return (block, rest);
         }

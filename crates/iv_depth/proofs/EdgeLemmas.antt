@@ -19,8 +19,9 @@ use Rattle.iv_lines.proofs.InOrderLemmas.{all-recursion}
 use Rattle.iv_lines.proofs.PrecedesLemmas.{Precedes, precedes-from}
 use Rattle.iv_lines.proofs.ListLemmas.{Mem}
 use Rattle.iv_locators.proofs.SequenceLemmas.{is_from, from-here}
-use Rattle.iv_locators.specs.Inside.Spans.{record_of_span, span_records}
-use Rattle.iv_locators.specs.declared.span.Span.{Span}
+use Rattle.iv_lines.specs.Inside.Intervals.{interval_records}
+use Rattle.iv_lines.specs.Intervals.{record_of_interval}
+use Rattle.iv_lines.specs.declared.interval.Interval.{Interval}
 use Rattle.std.specs.Prelude.{ℤ, pos, ◌+ℤ◌, ◌-ℤ◌}
 use Rattle.iv_depth.specs.Inside.DepthChanges.{Gives, IsChange}
 use Rattle.iv_depth.specs.Inside.Edges.{up_to, Rise, BeginsElse, AreStopsOf, Passes, IsLeast, Remaining, RiseFrom, edge_count, net, SkipsEdges, TakesChange, GivesChange, IsAhead, starts_of, stops_of}
@@ -192,11 +193,11 @@ Gives-next seq old None new gives = λ g f from d ahead. (IsAhead-end (f seq) fr
 -- ---- the records of one sequence
 
 -- intervals start and stop where their records do
-starts-are : (places : List Span) (records : List RecordValue) → span_records places ≡ records → starts_of places ≡ map start_of records
-starts-are places records same = sym (map-map start_of record_of_span places) ∙ ap (map start_of) same
+starts-are : (places : List Interval) (records : List RecordValue) → interval_records places ≡ records → starts_of places ≡ map start_of records
+starts-are places records same = sym (map-map start_of record_of_interval places) ∙ ap (map start_of) same
 
-stops-are : (places : List Span) (records : List RecordValue) → span_records places ≡ records → stops_of places ≡ map stop_of records
-stops-are places records same = sym (map-map stop_of record_of_span places) ∙ ap (map stop_of) same
+stops-are : (places : List Interval) (records : List RecordValue) → interval_records places ≡ records → stops_of places ≡ map stop_of records
+stops-are places records same = sym (map-map stop_of record_of_interval places) ∙ ap (map stop_of) same
 
 module _ (g : Sequences) (seq : ℕ) where
   -- as many records cover p as start up to it, less those that stop up to it
@@ -236,13 +237,13 @@ module _ (g : Sequences) (seq : ℕ) where
       after q at on_it (inl lower) = absurd (omega (arith, at, on_it))
       after q at on_it (inr same) = same.1
 
-  module _ (records left here : List RecordValue) (places : List Span) (left_is : left ≡ filter (is_from seq) records) (here_is : here ≡ on seq left)
-      (same : span_records places ≡ here) where
+  module _ (records left here : List RecordValue) (places : List Interval) (left_is : left ≡ filter (is_from seq) records) (here_is : here ≡ on seq left)
+      (same : interval_records places ≡ here) where
     pub places-few : length places ≤ length records
     places-few =
         omega (
           arith,
-          length-map places record_of_span,
+          length-map places record_of_interval,
           ap (λ (l : List RecordValue). length l) same,
           ap (λ (l : List RecordValue). length l) here_is,
           length-filter (λ (r : RecordValue). r.seq == seq) left,

@@ -3,7 +3,7 @@ ghost use Rattle.std.specs.Prelude.{◌≡◌, ◌≤◌, All, IfOk, length};
 ghost use Rattle.iv_bytes.specs.Sinks.{Puts};
 ghost use Rattle.iv_lines.specs.Ordered.{AreInOrder};
 ghost use Rattle.iv_lines.specs.Read.{IsOnGenome};
-ghost use Rattle.iv_locators.specs.Inside.Spans.{span_records};
+ghost use Rattle.iv_lines.specs.Inside.Intervals.{interval_records};
 ghost use Rattle.iv_depth.specs.Inside.Texts.{depth_text};
 ghost use Rattle.iv_depth.specs.Inside.Edges.{AreStopsOf};
 
@@ -11,12 +11,12 @@ use crate::change_cursor::DepthChanges;
 use crate::depth_rows::{DepthOutput, put_sequence};
 use crate::edges::Edges;
 use iv_bytes::{Sink, WriteFault};
-use iv_lines::Genome;
-use iv_locators::{Span, order_neighbors, split_sequence};
+use iv_lines::{Genome, Interval};
+use iv_locators::{order_neighbors, split_sequence};
 use std::alloc::{AllocError, Allocator, Global};
 use std::marker::Model;
 
-impl<'a> DepthChanges for Edges<'a, Span, u32> {
+impl<'a> DepthChanges for Edges<'a, Interval, u32> {
     ghost use Rattle.iv_lines.specs.Genome.{sequence_length};
     ghost use Rattle.iv_depth.specs.Inside.Edges.{IsAhead, edge_count};
 
@@ -38,7 +38,7 @@ impl<'a> DepthChanges for Edges<'a, Span, u32> {
 /// How many records cover each position: the intervals of the records, and room for one stop of each, 4 bytes.
 #[derive(Drop)]
 pub struct DepthSweep<'s, A: Allocator = Global> {
-    spans: &'s [Span],
+    intervals: &'s [Interval],
     // Where the records of one sequence stop, while its rows are printed.
     stops: Vec<u32, A>,
 }
@@ -46,23 +46,23 @@ pub struct DepthSweep<'s, A: Allocator = Global> {
 impl<'s, A: Allocator> Model for DepthSweep<'s, A> {
     ghost use Rattle.std.specs.Prelude.{List, ◌≡◌, length};
     ghost use Rattle.iv_lines.specs.RecordValue.{RecordValue};
-    ghost use Rattle.iv_locators.specs.Inside.Spans.{span_records};
+    ghost use Rattle.iv_lines.specs.Inside.Intervals.{interval_records};
 
     ghost Value = { List RecordValue };
 
-    ghost view = { λ s. span_records s.spans.now };
+    ghost view = { λ s. interval_records s.intervals.now };
 
-    ghost invariant = { λ s. length s.stops.items ≡ length s.spans.now };
+    ghost invariant = { λ s. length s.stops.items ≡ length s.intervals.now };
 }
 
 impl<'s, A: Allocator + Copy> DepthSweep<'s, A> {
     /// A sweep over intervals. It takes all the memory that it needs: 4 bytes for each.
-    pub fn new(alloc: A, spans: &'s [Span]) -> Result<Self, AllocError>
-        ensures { IfOk result (λ s. s ≡ span_records spans.now) }
+    pub fn new(alloc: A, intervals: &'s [Interval]) -> Result<Self, AllocError>
+        ensures { IfOk result (λ s. s ≡ interval_records intervals.now) }
     {
         let mut stops = Vec::new(alloc);
-        stops.resize(spans.len(), 0)?;
-        Ok(DepthSweep { spans, stops })
+        stops.resize(intervals.len(), 0)?;
+        Ok(DepthSweep { intervals, stops })
     }
 
     /// Prints the rows that say how many records cover each position, sequence by sequence. It takes no memory.
@@ -80,7 +80,13 @@ impl<'s, A: Allocator + Copy> DepthSweep<'s, A> {
         ensures text { Puts (S.state sink.old) (S.state sink.new) result (depth_text output genome.now self.old) }
         ensures same { self.new ≡ self.old }
     {
-        put_genome(output, genome, self.spans, self.stops.as_mut_slice(), sink)
+        put_genome(
+            output,
+            genome,
+            self.intervals,
+            self.stops.as_mut_slice(),
+            sink,
+        )
     }
 }
 
@@ -88,17 +94,17 @@ impl<'s, A: Allocator + Copy> DepthSweep<'s, A> {
 fn put_genome<A: Allocator + Copy, S: Sink>(
     output: DepthOutput,
     genome: &Genome<A>,
-    spans: &[Span],
+    intervals: &[Interval],
     stops: &mut [u32],
     sink: &mut S,
 ) -> Result<(), WriteFault>
-    requires order { AreInOrder (span_records spans.now) }
-    requires on_genome { All (IsOnGenome genome.now) (span_records spans.now) }
-    requires room { length spans.now ≤ length stops.old }
-    ensures text { Puts (S.state sink.old) (S.state sink.new) result (depth_text output genome.now (span_records spans.now)) }
+    requires order { AreInOrder (interval_records intervals.now) }
+    requires on_genome { All (IsOnGenome genome.now) (interval_records intervals.now) }
+    requires room { length intervals.now ≤ length stops.old }
+    ensures text { Puts (S.state sink.old) (S.state sink.new) result (depth_text output genome.now (interval_records intervals.now)) }
     ensures room { length stops.new ≡ length stops.old }
 {
-    let mut left = spans;
+    let mut left = intervals;
     for seq in 0..genome.count() {
         let (starts, later) = split_sequence(left, seq);
         let room = &mut stops[..starts.len()];
@@ -114,13 +120,13 @@ fn put_genome<A: Allocator + Copy, S: Sink>(
 }
 
 /// Writes where the intervals stop, from the least to the greatest.
-fn write_stops(spans: &[Span], stops: &mut [u32])
-    requires { length stops.old ≡ length spans.now }
-    ensures stops { AreStopsOf spans.now stops.new }
+fn write_stops(intervals: &[Interval], stops: &mut [u32])
+    requires { length stops.old ≡ length intervals.now }
+    ensures stops { AreStopsOf intervals.now stops.new }
     ensures len { length stops.new ≡ length stops.old }
 {
-    for index in 0..spans.len() {
-        stops[index] = spans[index].stop;
+    for index in 0..intervals.len() {
+        stops[index] = intervals[index].stop;
     }
     order_neighbors(stops, |before, here| *before > *here);
     stops.sort_unstable();

@@ -2,7 +2,7 @@
 ghost use Rattle.std.specs.Prelude.{◌≡◌, ◌+◌, ◌<◌, ◌≤◌, ℕ, [], MatchOption, OnSome, length, map};
 ghost use Rattle.iv_depth.specs.Inside.Edges.{BeginsElse, GivesChange, IsLeast, Passes, Rise, edge_count};
 
-use iv_locators::Span;
+use iv_lines::Interval;
 use std::marker::Model;
 
 /// An item that is at a position: an interval is at its start, and a number at itself.
@@ -13,8 +13,8 @@ pub(crate) trait Positioned {
         ensures { result ≡ at self.now };
 }
 
-impl Positioned for Span {
-    ghost at = { λ span. span.start };
+impl Positioned for Interval {
+    ghost at = { λ interval. interval.start };
 
     fn position(&self) -> u64 {
         self.start as u64

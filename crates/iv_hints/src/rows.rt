@@ -103,7 +103,7 @@ script.E24 |  | the FASTA file has another number of bases for `f0`: its .fai ha
 E17 |  | -c `item`: the records have columns 1 to `width`
 subject | !word | usage: bedkeep SUBCOMMAND -g GENOME -i BED, or bedkeep session -g GENOME -i BED < SCRIPT
 + |  | subcommands: merge, cluster, complement, genomecov, intersect, subtract, getfasta, records
-subject | word=apply|curate|desk|diff|replay|review|windows | `word` is a command of the Python package: python3 -m bedkeep `word`
+subject | word=agree|apply|curate|desk|diff|git|lift|log|replay|review|windows | `word` is a command of the Python package: python3 -m bedkeep `word`
 subject view | word=sort | bedkeep records prints all records in order
 subject view | near !is_flag_for_a_view | `word` is no subcommand: is `near` meant?
 subject view |  | `word` is no subcommand: merge, cluster, complement, genomecov, intersect, subtract, getfasta, records (bedtools has others, over rows of bedkeep too)

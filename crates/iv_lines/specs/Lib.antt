@@ -4,6 +4,7 @@ pub mod Lines
 pub mod Fields
 pub mod Number
 pub mod RecordValue
+pub mod Intervals
 pub mod Named
 pub mod NameMap
 pub mod Genome

@@ -1,10 +1,12 @@
 //! A record of three columns.
-ghost use Rattle.std.specs.Prelude.{◌≡◌, ◌<◌, [], None};
+ghost use Rattle.std.specs.Prelude.{◌≡◌, ◌<◌};
 ghost use Rattle.std.specs.Prelude.{refl};
 ghost use Rattle.std.specs.Ordering.{as_partial_cmp, eq_by_cmp};
 ghost use Rattle.std.specs.Cmp.{partial_equiv_from_equiv, eq_by_cmp_equiv, partial_order_from_agreeing_total};
+ghost use Rattle.iv_lines.specs.Intervals.{interval_of, record_of_interval};
 ghost use Rattle.iv_lines.specs.RecordValue.{IsPlaced, record_cmp, records_total};
 
+use crate::interval::Interval;
 use crate::record::Record;
 use crate::record_ref::RecordRef;
 use std::alloc::Allocator;
@@ -16,43 +18,42 @@ use std::marker::Model;
 /// Its value is that of a record of width 3, and its order the order of a track among such records.
 #[derive(Drop)]
 pub struct Bed3Record {
-    seq: u32,
-    start: u32,
-    stop: u32,
+    interval: Interval,
 }
 
 impl Model for Bed3Record {
-    ghost use Rattle.std.specs.Prelude.{◌<◌, [], None};
+    ghost use Rattle.std.specs.Prelude.{◌<◌};
+    ghost use Rattle.iv_lines.specs.Intervals.{record_of_interval};
     ghost use Rattle.iv_lines.specs.RecordValue.{RecordValue};
 
     ghost Value = { RecordValue };
 
-    ghost view = { λ r. record { seq = r.seq; start = r.start; stop = r.stop; name = []; score = []; strand = None; width = 3 } };
+    ghost view = { λ r. record_of_interval r.interval };
 
-    ghost invariant = { λ r. r.start < r.stop };
+    ghost invariant = { λ r. r.interval.start < r.interval.stop };
 }
 
 impl Bed3Record {
     /// The record with this interval, which has a base.
-    pub fn new(seq: u32, start: u32, stop: u32) -> Self
-        requires { start < stop }
-        ensures { result ≡ record { seq = seq; start = start; stop = stop; name = []; score = []; strand = None; width = 3 } }
+    pub fn new(interval: Interval) -> Self
+        requires { interval.start < interval.stop }
+        ensures { result ≡ record_of_interval interval }
     {
-        Bed3Record { seq, start, stop }
+        Bed3Record { interval }
     }
 
     /// The rank of its sequence in the genome.
     pub fn seq(&self) -> u32
         ensures { result ≡ self.now.seq }
     {
-        self.seq
+        self.interval.seq
     }
 
     /// The start, from 0.
     pub fn start(&self) -> u64
         ensures { result ≡ self.now.start }
     {
-        u64::from(self.start)
+        u64::from(self.interval.start)
     }
 
     /// The end, not included.
@@ -60,32 +61,32 @@ impl Bed3Record {
         ensures value { result ≡ self.now.stop }
         ensures some { self.now.start < result }
     {
-        u64::from(self.stop)
+        u64::from(self.interval.stop)
     }
 
     /// A lemma for callers' proofs: the record has a base, and its rank and its stop are numbers of 32 bits. No column is after the
     /// third. The call does nothing.
     pub fn lemma_of_interval(&self)
         ensures placed { IsPlaced self.now }
-        ensures three { self.now ≡ record { seq = self.now.seq; start = self.now.start; stop = self.now.stop; name = []; score = []; strand = None; width = 3 } }
+        ensures three { self.now ≡ record_of_interval (interval_of self.now) }
     {
         // After this read the type's bounds are known.
-        let _seq = self.seq;
-        let _stop = self.stop;
+        let _seq = self.interval.seq;
+        let _stop = self.interval.stop;
     }
 
     /// The same record, as one whose columns are lent: it has no text.
     pub fn as_ref<'a>(&self) -> RecordRef<'a>
         ensures { result ≡ self.now }
     {
-        RecordRef::of_columns(self.seq, self.start, self.stop, &[], &[], None, 3)
+        RecordRef::of_columns(self.interval, &[], &[], None, 3)
     }
 
     /// The same record, as one that may own texts. It takes no memory.
     pub(crate) fn into_record<A: Allocator>(self, alloc: A) -> Record<A>
         ensures { result ≡ self }
     {
-        Record::of_interval(alloc, self.seq, self.start, self.stop)
+        Record::of_interval(alloc, self.interval)
     }
 }
 
@@ -125,12 +126,6 @@ impl Ord for Bed3Record {
 
     #[inline]
     fn cmp(&self, other: &Bed3Record) -> Ordering {
-        if self.seq != other.seq {
-            return self.seq.cmp(&other.seq);
-        }
-        if self.start != other.start {
-            return self.start.cmp(&other.start);
-        }
-        self.stop.cmp(&other.stop)
+        self.interval.cmp(&other.interval)
     }
 }

@@ -6,6 +6,7 @@ mod bed3_record;
 mod bed_record;
 mod fault;
 mod genome;
+mod interval;
 mod lemmas;
 mod lines;
 mod name_map;
@@ -22,6 +23,7 @@ pub use bed_record::BedRecord;
 pub use bed3_record::Bed3Record;
 pub use fault::{Fault, LoadCause, LoadFault, RecordFault, fault_text, load_text};
 pub use genome::{Genome, MOST_LENGTH, is_bad_name};
+pub use interval::Interval;
 pub use lemmas::{
     first_line_ends_at_feed, genome_or_first_fault, last_line_ends_at_end, one_length_changes,
     one_ordered_list,

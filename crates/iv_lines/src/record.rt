@@ -3,13 +3,15 @@ ghost use Rattle.std.specs.Prelude.{◌≡◌, ◌<◌, ◌+◌, ◌-◌, ◌^�
 ghost use Rattle.std.specs.Prelude.{refl};
 ghost use Rattle.std.specs.Ordering.{as_partial_cmp, eq_by_cmp};
 ghost use Rattle.std.specs.Cmp.{partial_equiv_from_equiv, eq_by_cmp_equiv, partial_order_from_agreeing_total};
+ghost use Rattle.iv_lines.specs.Intervals.{record_of_interval};
 ghost use Rattle.iv_lines.specs.Read.{Fits};
 ghost use Rattle.iv_lines.specs.RecordValue.{IsPlaced, record_cmp, records_total};
 ghost use Rattle.iv_lines.specs.Inside.RecordValue.{beside_cmp};
 
 use crate::bed3_record::Bed3Record;
 use crate::genome::Genome;
-use crate::record_columns::{Interval, RecordColumns, StrandAndWidth};
+use crate::interval::Interval;
+use crate::record_columns::{RecordColumns, StrandAndWidth};
 use crate::record_ref::{RecordRef, Strand};
 use std::alloc::{AllocError, Allocator, Global};
 use std::cmp::Ordering;
@@ -44,28 +46,32 @@ impl<A: Allocator> Record<A> {
         requires { start < 2 ^ 32 - 1 }
         ensures { result ≡ record { seq = seq; start = start; stop = start + 1; name = []; score = []; strand = None; width = 0 } }
     {
-        Record::without_texts(alloc, 0, seq, start, start + 1)
+        let base = Interval {
+            seq,
+            start,
+            stop: start + 1,
+        };
+        Record::without_texts(alloc, 0, base)
     }
 
     /// The record of three columns with this interval, which has a base. It takes no memory.
-    pub fn of_interval(alloc: A, seq: u32, start: u32, stop: u32) -> Self
-        requires { start < stop }
-        ensures { result ≡ record { seq = seq; start = start; stop = stop; name = []; score = []; strand = None; width = 3 } }
+    pub fn of_interval(alloc: A, interval: Interval) -> Self
+        requires { interval.start < interval.stop }
+        ensures { result ≡ record_of_interval interval }
     {
-        Record::without_texts(alloc, 3, seq, start, stop)
+        Record::without_texts(alloc, 3, interval)
     }
 
     /// The record of this width and interval, which has a base, without other columns. It takes no memory.
     #[inline(always)]
-    fn without_texts(_alloc: A, width: u8, seq: u32, start: u32, stop: u32) -> Self
-        requires { start < stop }
-        ensures { result ≡ record { seq = seq; start = start; stop = stop; name = []; score = []; strand = None; width = width } }
+    fn without_texts(_alloc: A, width: u8, interval: Interval) -> Self
+        requires { interval.start < interval.stop }
+        ensures { result ≡ record (record_of_interval interval) { width = width } }
     {
         let beside = StrandAndWidth {
             strand: None,
             width,
         };
-        let interval = Interval { seq, start, stop };
         Record {
             columns: RecordColumns::Empty(beside, interval),
         }
@@ -75,12 +81,9 @@ impl<A: Allocator> Record<A> {
     pub fn as_ref(&self) -> RecordRef<'_>
         ensures { result ≡ self.now }
     {
-        let interval = self.columns.interval();
         let beside = self.columns.strand_and_width();
         RecordRef::of_columns(
-            interval.seq,
-            interval.start,
-            interval.stop,
+            self.columns.interval(),
             self.columns.name(),
             self.columns.score(),
             beside.strand,
@@ -156,8 +159,7 @@ impl<A: Allocator> Record<A> {
         if self.columns.strand_and_width().width != 3 {
             return None;
         }
-        let interval = self.columns.interval();
-        Some(Bed3Record::new(interval.seq, interval.start, interval.stop))
+        Some(Bed3Record::new(self.columns.interval()))
     }
 
     /// Whether it is a record of this width on this genome.
@@ -195,12 +197,13 @@ impl<A: Allocator + Copy> Record<A> {
             strand: others.strand,
             width: feature.width,
         };
-        let interval = Interval {
-            seq: feature.seq,
-            start: feature.start,
-            stop: feature.stop,
-        };
-        let columns = RecordColumns::copy_of(alloc, beside, interval, others.name, others.score)?;
+        let columns = RecordColumns::copy_of(
+            alloc,
+            beside,
+            feature.interval,
+            others.name,
+            others.score,
+        )?;
         Ok(Record { columns })
     }
 }
@@ -241,16 +244,7 @@ impl<A: Allocator> Ord for Record<A> {
 
     #[inline]
     fn cmp(&self, other: &Record<A>) -> Ordering {
-        let (this, that) = (self.columns.interval(), other.columns.interval());
-        if this.seq != that.seq {
-            return this.seq.cmp(&that.seq);
-        }
-        if this.start != that.start {
-            return this.start.cmp(&that.start);
-        }
-        if this.stop != that.stop {
-            return this.stop.cmp(&that.stop);
-        }
-        self.cmp_beside(other)
+        let intervals = self.columns.interval().cmp(&other.columns.interval());
+        intervals.then_with(|| self.cmp_beside(other))
     }
 }

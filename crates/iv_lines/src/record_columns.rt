@@ -1,7 +1,9 @@
 //! How a record holds its columns, in 24 bytes: a short name and score in one allocation, long ones in two.
 ghost use Rattle.std.specs.Prelude.{◌≡◌, ◌≤◌, ◌<◌, ◌+◌, ◌^◌, [], length, IfOk, IsOk};
+ghost use Rattle.iv_lines.specs.Intervals.{interval_of};
 ghost use Rattle.iv_lines.specs.Inside.RecordColumns.{record_at, record_of};
 
+use crate::interval::Interval;
 use crate::record_ref::Strand;
 use std::alloc::{AllocError, Allocator};
 use std::marker::Model;
@@ -34,20 +36,10 @@ pub(crate) struct StrandAndWidth {
     pub(crate) width: u8,
 }
 
-/// The interval of a record, with the rank of its sequence.
-#[derive(Clone, Copy)]
-pub(crate) struct Interval {
-    pub(crate) seq: u32,
-    pub(crate) start: u32,
-    pub(crate) stop: u32,
-}
-
 impl<A: Allocator> RecordColumns<A> {
     #[inline(always)]
     pub(crate) fn interval(&self) -> Interval
-        ensures seq { result.seq ≡ (record_at self.now).seq }
-        ensures start { result.start ≡ (record_at self.now).start }
-        ensures stop { result.stop ≡ (record_at self.now).stop }
+        ensures { result ≡ interval_of (record_at self.now) }
     {
         match self {
             RecordColumns::Empty(_, interval)

@@ -4,11 +4,13 @@ ghost use Rattle.iv_lines.specs.RecordText.{joined_record, rest_text};
 ghost use Rattle.iv_lines.specs.RecordValue.{strand_of, IsPlaced, IsRecord, part};
 ghost use Rattle.iv_lines.specs.Read.{Fits, read, bad_text, column, AreSoundColumns, IsWithin};
 ghost use Rattle.iv_lines.specs.Inside.Read.{chosen, AreColumns};
+ghost use Rattle.iv_lines.specs.Intervals.{interval_of};
 ghost use Rattle.iv_lines.specs.Fields.{columns as columns_of};
 ghost use Rattle.iv_lines.specs.Widths.{IsWidth};
 
 use crate::fault::RecordFault;
 use crate::genome::Genome;
+use crate::interval::Interval;
 use crate::lines::{Fields, columns};
 use crate::number::read_number;
 use crate::record::Record;
@@ -59,9 +61,7 @@ pub(crate) enum OtherColumns<'a> {
 /// Columns beyond the width are empty.
 #[derive(Debug, Drop)]
 pub struct RecordRef<'a> {
-    pub(crate) seq: u32,
-    pub(crate) start: u32,
-    pub(crate) stop: u32,
+    pub(crate) interval: Interval,
     others: OtherColumns<'a>,
     pub(crate) width: u8,
 }
@@ -72,29 +72,25 @@ impl<'a> Model for RecordRef<'a> {
 
     ghost Value = { RecordValue };
 
-    ghost view = { λ r. record_held r.seq r.start r.stop r.others r.width };
+    ghost view = { λ r. record_held r.interval r.others r.width };
 
-    ghost invariant = { λ r. IsHeld r.seq r.start r.stop r.others r.width };
+    ghost invariant = { λ r. IsHeld r.interval r.others r.width };
 }
 
 impl<'a> RecordRef<'a> {
     /// The record of these columns, which has a base. Columns beyond the width are empty.
     pub fn of_columns(
-        seq: u32,
-        start: u32,
-        stop: u32,
+        interval: Interval,
         name: &'a [u8],
         score: &'a [u8],
         strand: Option<Strand>,
         width: u8,
     ) -> RecordRef<'a>
-        requires { IsRecord (record { seq = seq; start = start; stop = stop; name = name.now; score = score.now; strand = strand; width = width }) }
-        ensures { result ≡ record { seq = seq; start = start; stop = stop; name = name.now; score = score.now; strand = strand; width = width } }
+        requires { IsRecord (record { seq = interval.seq; start = interval.start; stop = interval.stop; name = name.now; score = score.now; strand = strand; width = width }) }
+        ensures { result ≡ record { seq = interval.seq; start = interval.start; stop = interval.stop; name = name.now; score = score.now; strand = strand; width = width } }
     {
         RecordRef {
-            seq,
-            start,
-            stop,
+            interval,
             others: OtherColumns::Cut(CutColumns {
                 name,
                 score,
@@ -107,15 +103,13 @@ impl<'a> RecordRef<'a> {
     /// The record whose columns after the third are these of a line, with a TAB between two of them: as many as the width has.
     ///
     /// They are cut when they are asked for, and put as they are.
-    pub fn of_joined(seq: u32, start: u32, stop: u32, joined: &'a [u8], width: u8) -> RecordRef<'a>
-        requires some { start < stop }
-        requires whole { codes "\t" ++ joined.now ≡ rest_text (joined_record seq start stop joined.now width) }
-        ensures { result ≡ joined_record seq start stop joined.now width }
+    pub fn of_joined(interval: Interval, joined: &'a [u8], width: u8) -> RecordRef<'a>
+        requires some { interval.start < interval.stop }
+        requires whole { codes "\t" ++ joined.now ≡ rest_text (joined_record interval.seq interval.start interval.stop joined.now width) }
+        ensures { result ≡ joined_record interval.seq interval.start interval.stop joined.now width }
     {
         RecordRef {
-            seq,
-            start,
-            stop,
+            interval,
             others: OtherColumns::Joined(joined),
             width,
         }
@@ -145,18 +139,25 @@ impl<'a> RecordRef<'a> {
         }
     }
 
+    /// Its interval.
+    pub fn interval(&self) -> Interval
+        ensures { result ≡ interval_of self.now }
+    {
+        self.interval
+    }
+
     /// The rank of its sequence in the genome.
     pub fn seq(&self) -> u32
         ensures { result ≡ self.now.seq }
     {
-        self.seq
+        self.interval.seq
     }
 
     /// The start, from 0.
     pub fn start(&self) -> u64
         ensures { result ≡ self.now.start }
     {
-        u64::from(self.start)
+        u64::from(self.interval.start)
     }
 
     /// The end, not included.
@@ -164,7 +165,7 @@ impl<'a> RecordRef<'a> {
         ensures value { result ≡ self.now.stop }
         ensures some { self.now.start < result }
     {
-        u64::from(self.stop)
+        u64::from(self.interval.stop)
     }
 
     /// A lemma for callers' proofs: the record has a base, and its rank and its stop are numbers of 32 bits.
@@ -173,8 +174,8 @@ impl<'a> RecordRef<'a> {
         ensures { IsPlaced self.now }
     {
         // After this read the type's bounds are known.
-        let _seq = self.seq;
-        let _stop = self.stop;
+        let _seq = self.interval.seq;
+        let _stop = self.interval.stop;
     }
 
     /// A lemma for callers' proofs: the record has a base, and its columns beyond the width are empty. The call does nothing.
@@ -233,9 +234,7 @@ impl<'a> RecordRef<'a> {
     {
         self.lemma_of_interval();
         RecordRef {
-            seq: self.seq,
-            start: start as u32,
-            stop: stop as u32,
+            interval: self.interval.part(start as u32, stop as u32),
             others: self.others,
             width: self.width,
         }
@@ -417,10 +416,13 @@ pub fn read_record<'a, A: Allocator + Copy>(
     if width >= 6 && strand.is_none() {
         return Err(RecordFault::Strand);
     }
-    Ok(RecordRef::of_columns(
+    let interval = Interval {
         seq,
-        start as u32,
-        stop as u32,
+        start: start as u32,
+        stop: stop as u32,
+    };
+    Ok(RecordRef::of_columns(
+        interval,
         cells.others.name,
         cells.others.score,
         strand,

@@ -13,7 +13,7 @@ use Rattle.iv_lines.specs.Read.{IsOnGenome}
 use Rattle.iv_lines.specs.RecordValue.{RecordValue, record_cmp}
 use Rattle.iv_lines.specs.Inside.RecordValue.{beside_cmp}
 use Rattle.iv_lines.proofs.OrderedLemmas.{ordered-in_order, rows-alone}
-use Rattle.iv_locators.specs.Locators.{bare}
+use Rattle.iv_lines.specs.Intervals.{bare}
 use Rattle.iv_locators.specs.Inside.Locators.{record_at, records_at}
 use Rattle.iv_locators.specs.declared.locator.Locator.{Locator}
 

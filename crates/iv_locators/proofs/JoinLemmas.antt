@@ -15,21 +15,21 @@ use Rattle.iv_lines.proofs.PrecedesLemmas.{precedes-from}
 use Rattle.iv_locators.specs.Cover.{is_covered}
 use Rattle.iv_locators.specs.Inside.Cover.{AreApart}
 use Rattle.iv_locators.specs.Inside.Joins.{touches, grown, joined_locators, joined_from}
-use Rattle.iv_locators.specs.Locators.{bare}
+use Rattle.iv_lines.specs.Intervals.{bare}
 use Rattle.iv_locators.specs.Inside.Locators.{HasAllColumns, HasBase, record_at, records_at}
 use Rattle.iv_locators.specs.declared.locator.Locator.{Locator}
 
 -- the locator covers position p of the sequence of this rank
 abbrev on : ℕ → ℕ → Locator → Bool
-on seq p locator = (locator.span.seq == seq) && (nat_le locator.span.start p && nat_lt p locator.span.stop)
+on seq p locator = (locator.interval.seq == seq) && (nat_le locator.interval.start p && nat_lt p locator.interval.stop)
 
 -- b doesn't start before a
 abbrev Before : Locator → Locator → Type 0
-Before a b = (a.span.seq ≤ b.span.seq) × (a.span.seq ≡ b.span.seq → a.span.start ≤ b.span.start)
+Before a b = (a.interval.seq ≤ b.interval.seq) × (a.interval.seq ≡ b.interval.seq → a.interval.start ≤ b.interval.start)
 
 -- b is on the sequence of a and starts past its stop, or on a later one
 abbrev Past : Locator → Locator → Type 0
-Past a b = (a.span.seq ≤ b.span.seq) × (a.span.seq ≡ b.span.seq → a.span.stop < b.span.start)
+Past a b = (a.interval.seq ≤ b.interval.seq) × (a.interval.seq ≡ b.interval.seq → a.interval.stop < b.interval.start)
 
 -- each locator is so beside each that comes after it
 abbrev pub InTurn : (Locator → Locator → Type 0) → List Locator → Type 0
@@ -41,10 +41,10 @@ InTurn R (x ∷ xs) = AllByRecursion (R x) xs × InTurn R xs
 -- two locators that touch, as one locator
 on-grown : (seq p : ℕ) (k x : Locator) → touches k x ≡ true → Before k x → on seq p (grown k x) ≡ (on seq p k || on seq p x)
 on-grown seq p k x touch before =
-    let parts = and_parts (k.span.seq == x.span.seq) (nat_le x.span.start k.span.stop) touch in
-    let same : k.span.seq ≡ x.span.seq = eqb-true k.span.seq x.span.seq parts.0 in
-    let reach : x.span.start ≤ k.span.stop = leb-true x.span.start k.span.stop parts.1 in
-    let begin : k.span.start ≤ x.span.start = before.1 same in
+    let parts = and_parts (k.interval.seq == x.interval.seq) (nat_le x.interval.start k.interval.stop) touch in
+    let same : k.interval.seq ≡ x.interval.seq = eqb-true k.interval.seq x.interval.seq parts.0 in
+    let reach : x.interval.start ≤ k.interval.stop = leb-true x.interval.start k.interval.stop parts.1 in
+    let begin : k.interval.start ≤ x.interval.start = before.1 same in
     grind (arith, nat_tests)
 
 cover_from : (seq p : ℕ) (k : Locator) (xs : List Locator) → InTurn Before (k ∷ xs) → list_any (on seq p) (joined_from k xs) ≡ (on seq p k || list_any (on seq p) xs)
@@ -70,22 +70,22 @@ cover-rows w text seq p (x ∷ xs) = ap (λ b. on seq p x || b) (cover-rows w te
 past-untouched : (k x : Locator) → touches k x ≡ false → Before k x → Past k x
 past-untouched k x not before = (
   before.0,
-  λ same. elim (and_cases (k.span.seq == x.span.seq) (nat_le x.span.start k.span.stop) not) [
-    | inl other ↦ absurd (eqb-false k.span.seq x.span.seq other same)
-    | inr far ↦ leb-false x.span.start k.span.stop far
+  λ same. elim (and_cases (k.interval.seq == x.interval.seq) (nat_le x.interval.start k.interval.stop) not) [
+    | inl other ↦ absurd (eqb-false k.interval.seq x.interval.seq other same)
+    | inr far ↦ leb-false x.interval.start k.interval.stop far
   ],
 )
 
 past-before : (j k x : Locator) → Past j k → Before k x → Past j x
 past-before j k x past before =
-    let low : j.span.seq ≤ k.span.seq = past.0 in
-    let high : k.span.seq ≤ x.span.seq = before.0 in (
+    let low : j.interval.seq ≤ k.interval.seq = past.0 in
+    let high : k.interval.seq ≤ x.interval.seq = before.0 in (
       omega arith,
       λ same.
-          let here : j.span.seq ≡ k.span.seq = omega arith in
-          let there : k.span.seq ≡ x.span.seq = omega arith in
-          let far : j.span.stop < k.span.start = past.1 here in
-          let on : k.span.start ≤ x.span.start = before.1 there in
+          let here : j.interval.seq ≡ k.interval.seq = omega arith in
+          let there : k.interval.seq ≡ x.interval.seq = omega arith in
+          let far : j.interval.stop < k.interval.start = past.1 here in
+          let on : k.interval.start ≤ x.interval.start = before.1 there in
           omega arith,
     )
 
@@ -171,7 +171,7 @@ row-le a b low starts = elim (cases_lt a.seq b.seq) [
 each-after : (w : ℕ) (text : List ℕ) (x : Locator) (xs : List Locator) → HasBase x → AllByRecursion (Past x) xs → AllByRecursion (λ y. is_le (record_cmp (record_at w text x) y) ≡ true) (records_at w text xs)
 each-after w text x [] some all = tt
 each-after w text x (y ∷ ys) some all = (
-  row-le (record_at w text x) (record_at w text y) all.0.0 (λ same. let far : x.span.stop < y.span.start = all.0.1 same in omega arith),
+  row-le (record_at w text x) (record_at w text y) all.0.0 (λ same. let far : x.interval.stop < y.interval.start = all.0.1 same in omega arith),
   each-after w text x ys some all.1,
 )
 
@@ -179,7 +179,7 @@ order-apart : (w : ℕ) (text : List ℕ) (xs : List Locator) → AllByRecursion
 order-apart w text [] some turn = tt
 order-apart w text (x ∷ xs) some turn = (each-after w text x xs some.0 turn.0, order-apart w text xs some.1 turn.1)
 
-each-apart : (w : ℕ) (text : List ℕ) (x : Locator) (xs : List Locator) → AllByRecursion (Past x) xs → AllByRecursion (λ (y : RecordValue). x.span.seq ≡ y.seq → x.span.stop < y.start) (records_at w text xs)
+each-apart : (w : ℕ) (text : List ℕ) (x : Locator) (xs : List Locator) → AllByRecursion (Past x) xs → AllByRecursion (λ (y : RecordValue). x.interval.seq ≡ y.seq → x.interval.stop < y.start) (records_at w text xs)
 each-apart w text x [] all = tt
 each-apart w text x (y ∷ ys) all = (all.0.1, each-apart w text x ys all.1)
 
@@ -187,7 +187,7 @@ rows-apart : (w : ℕ) (text : List ℕ) (xs : List Locator) → InTurn Past xs 
 rows-apart w text [] turn = λ i j d low high. absurd (omega arith)
 rows-apart w text (x ∷ xs) turn =
     AllPairs-cons (λ (a b : RecordValue). a.seq ≡ b.seq → a.stop < b.start) (record_at w text x) (records_at w text xs)
-    (All-from_recursion (λ (y : RecordValue). x.span.seq ≡ y.seq → x.span.stop < y.start) (records_at w text xs) (each-apart w text x xs turn.0)) (rows-apart w text xs turn.1)
+    (All-from_recursion (λ (y : RecordValue). x.interval.seq ≡ y.seq → x.interval.stop < y.start) (records_at w text xs) (each-apart w text x xs turn.0)) (rows-apart w text xs turn.1)
 
 -- the records of joined locators cover what those of the locators do
 pub covered-joined : (w v : ℕ) (text : List ℕ) (xs : List Locator) → AreInOrder (records_at w text xs) → (seq p : ℕ) → is_covered (records_at v text (joined_locators xs)) seq p ≡ is_covered (records_at w text xs) seq p

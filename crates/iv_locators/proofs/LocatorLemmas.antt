@@ -42,9 +42,9 @@ three-whole text (p ∷ ps) = All-cons (HasAllColumns 3 text) p ps (record { all
 -- the record of this interval with these columns after the third, as far as the width goes
 abbrev record_with : ℕ → Locator → List (List ℕ) → RecordValue
 record_with w p cs = record {
-  seq = p.span.seq;
-  start = p.span.start;
-  stop = p.span.stop;
+  seq = p.interval.seq;
+  start = p.interval.start;
+  stop = p.interval.stop;
   name = cond (nat_le 4 w) (column cs 0) [];
   score = cond (nat_le 5 w) (column cs 1) [];
   strand = cond (nat_le 6 w) (strand_of (column cs 2)) None;
@@ -53,9 +53,9 @@ record_with w p cs = record {
 
 abbrev record_of_columns : ℕ → Locator → List (List ℕ) → RecordValue
 record_of_columns w p cs = record {
-  seq = p.span.seq;
-  start = p.span.start;
-  stop = p.span.stop;
+  seq = p.interval.seq;
+  start = p.interval.start;
+  stop = p.interval.stop;
   name = cond (nat_le 4 w) (column cs 3) [];
   score = cond (nat_le 5 w) (column cs 4) [];
   strand = cond (nat_le 6 w) (strand_of (column cs 5)) None;
@@ -70,22 +70,22 @@ after-third w p (a ∷ b ∷ c ∷ cs) = refl
 
 -- the record of the columns after the third is that of the locator
 pub joined-is : (w : ℕ) (text joined : List ℕ) (p : Locator) → columns joined ≡ drop 3 (columns (line_at text p.line_start))
-    → joined_record p.span.seq p.span.start p.span.stop joined w ≡ record_at w text p
+    → joined_record p.interval.seq p.interval.start p.interval.stop joined w ≡ record_at w text p
 joined-is w text joined p are = ap (record_with w p) are ∙ after-third w p (columns (line_at text p.line_start))
 
 -- the text after the third TAB is what is printed
 pub joined-whole : (w : ℕ) (text joined : List ℕ) (p : Locator) → HasAllColumns w text p → 4 ≤ w → columns joined ≡ drop 3 (columns (line_at text p.line_start))
-    → codes "\t" ++ joined ≡ rest_text (joined_record p.span.seq p.span.start p.span.stop joined w)
+    → codes "\t" ++ joined ≡ rest_text (joined_record p.interval.seq p.interval.start p.interval.stop joined w)
 joined-whole w text joined p whole some are =
     tabs-columns joined ∙ ap with_tabs are ∙ sym (whole.all some) ∙ ap rest_text (sym (joined-is w text joined p are))
 
 -- a record without columns after the third
 abbrev none_after : ℕ → Locator → RecordValue
-none_after w p = record { seq = p.span.seq; start = p.span.start; stop = p.span.stop; name = []; score = []; strand = None; width = w }
+none_after w p = record { seq = p.interval.seq; start = p.interval.start; stop = p.interval.stop; name = []; score = []; strand = None; width = w }
 
 -- the tests of the width don't matter if each column is empty
-untested : (w : ℕ) (p : Locator) (a b c : Bool) → none_after w p ≡ record { seq = p.span.seq; start = p.span.start; stop = p.span.stop; name = cond a [] []; score = cond b [] []; strand = cond c None None; width = w }
-untested w p a b c = λ i. record { seq = p.span.seq; start = p.span.start; stop = p.span.stop; name = same a [] i; score = same b [] i; strand = same c None i; width = w }
+untested : (w : ℕ) (p : Locator) (a b c : Bool) → none_after w p ≡ record { seq = p.interval.seq; start = p.interval.start; stop = p.interval.stop; name = cond a [] []; score = cond b [] []; strand = cond c None None; width = w }
+untested w p a b c = λ i. record { seq = p.interval.seq; start = p.interval.start; stop = p.interval.stop; name = same a [] i; score = same b [] i; strand = same c None i; width = w }
   where
     same : {X : Type 0} (t : Bool) (x : X) → x ≡ cond t x x
     same t x = cond_both t x x (λ y. x ≡ y) (λ _. refl) (λ _. refl)
@@ -100,9 +100,9 @@ none-after-third w text p (inl low) =
     let five : nat_le 5 w ≡ false = grind (arith, nat_tests, low) in
     let six : nat_le 6 w ≡ false = grind (arith, nat_tests, low) in
     λ i. record {
-      seq = p.span.seq;
-      start = p.span.start;
-      stop = p.span.stop;
+      seq = p.interval.seq;
+      start = p.interval.start;
+      stop = p.interval.stop;
       name = cond (sym four i) (column cs 3) [];
       score = cond (sym five i) (column cs 4) [];
       strand = cond (sym six i) (strand_of (column cs 5)) None;

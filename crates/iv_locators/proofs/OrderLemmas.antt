@@ -11,7 +11,7 @@ use Rattle.std.specs.Prelude.{IsTrue, ◌↔◌}
 use Rattle.std.specs.Borrow.{Bor}
 use Rattle.std.specs.Cmp.{IsStrictWeakOrder, nat_cmp_total, tied_itself}
 use Rattle.std.specs.List.Sorted.{IsPermutation, IsSorted, IsSortedBy}
-use Rattle.std.specs.Ordering.{nat_cmp, is_lt, is_ne, ordering_then}
+use Rattle.std.specs.Ordering.{nat_cmp, is_lt, ordering_then}
 use Rattle.std.specs.declared.cmp.Ordering.{Ordering}
 use Rattle.std.specs.declared.cmp.Ordering.TheVariants.{Less, Equal, Greater}
 use Rattle.std.specs.Cmp.Lexicographic.{slice_cmp}
@@ -29,16 +29,6 @@ then_equal Greater = refl
 
 pub nat_tied : (x y : ℕ) → x ≡ y → nat_cmp x y ≡ Equal
 nat_tied x y e = subst (λ (z : ℕ). nat_cmp x z ≡ Equal) e (tied_itself nat_cmp_total x)
-
--- if three comparisons aren't tied, what follows doesn't count
-pub decided : (s t p o : Ordering) → is_ne (ordering_then s (ordering_then t (ordering_then p Equal))) ≡ true → ordering_then s (ordering_then t (ordering_then p Equal)) ≡ ordering_then s (ordering_then t (ordering_then p o))
-decided Equal Equal Equal o h = cc
-decided s t p o h = refl
-
--- and if they are, it decides
-pub tied : (s t p o : Ordering) → is_ne (ordering_then s (ordering_then t (ordering_then p Equal))) ≡ false → o ≡ ordering_then s (ordering_then t (ordering_then p o))
-tied Equal Equal Equal o h = refl
-tied s t p o h = cc
 
 -- name, score and strand decide among records of one width
 pub columns-cmp : (a b : RecordValue) (name_a score_a : List ℕ) (strand_a : Option Strand) (name_b score_b : List ℕ) (strand_b : Option Strand) → a.width ≡ b.width

@@ -10,7 +10,7 @@ use Rattle.iv_locators.specs.declared.locator.Locator.{Locator}
 
 any-rows : (width : ℕ) (text : List ℕ) (seq : ℕ) (ps : List Locator) → list_any (is_at seq) ps ≡ list_any (has_rank seq) (records_at width text ps)
 any-rows width text seq [] = refl
-any-rows width text seq (p ∷ ps) = ap (λ (b : Bool). (p.span.seq == seq) || b) (any-rows width text seq ps)
+any-rows width text seq (p ∷ ps) = ap (λ (b : Bool). (p.interval.seq == seq) || b) (any-rows width text seq ps)
 
 -- what is marked for locators is marked for their records
 pub any-records : {T E : Type 0} (r : Result T E) (marks : T → List Bool) (width : ℕ) (text : List ℕ) (ps : List Locator)
@@ -21,12 +21,12 @@ any-records (Err f) marks width text ps is = tt
 
 module _ (seq : ℕ) (ps : List Locator) (i : ℕ) where
   -- a locator more is marked
-  pub any-more : (none : Locator) (old new : Bool) → i < length ps → new ≡ ((slice_index_or ps i none).span.seq == seq || old)
+  pub any-more : (none : Locator) (old new : Bool) → i < length ps → new ≡ ((slice_index_or ps i none).interval.seq == seq || old)
       → (new || list_any (is_at seq) (drop (i + 1) ps)) ≡ (old || list_any (is_at seq) (drop i ps))
   any-more none old new within is =
       ap (λ (b : Bool). b || list_any (is_at seq) (drop (i + 1) ps)) is
-      ∙ ap (λ (b : Bool). b || list_any (is_at seq) (drop (i + 1) ps)) (or_comm ((slice_index_or ps i none).span.seq == seq) old)
-      ∙ or_assoc old ((slice_index_or ps i none).span.seq == seq) (list_any (is_at seq) (drop (i + 1) ps))
+      ∙ ap (λ (b : Bool). b || list_any (is_at seq) (drop (i + 1) ps)) (or_comm ((slice_index_or ps i none).interval.seq == seq) old)
+      ∙ or_assoc old ((slice_index_or ps i none).interval.seq == seq) (list_any (is_at seq) (drop (i + 1) ps))
       ∙ sym (at_drop_more (λ (l : List Locator). old || list_any (is_at seq) l) ps i none within)
 
   -- all are

@@ -33,7 +33,7 @@ wanted {X} k w x d beyond = by (nat_le k w) refl
     by false e = sym (beyond (grind (arith, nat_tests, e)))
 
 -- the record of a line is that of its locator
-pub locator-row : (g : Sequences) (w : ℕ) (line : List ℕ) (r : RecordValue) (p : Locator) → read g w line ≡ Ok r → p.span.seq ≡ r.seq → p.span.start ≡ r.start → p.span.stop ≡ r.stop → r ≡ row_of w line p
+pub locator-row : (g : Sequences) (w : ℕ) (line : List ℕ) (r : RecordValue) (p : Locator) → read g w line ≡ Ok r → p.interval.seq ≡ r.seq → p.interval.start ≡ r.start → p.interval.stop ≡ r.stop → r ≡ row_of w line p
 locator-row g w line r p says seq start stop =
     let cs = columns line in
     let parts = read-parts g w line r says in

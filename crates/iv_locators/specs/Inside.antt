@@ -3,5 +3,4 @@ pub mod Locators
 pub mod Drafts
 pub mod Cover
 pub mod Joins
-pub mod Spans
 pub mod Ranks

@@ -1,3 +1,2 @@
-pub mod Locators
 pub mod Cover
 pub mod Inside

@@ -12,7 +12,7 @@ ghost use Rattle.iv_locators.specs.Inside.Cover.{AreApart};
 ghost use Rattle.iv_locators.specs.Inside.Drafts.{AreLocators};
 ghost use Rattle.iv_locators.specs.Inside.Locators.{HasBase, records_at};
 ghost use Rattle.iv_locators.specs.Inside.Ranks.{has_rank, is_marked};
-ghost use Rattle.iv_locators.specs.Locators.{bare};
+ghost use Rattle.iv_lines.specs.Intervals.{bare};
 ghost use Rattle.iv_lines.specs.Widths.{IsWidth};
 
 use crate::locator::Locator;
@@ -30,10 +30,10 @@ fn take_in(last: &mut Locator, locator: &Locator) -> bool
     ensures touches { result ≡ touches last.old locator.now }
     ensures new { last.new ≡ cond (touches last.old locator.now) (grown last.old locator.now) last.old }
 {
-    if last.span.seq != locator.span.seq || last.span.stop < locator.span.start {
+    if last.interval.seq != locator.interval.seq || last.interval.stop < locator.interval.start {
         return false;
     }
-    last.span.stop = last.span.stop.max(locator.span.stop);
+    last.interval.stop = last.interval.stop.max(locator.interval.stop);
     true
 }
 

@@ -2,14 +2,14 @@
 #![tactic(auto)]
 
 mod bed_text;
+mod intervals;
 mod locator;
 mod order;
 mod ranks;
-mod span;
 mod text_records;
 
 pub use bed_text::BedText;
+pub use intervals::{sort_intervals, split_sequence};
 pub use locator::Locator;
 pub use order::order_neighbors;
-pub use span::{Span, sort_spans, split_sequence};
 pub use text_records::{TextRecord, TextRecords};

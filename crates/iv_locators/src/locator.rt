@@ -3,21 +3,21 @@ ghost use Rattle.std.specs.Prelude.{◌≡◌, ◌<◌, ◌≤◌, ◌⊎◌, Ma
 ghost use Rattle.iv_lines.specs.Fields.{columns as columns_of};
 ghost use Rattle.iv_lines.specs.Read.{column};
 ghost use Rattle.iv_lines.specs.RecordValue.{strand_of};
-ghost use Rattle.iv_locators.specs.Locators.{bare};
+ghost use Rattle.iv_lines.specs.Intervals.{bare};
 ghost use Rattle.iv_locators.specs.Inside.Locators.{locator_at, row_of, line_at, record_at};
 
-use crate::span::Span;
 use iv_lines::{
-    Batches, Fields, RecordRef, Strand, columns, read_strand, split_first_column, split_line,
+    Batches, Fields, Interval, RecordRef, Strand, columns, read_strand, split_first_column,
+    split_line,
 };
-use iv_text::{FastLine, FromRecord};
+use iv_text::FromRecord;
 use std::alloc::{AllocError, Allocator};
 
 /// A record's interval, and where its line begins in the text of its file.
 #[derive(Clone, Copy, Debug, PartialEq, Eq)]
 pub struct Locator {
     /// The record's interval, 0-based and half-open.
-    pub span: Span,
+    pub interval: Interval,
     /// The byte of the text at which its line begins.
     pub line_start: u32,
 }
@@ -35,10 +35,9 @@ impl<A: Allocator + Copy> FromRecord<A> for Locator {
 
     ghost stands = { λ r at. refl };
 
-    fn from_record(alloc: A, record: &RecordRef<'_>, at: u32) -> Result<Locator, AllocError> {
-        let span = Span::from_record(alloc, record, at)?;
+    fn from_record(_alloc: A, record: &RecordRef<'_>, at: u32) -> Result<Locator, AllocError> {
         Ok(Locator {
-            span,
+            interval: record.interval(),
             line_start: at,
         })
     }
@@ -51,10 +50,9 @@ impl<A: Allocator + Copy> FromRecord<A> for Locator {
         true
     }
 
-    fn from_interval(alloc: A, width: u8, line: &FastLine, at: u32) -> Option<Locator> {
-        let span = Span::from_interval(alloc, width, line, at)?;
+    fn from_interval(_alloc: A, _width: u8, interval: Interval, at: u32) -> Option<Locator> {
         Some(Locator {
-            span,
+            interval,
             line_start: at,
         })
     }

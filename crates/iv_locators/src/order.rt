@@ -10,7 +10,6 @@ ghost use Rattle.iv_locators.specs.Inside.Drafts.{AreInOrder, locator_of};
 ghost use Rattle.iv_locators.specs.Inside.Locators.{record_at};
 
 use crate::locator::{ComparedColumns, Locator, compared_columns_of};
-use crate::span::compare_spans;
 use std::alloc::{AllocError, Allocator};
 use std::cmp::Ordering;
 
@@ -40,11 +39,8 @@ fn compare_beside(text: &[u8], width: u8, first: &Locator, second: &Locator) -> 
 pub(crate) fn compare(text: &[u8], width: u8, first: &Locator, second: &Locator) -> Ordering
     ensures { result ≡ record_cmp (record_at width text.now first.now) (record_at width text.now second.now) }
 {
-    let spans = compare_spans(&first.span, &second.span);
-    if spans.is_ne() {
-        return spans;
-    }
-    compare_beside(text, width, first, second)
+    let intervals = first.interval.cmp(&second.interval);
+    intervals.then_with(|| compare_beside(text, width, first, second))
 }
 
 /// Whether locators are in the order of a track.
@@ -70,7 +66,7 @@ pub(crate) fn order_locators<A: Allocator + Copy>(
     if are_in_order(text, width, locators) {
         return Ok(());
     }
-    locators.sort_unstable_by(|first, second| compare_spans(&first.span, &second.span));
+    locators.sort_unstable_by(|first, second| first.interval.cmp(&second.interval));
     if order_ties(text, width, locators) {
         return Ok(());
     }
@@ -86,8 +82,8 @@ fn order_ties<A: Allocator>(text: &[u8], width: u8, locators: &mut Vec<Locator, 
     order_neighbors(
         locators.as_mut_slice(),
         |before: &Locator, here: &Locator| -> bool {
-            before.span.seq == here.span.seq
-                && before.span.start == here.span.start
+            before.interval.seq == here.interval.seq
+                && before.interval.start == here.interval.start
                 && compare(text, width, before, here).is_gt()
         },
     )
@@ -181,7 +177,10 @@ fn key_of(name: &[u8], from: usize) -> u64 {
 
 /// Compares by interval, then by prefix key, then by all columns.
 fn compare_keyed(text: &[u8], width: u8, first: &PrefixKeyed, second: &PrefixKeyed) -> Ordering {
-    compare_spans(&first.locator.span, &second.locator.span)
+    first
+        .locator
+        .interval
+        .cmp(&second.locator.interval)
         .then(first.head.cmp(&second.head))
         .then_with(|| compare(text, width, &first.locator, &second.locator))
 }

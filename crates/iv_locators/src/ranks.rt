@@ -27,7 +27,7 @@ pub(crate) fn marked<A: Allocator + Copy>(
 {
     let mut ranks = Vec::new(alloc);
     for locator in locators {
-        mark(&mut ranks, locator.span.seq)?;
+        mark(&mut ranks, locator.interval.seq)?;
     }
     Ok(ranks)
 }

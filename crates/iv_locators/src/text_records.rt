@@ -4,10 +4,10 @@ ghost use Rattle.std.specs.Iterator.{YieldsFirst, item_count};
 ghost use Rattle.iv_lines.specs.RecordValue.{IsPlaced};
 ghost use Rattle.iv_lines.specs.Ordered.{AreInOrder};
 ghost use Rattle.iv_lines.specs.CoveredPositions.{on};
-ghost use Rattle.iv_locators.specs.Inside.Locators.{HasAllColumns, HasBase, record_at, records_at, span_in, span_of};
+ghost use Rattle.iv_locators.specs.Inside.Locators.{HasAllColumns, HasBase, record_at, records_at, interval_in};
+ghost use Rattle.iv_lines.specs.Intervals.{interval_of};
 
 use crate::locator::{Locator, compared_columns_of, joined_columns_of};
-use crate::span::Span;
 use iv_lines::{BedRecord, RecordRef, Strand};
 use std::marker::Model;
 
@@ -64,8 +64,8 @@ impl<'t> TextRecord<'t> {
         ensures { IsPlaced self.now }
     {
         // After this read the type's bounds are known.
-        let _seq = self.locator.span.seq;
-        let _stop = self.locator.span.stop;
+        let _seq = self.locator.interval.seq;
+        let _stop = self.locator.interval.stop;
     }
 
     /// The strand, `None` below width 6.
@@ -79,10 +79,10 @@ impl<'t> TextRecord<'t> {
     pub fn to_ref(&self) -> RecordRef<'t>
         ensures { result ≡ self.now }
     {
-        let Span { seq, start, stop } = self.locator.span;
+        let interval = self.locator.interval;
         match joined_columns_of(self.text, self.locator, self.width) {
-            Some(joined) => RecordRef::of_joined(seq, start, stop, joined, self.width),
-            None => RecordRef::of_columns(seq, start, stop, b"", b"", None, self.width),
+            Some(joined) => RecordRef::of_joined(interval, joined, self.width),
+            None => RecordRef::of_columns(interval, b"", b"", None, self.width),
         }
     }
 }
@@ -91,15 +91,15 @@ impl<'t> BedRecord for TextRecord<'t> {
     ghost as_record = { λ r. r };
 
     fn seq(&self) -> u32 {
-        self.locator.span.seq
+        self.locator.interval.seq
     }
 
     fn start(&self) -> u64 {
-        u64::from(self.locator.span.start)
+        u64::from(self.locator.interval.start)
     }
 
     fn stop(&self) -> u64 {
-        u64::from(self.locator.span.stop)
+        u64::from(self.locator.interval.stop)
     }
 
     fn to_ref(&self) -> RecordRef<'_> {
@@ -214,13 +214,13 @@ impl<'t> TextRecords<'t> {
     {
         self.split_at(
             self.locators
-                .partition_point(|locator| locator.span.seq <= seq),
+                .partition_point(|locator| locator.interval.seq <= seq),
         )
     }
 
     /// The locators of the records, in their order.
     pub fn locators(&self) -> &'t [Locator]
-        ensures spots { map span_in result.now ≡ map span_of self.now }
+        ensures spots { map interval_in result.now ≡ map interval_of self.now }
         ensures some { All HasBase result.now }
     {
         self.locators

@@ -7,7 +7,7 @@ use Rattle.iv_lines.specs.CoveredPositions.{covers}
 use Rattle.iv_lines.specs.Ordered.{AreInOrder}
 use Rattle.iv_lines.specs.RecordValue.{RecordValue}
 use Rattle.iv_locators.specs.Cover.{is_covered}
-use Rattle.iv_locators.specs.Locators.{bare}
+use Rattle.iv_lines.specs.Intervals.{bare}
 use Rattle.iv_locators.specs.Inside.Locators.{record_at, records_at}
 use Rattle.iv_locators.specs.declared.locator.Locator.{Locator}
 use Rattle.iv_locators.proofs.BareLemmas.{count-bare}

@@ -14,9 +14,10 @@ use Rattle.std.proofs.lemmas.List.Sorted.{sorted_far, sum_by-IsPermutation}
 use Rattle.std.proofs.lemmas.List.Sums.{sum_by-cons, length-filter}
 use Rattle.iv_lines.specs.Ordered.{AreInOrder}
 use Rattle.iv_lines.specs.RecordValue.{RecordValue, record_cmp}
-use Rattle.iv_locators.specs.Inside.Locators.{HasBase, span_in, span_of}
+use Rattle.iv_locators.specs.Inside.Locators.{HasBase, interval_in}
+use Rattle.iv_lines.specs.Intervals.{interval_of}
 use Rattle.iv_locators.specs.declared.locator.Locator.{Locator}
-use Rattle.iv_locators.specs.declared.span.Span.{Span}
+use Rattle.iv_lines.specs.declared.interval.Interval.{Interval}
 use Rattle.iv_track.specs.Regions.{overlaps}
 use Rattle.iv_pair.specs.Hits.{hits_of}
 use Rattle.iv_pair.specs.Inside.Counts.{is_before, is_up_to, begins_before, ends_by, place_before, end_by, end_of, AreEndsOf, AreStartsOf, EndsAscend}
@@ -82,42 +83,42 @@ ended-more seq at s t records low same = count-implied (ends_by seq at) (ends_by
 
 -- the locators have the intervals of the records
 abbrev LieAs : List Locator → List RecordValue → Type 0
-LieAs locators records = map span_in locators ≡ map span_of records
+LieAs locators records = map interval_in locators ≡ map interval_of records
 
-head-same : (a b : Span) (xs ys : List Span) → a ∷ xs ≡ b ∷ ys → a ≡ b
+head-same : (a b : Interval) (xs ys : List Interval) → a ∷ xs ≡ b ∷ ys → a ≡ b
 head-same a b xs ys e = cc
 
-tail-same : (a b : Span) (xs ys : List Span) → a ∷ xs ≡ b ∷ ys → xs ≡ ys
+tail-same : (a b : Interval) (xs ys : List Interval) → a ∷ xs ≡ b ∷ ys → xs ≡ ys
 tail-same a b xs ys e = cc
 
-none-same : (b : Span) (ys : List Span) → [] ≡ b ∷ ys → ⊥
+none-same : (b : Interval) (ys : List Interval) → [] ≡ b ∷ ys → ⊥
 none-same b ys e = cc
 
-some-same : (a : Span) (xs : List Span) → a ∷ xs ≡ [] → ⊥
+some-same : (a : Interval) (xs : List Interval) → a ∷ xs ≡ [] → ⊥
 some-same a xs e = cc
 
 -- what holds of each locator holds of each record, if it depends only on the interval
-all-rows : (P : Span → Type 0) (locators : List Locator) (records : List RecordValue) → LieAs locators records → All (λ locator. P (span_in locator)) locators → All (λ r. P (span_of r)) records
-all-rows P [] [] e h = All-nil (λ r. P (span_of r))
+all-rows : (P : Interval → Type 0) (locators : List Locator) (records : List RecordValue) → LieAs locators records → All (λ locator. P (interval_in locator)) locators → All (λ r. P (interval_of r)) records
+all-rows P [] [] e h = All-nil (λ r. P (interval_of r))
 all-rows P [] (r ∷ records) e h = absurd (none-same _ _ e)
 all-rows P (locator ∷ locators) [] e h = absurd (some-same _ _ e)
 all-rows P (locator ∷ locators) (r ∷ records) e h =
-    All-cons (λ q. P (span_of q)) r records
-    (subst P (head-same _ _ _ _ e) (All-head (λ q. P (span_in q)) locator locators h))
-    (all-rows P locators records (tail-same _ _ _ _ e) (All-tail (λ q. P (span_in q)) locator locators h))
+    All-cons (λ q. P (interval_of q)) r records
+    (subst P (head-same _ _ _ _ e) (All-head (λ q. P (interval_in q)) locator locators h))
+    (all-rows P locators records (tail-same _ _ _ _ e) (All-tail (λ q. P (interval_in q)) locator locators h))
 
 -- and the other way round
-all-places : (P : Span → Type 0) (locators : List Locator) (records : List RecordValue) → LieAs locators records → All (λ r. P (span_of r)) records → All (λ locator. P (span_in locator)) locators
-all-places P [] records e h = All-nil (λ locator. P (span_in locator))
+all-places : (P : Interval → Type 0) (locators : List Locator) (records : List RecordValue) → LieAs locators records → All (λ r. P (interval_of r)) records → All (λ locator. P (interval_in locator)) locators
+all-places P [] records e h = All-nil (λ locator. P (interval_in locator))
 all-places P (locator ∷ locators) [] e h = absurd (some-same _ _ e)
 all-places P (locator ∷ locators) (r ∷ records) e h =
-    All-cons (λ q. P (span_in q)) locator locators
-    (subst P (sym (head-same _ _ _ _ e)) (All-head (λ q. P (span_of q)) r records h))
-    (all-places P locators records (tail-same _ _ _ _ e) (All-tail (λ q. P (span_of q)) r records h))
+    All-cons (λ q. P (interval_in q)) locator locators
+    (subst P (sym (head-same _ _ _ _ e)) (All-head (λ q. P (interval_of q)) r records h))
+    (all-places P locators records (tail-same _ _ _ _ e) (All-tail (λ q. P (interval_of q)) r records h))
 
 -- a test of the interval counts as many locators as records
-count-places : (p : Span → Bool) (locators : List Locator) (records : List RecordValue) → LieAs locators records → count_by (λ locator. p (span_in locator)) locators ≡ count_by (λ r. p (span_of r)) records
-count-places p locators records e = sym (count-map span_in p locators) ∙ ap (λ (l : List Span). count_by p l) e ∙ count-map span_of p records
+count-places : (p : Interval → Bool) (locators : List Locator) (records : List RecordValue) → LieAs locators records → count_by (λ locator. p (interval_in locator)) locators ≡ count_by (λ r. p (interval_of r)) records
+count-places p locators records e = sym (count-map interval_in p locators) ∙ ap (λ (l : List Interval). count_by p l) e ∙ count-map interval_of p records
 
 -- ---- where they begin
 
@@ -125,24 +126,24 @@ starts-ascend : (seq at : ℕ) (locators : List Locator) (records : List RecordV
 starts-ascend seq at [] records e order = λ i j d le lt h. absurd (omega arith)
 starts-ascend seq at (locator ∷ locators) [] e order = absurd (some-same _ _ e)
 starts-ascend seq at (locator ∷ locators) (r ∷ records) e order =
-    let same : span_in locator ≡ span_of r = head-same _ _ _ _ e in
-    let on : locator.span.seq ≡ r.seq = ap (λ (s : Span). s.seq) same in
-    let from : locator.span.start ≡ r.start = ap (λ (s : Span). s.start) same in
+    let same : interval_in locator ≡ interval_of r = head-same _ _ _ _ e in
+    let on : locator.interval.seq ≡ r.seq = ap (λ (s : Interval). s.seq) same in
+    let from : locator.interval.start ≡ r.start = ap (λ (s : Interval). s.start) same in
     let later : All (λ (q : RecordValue). (r.seq ≤ q.seq) × (r.seq ≡ q.seq → r.start ≤ q.start)) records =
     All-weaker (λ (q : RecordValue). is_le (record_cmp r q) ≡ true) (λ (q : RecordValue). (r.seq ≤ q.seq) × (r.seq ≡ q.seq → r.start ≤ q.start)) (λ q k. precedes r q k) records
     (All-from_recursion (λ (q : RecordValue). is_le (record_cmp r q) ≡ true) records order.0) in
-    let onward : All (λ (q : Locator). (r.seq ≤ q.span.seq) × (r.seq ≡ q.span.seq → r.start ≤ q.span.start)) locators
-    = all-places (λ (s : Span). (r.seq ≤ s.seq) × (r.seq ≡ s.seq → r.start ≤ s.start)) locators records (tail-same _ _ _ _ e) later in
+    let onward : All (λ (q : Locator). (r.seq ≤ q.interval.seq) × (r.seq ≡ q.interval.seq → r.start ≤ q.interval.start)) locators
+    = all-places (λ (s : Interval). (r.seq ≤ s.seq) × (r.seq ≡ s.seq → r.start ≤ s.start)) locators records (tail-same _ _ _ _ e) later in
     split_up-cons (place_before seq at) locator locators
-    (All-weaker (λ (q : Locator). (r.seq ≤ q.span.seq) × (r.seq ≡ q.span.seq → r.start ≤ q.span.start)) (λ (q : Locator). place_before seq at q ≡ true → place_before seq at locator ≡ true)
-    (λ q k h. rw (on, from) (before-earlier seq at q.span.seq q.span.start r.seq r.start k h)) locators onward)
+    (All-weaker (λ (q : Locator). (r.seq ≤ q.interval.seq) × (r.seq ≡ q.interval.seq → r.start ≤ q.interval.start)) (λ (q : Locator). place_before seq at q ≡ true → place_before seq at locator ≡ true)
+    (λ q k h. rw (on, from) (before-earlier seq at q.interval.seq q.interval.start r.seq r.start k h)) locators onward)
     (starts-ascend seq at locators records (tail-same _ _ _ _ e) order.1)
 
-pub AreStartsOf-rows : (locators : List Locator) (records : List RecordValue) → map span_in locators ≡ map span_of records → All HasBase locators → AreInOrder records → AreStartsOf locators records
+pub AreStartsOf-rows : (locators : List Locator) (records : List RecordValue) → map interval_in locators ≡ map interval_of records → All HasBase locators → AreInOrder records → AreStartsOf locators records
 AreStartsOf-rows locators records e some order = record {
   ascend = λ seq at. starts-ascend seq at locators records e order;
   counts = λ seq at. count-places (λ s. is_before seq at s.seq s.start) locators records e;
-  some = all-rows (λ (s : Span). s.start < s.stop) locators records e some;
+  some = all-rows (λ (s : Interval). s.start < s.stop) locators records e some;
 }
 
 -- ---- where they end
@@ -172,7 +173,7 @@ EndsAscend-sorted ends up = λ seq at i j d le lt e.
     up_to-earlier seq at b.seq b.stop a.seq a.stop
     (end-onward a b (sorted_far (λ x y. is_lt (end_cmp x y)) (ranks_by ends_total (λ (x : End). x)) ends up i j d le lt)) e
 
-pub AreEndsOf-moved : (ends : List End) (locators : List Locator) (records : List RecordValue) → map span_in locators ≡ map span_of records
+pub AreEndsOf-moved : (ends : List End) (locators : List Locator) (records : List RecordValue) → map interval_in locators ≡ map interval_of records
     → IsPermutation (map end_of locators) ends → EndsAscend ends → AreEndsOf ends records
 AreEndsOf-moved ends locators records e moved up = record {
   ascend = up;
@@ -204,7 +205,7 @@ ended-later a records second ends seq start n order are on from is =
 
 -- no fewer locators begin before a later position
 pub places-more : (seq at later : ℕ) (locators : List Locator) → at ≤ later → count_by (place_before seq at) locators ≤ count_by (place_before seq later) locators
-places-more seq at later locators le = count-implied (place_before seq at) (place_before seq later) locators (λ locator e. before-later seq at seq later locator.span.seq locator.span.start (omega arith, λ _. le) e)
+places-more seq at later locators le = count-implied (place_before seq at) (place_before seq later) locators (λ locator e. before-later seq at seq later locator.interval.seq locator.interval.start (omega arith, λ _. le) e)
 
 -- one that may go past all of them counts them
 pub passes-all : (n count most : ℕ) → n ≤ count → (n < most → n ≡ count) → count ≤ most → n ≡ count

@@ -105,8 +105,8 @@ pub(crate) fn ends_of<A: Allocator>(
     let mut ends = Vec::with_capacity(alloc, locators.len())?;
     for locator in locators {
         ends.push(End {
-            seq: locator.span.seq,
-            stop: locator.span.stop,
+            seq: locator.interval.seq,
+            stop: locator.interval.stop,
         })?;
     }
     ends.sort_unstable();
@@ -181,7 +181,8 @@ fn pass_starts(locators: &[Locator], from: usize, until: usize, seq: u32, at: u6
 
 /// Whether a locator begins before a position of a sequence.
 fn begins_before(locator: &Locator, seq: u32, at: u64) -> bool
-    ensures { result ≡ is_before seq at locator.now.span.seq locator.now.span.start }
+    ensures { result ≡ is_before seq at locator.now.interval.seq locator.now.interval.start }
 {
-    locator.span.seq < seq || locator.span.seq == seq && u64::from(locator.span.start) < at
+    locator.interval.seq < seq
+        || locator.interval.seq == seq && u64::from(locator.interval.start) < at
 }

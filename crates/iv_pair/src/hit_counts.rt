@@ -1,6 +1,6 @@
 //! How many hits an interval has, without a look at them.
 ghost use Rattle.std.specs.Prelude.{◌≡◌, ◌<◌, IfOk, length, map};
-ghost use Rattle.iv_locators.specs.Locators.{bare};
+ghost use Rattle.iv_lines.specs.Intervals.{bare};
 ghost use Rattle.iv_track.specs.Regions.{hits};
 
 use crate::count_sweep::{End, count_ends, count_starts, ends_of};

@@ -1,12 +1,13 @@
 //! A copy of the second file that has its intervals alone.
 ghost use Rattle.std.specs.Prelude.{◌≡◌, IfOk, map};
-ghost use Rattle.iv_locators.specs.Locators.{bare};
+ghost use Rattle.iv_lines.specs.Intervals.{bare};
 ghost use Rattle.iv_locators.specs.Inside.Locators.{HasBase};
 ghost use Rattle.iv_pair.specs.Inside.Intervals.{locator_of};
 
 use crate::second::Second;
 use iv_ledger::Meter;
-use iv_locators::{BedText, Locator, Span};
+use iv_lines::Interval;
+use iv_locators::{BedText, Locator};
 use iv_track::TrackRecord;
 use std::alloc::{AllocError, Allocator};
 
@@ -32,7 +33,7 @@ fn locator_of<A: Allocator + Copy>(feature: &TrackRecord<'_, A>) -> Locator
 {
     feature.lemma_of_interval();
     Locator {
-        span: Span {
+        interval: Interval {
             seq: feature.seq(),
             start: feature.start() as u32,
             stop: feature.stop() as u32,

@@ -1,7 +1,7 @@
 //! The whole program: what the arguments ask for, the run of one subcommand, and how each run ends.
 ghost use Rattle.std.specs.Prelude.{◌≡◌, ◌≢◌, ◌⊎◌, ℕ, List, [], Some, None, IfOk, IfErr, MatchResult, OnOk, OnErr, map, true, false};
 ghost use Rattle.iv_bytes.specs.Sinks.{FailsIn, Takes, waiting};
-ghost use Rattle.iv_locators.specs.Locators.{bare};
+ghost use Rattle.iv_lines.specs.Intervals.{bare};
 ghost use Rattle.iv_args.specs.Notices.{notice_of};
 ghost use Rattle.iv_args.specs.Texts.{notice_text};
 ghost use Rattle.iv_args.specs.Arguments.{RunPlan, IsPlan, is_session};
@@ -25,7 +25,7 @@ use crate::files::{InputFiles, SlotFault, read_files};
 use crate::script_run::run_session;
 use iv_args::{Notice, Plan};
 use iv_bytes::{Flush, Sink, Source, put_all};
-use iv_locators::Span;
+use iv_lines::Interval;
 use iv_run::{CliFault, ExitReason, HeldBed, HeldRecords, IntervalsView, RunFiles, shot_of_held};
 use iv_session::SeesRefusals;
 use std::alloc::Allocator;
@@ -81,7 +81,7 @@ fn ending_of(done: Result<(), CliFault>) -> ExitReason
 /// Prints a view whose rows depend on nothing of a record except its interval, of the files that were read.
 fn shot_of_intervals<A: Allocator + Copy, W: Sink>(
     view: IntervalsView,
-    files: RunFiles<HeldRecords<Span, A>, A>,
+    files: RunFiles<HeldRecords<Interval, A>, A>,
     output: &mut W,
 ) -> ExitReason
     ensures { (plan : RunPlan) (texts : Texts) → AskForIntervals plan.view view → HasTexts (IsParsed bare) AreAllWanted plan texts files

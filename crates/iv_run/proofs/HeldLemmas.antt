@@ -17,7 +17,7 @@ use Rattle.iv_lines.specs.declared.fault.LoadCause.TheVariants as cause
 use Rattle.iv_lines.specs.declared.fault.LoadFault.{LoadFault}
 use Rattle.iv_text.proofs.BedReadingLemmas.{turned, whole-file}
 use Rattle.iv_locators.specs.Inside.Locators.{HasBase, locator_at, records_at, row_of}
-use Rattle.iv_locators.specs.Locators.{bare}
+use Rattle.iv_lines.specs.Intervals.{bare}
 use Rattle.iv_locators.specs.declared.locator.Locator.{Locator}
 use Rattle.iv_locators.proofs.ReadingLemmas.{locator-row}
 use Rattle.iv_run.specs.Inside.Held.{HoldsFront, IsThreeWide}

@@ -3,7 +3,7 @@ ghost use Rattle.std.specs.Prelude.{◌≡◌, ◌<◌, ◌+◌, ◌^◌, ℕ, L
 ghost use Rattle.std.proofs.Common.{arith};
 ghost use Rattle.iv_lines.specs.Genome.{Sequences};
 ghost use Rattle.iv_lines.specs.Widths.{IsWidth};
-ghost use Rattle.iv_locators.specs.Locators.{bare};
+ghost use Rattle.iv_lines.specs.Intervals.{bare};
 ghost use Rattle.iv_run.specs.declared.fault.FileFault.TheVariants as fault;
 ghost use Rattle.iv_run.specs.Inside.Held.{FitsOn, HoldsFront, IsEnough, IsHeld, IsThreeWide};
 ghost use Rattle.iv_run.specs.Pieces.{SaysSoFar};

@@ -8,7 +8,7 @@ ghost use Rattle.iv_lines.specs.Genome.{Sequences};
 ghost use Rattle.iv_lines.specs.Widths.{IsWidth};
 ghost use Rattle.iv_fasta.specs.FastaReading.{Wanted};
 ghost use Rattle.iv_locators.specs.Inside.Locators.{row_of};
-ghost use Rattle.iv_locators.specs.Inside.Spans.{span_records};
+ghost use Rattle.iv_lines.specs.Inside.Intervals.{interval_records};
 ghost use Rattle.iv_run.specs.Files.{ReadsWhole, StopsReading};
 ghost use Rattle.iv_run.specs.Inside.Files.{EndsReading, HadMemory, IsPieceFault, IsTooLong};
 ghost use Rattle.iv_run.specs.Pieces.{SaysSoFar};
@@ -18,8 +18,8 @@ ghost use Rattle.iv_run.specs.declared.fault.FileFault.TheVariants as fault;
 
 use crate::fault::FileFault;
 use iv_bytes::Source;
-use iv_lines::{Genome, LoadFault, Record};
-use iv_locators::{Locator, Span};
+use iv_lines::{Genome, Interval, LoadFault, Record};
+use iv_locators::Locator;
 use iv_text::{BedBatches, BedReader, FromRecord};
 use std::alloc::{AllocError, Allocator, Global};
 use std::marker::Model;
@@ -200,14 +200,14 @@ impl<A: Allocator + Copy> ParsedFile<Record<A>, A> {
     }
 }
 
-impl<A: Allocator + Copy> ParsedFile<Span, A> {
+impl<A: Allocator + Copy> ParsedFile<Interval, A> {
     /// The intervals of the file's records.
     ///
     /// # Errors
     ///
     /// An allocation failed.
-    pub(crate) fn into_spans(self) -> Result<Vec<Span, A>, AllocError>
-        ensures { IfOk result (λ spans. span_records spans.items ≡ self.records) }
+    pub(crate) fn into_intervals(self) -> Result<Vec<Interval, A>, AllocError>
+        ensures { IfOk result (λ intervals. interval_records intervals.items ≡ self.records) }
     {
         self.held.into_vec()
     }

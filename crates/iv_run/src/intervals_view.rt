@@ -2,8 +2,8 @@
 ghost use Rattle.std.specs.Prelude.{◌≡◌, ℕ, All, List, Option, Err, None, IfSome};
 ghost use Rattle.iv_lines.specs.Ordered.{AreInOrder, ordered};
 ghost use Rattle.iv_lines.specs.Read.{IsOnGenome};
-ghost use Rattle.iv_locators.specs.Locators.{bare};
-ghost use Rattle.iv_locators.specs.Inside.Spans.{span_records};
+ghost use Rattle.iv_lines.specs.Intervals.{bare};
+ghost use Rattle.iv_lines.specs.Inside.Intervals.{interval_records};
 ghost use Rattle.iv_args.specs.Arguments.{RunPlan};
 ghost use Rattle.iv_run.specs.IntervalsViews.{AskForIntervals, IsViewOf};
 ghost use Rattle.iv_run.specs.Inside.IntervalsViews.{AskForColumns, NeedsColumns};
@@ -20,8 +20,8 @@ use iv_args::Plan;
 use iv_blocks::{put_complement, put_merge};
 use iv_bytes::{Buffered, Sink};
 use iv_depth::{DepthOutput, DepthSweep};
-use iv_lines::Genome;
-use iv_locators::{Span, sort_spans};
+use iv_lines::{Genome, Interval};
+use iv_locators::sort_intervals;
 use iv_view::{KeptView, View};
 use std::alloc::Allocator;
 
@@ -76,16 +76,16 @@ impl IntervalsView {
     fn print<A: Allocator + Copy, S: Sink>(
         self,
         alloc: A,
-        spans: &[Span],
+        intervals: &[Interval],
         genome: &Genome<A>,
         sink: &mut S,
     ) -> Result<(), CliFault>
-        requires order { AreInOrder (span_records spans.now) }
-        requires on_genome { All (IsOnGenome genome.now) (span_records spans.now) }
-        ensures { (view : KeptView) → IsViewOf self view → Prints (S.state sink.old) (S.state sink.new) result (kept_text None view genome.now (span_records spans.now)) }
+        requires order { AreInOrder (interval_records intervals.now) }
+        requires on_genome { All (IsOnGenome genome.now) (interval_records intervals.now) }
+        ensures { (view : KeptView) → IsViewOf self view → Prints (S.state sink.old) (S.state sink.new) result (kept_text None view genome.now (interval_records intervals.now)) }
     {
         let mut buffer = Buffered::new(sink);
-        self.put(alloc, spans, genome, &mut buffer)?;
+        self.put(alloc, intervals, genome, &mut buffer)?;
         buffer.finish()?;
         Ok(())
     }
@@ -94,22 +94,22 @@ impl IntervalsView {
     fn put<A: Allocator + Copy, S: Sink>(
         self,
         alloc: A,
-        spans: &[Span],
+        intervals: &[Interval],
         genome: &Genome<A>,
         sink: &mut S,
     ) -> Result<(), CliFault>
-        requires order { AreInOrder (span_records spans.now) }
-        requires on_genome { All (IsOnGenome genome.now) (span_records spans.now) }
-        ensures text { (view : KeptView) → IsViewOf self view → Prints (S.state sink.old) (S.state sink.new) result (kept_text None view genome.now (span_records spans.now)) }
+        requires order { AreInOrder (interval_records intervals.now) }
+        requires on_genome { All (IsOnGenome genome.now) (interval_records intervals.now) }
+        ensures text { (view : KeptView) → IsViewOf self view → Prints (S.state sink.old) (S.state sink.new) result (kept_text None view genome.now (interval_records intervals.now)) }
         ensures alone { result ≡ Err CliFault.Memory → sink.new ≡ sink.old }
     {
         match self {
-            IntervalsView::Merge(distance) => Ok(put_merge(distance, spans, genome, sink)?),
+            IntervalsView::Merge(distance) => Ok(put_merge(distance, intervals, genome, sink)?),
             IntervalsView::Complement { limited } => Ok(put_complement(
-                limited, spans, genome, sink,
+                limited, intervals, genome, sink,
             )?),
             IntervalsView::Genomecov(shown) => {
-                Ok(DepthSweep::new(alloc, spans)?.print(shown, genome, sink)?)
+                Ok(DepthSweep::new(alloc, intervals)?.print(shown, genome, sink)?)
             }
         }
     }
@@ -118,7 +118,7 @@ impl IntervalsView {
 /// Sorts the intervals of the first file, and prints a view of them.
 fn print_files<A: Allocator + Copy, S: Sink>(
     view: IntervalsView,
-    files: SoundFiles<Span, A>,
+    files: SoundFiles<Interval, A>,
     sink: &mut S,
 ) -> Result<(), CliFault>
     ensures { (asked : KeptView) → IsViewOf view asked → Prints (S.state sink.old) (S.state sink.new) result (kept_text None asked files.genome (ordered files.first.records)) }
@@ -129,12 +129,12 @@ fn print_files<A: Allocator + Copy, S: Sink>(
         first,
         ..
     } = files;
-    let mut spans = first.into_spans()?;
-    sort_spans(&mut spans);
-    view.print(alloc, spans.as_slice(), &genome, sink)
+    let mut intervals = first.into_intervals()?;
+    sort_intervals(&mut intervals);
+    view.print(alloc, intervals.as_slice(), &genome, sink)
 }
 
-impl<A: Allocator + Copy> RunFiles<HeldRecords<Span, A>, A> {
+impl<A: Allocator + Copy> RunFiles<HeldRecords<Interval, A>, A> {
     /// Prints a view of the first file: all of its text, and nothing else.
     ///
     /// # Errors

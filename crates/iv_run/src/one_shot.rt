@@ -31,8 +31,8 @@ use iv_args::{Plan, Slot};
 use iv_blocks::{MergeSweep, put_cluster};
 use iv_bytes::{Buffered, Sink, WriteFault};
 use iv_fasta::{Fasta, FastaOutput, put_fasta};
-use iv_lines::{Fault, Genome, put_line};
-use iv_locators::{BedText, Locator, Span, TextRecords};
+use iv_lines::{Fault, Genome, Interval, put_line};
+use iv_locators::{BedText, Locator, TextRecords};
 use iv_pair::{CountSweep, IntersectOutput, PairOutput, PairSweep, needs_cover_alone};
 use iv_view::{Available, KeptView, View, ViewFault, WrittenView};
 use std::alloc::{AllocError, Allocator, Global};
@@ -402,7 +402,7 @@ pub fn shot<A: Allocator + Copy, S: Sink>(
         (shown plan.now inputs.now.sizes.now inputs.now.first.now (option_copied inputs.now.other) (option_map (λ text. text.items) bases) limit) }
 {
     if let Some(view) = IntervalsView::of_plan(plan) {
-        let files: RunFiles<HeldRecords<Span, A>, A> = RunFiles::of_inputs(
+        let files: RunFiles<HeldRecords<Interval, A>, A> = RunFiles::of_inputs(
             alloc, plan, inputs, bases, limit,
         );
         return files.print(view, sink);

@@ -25,7 +25,7 @@ use Rattle.iv_lines.specs.Read.{bad_text}
 use Rattle.iv_lines.specs.Inside.Read.{is_line_byte}
 use Rattle.iv_lines.specs.RecordValue.{IsRecord, strand_of}
 use Rattle.iv_text.specs.FastLine.{IsFastLine}
-use Rattle.iv_text.specs.declared.record_reader.FastLine.{FastLine}
+use Rattle.iv_lines.specs.declared.interval.Interval.{Interval}
 use Rattle.iv_lines.specs.declared.record_ref.Strand.{Strand}
 
 -- ---- bytes that are no end of a line
@@ -247,10 +247,10 @@ six-columns w text name after_name score after_score strand rest is one two thre
 }
 
 -- the columns of such cells are those of a record
-pub cells-record : (w rank start stop : ℕ) (text name score strand rest : List ℕ) (s : Option Strand) → BeginsWithCells w text name score strand rest → s ≡ strand_of strand → start < stop
-    → IsRecord (record_of rank start stop name score s w)
-cells-record w rank start stop text name score strand rest s after is some =
-    row-of w ([] ∷ [] ∷ [] ∷ after.cells) [] [] [] name score strand rank start stop s
+pub cells-record : (w : ℕ) (at : Interval) (text name score strand rest : List ℕ) (s : Option Strand) → BeginsWithCells w text name score strand rest → s ≡ strand_of strand → at.start < at.stop
+    → IsRecord (record_of at name score s w)
+cells-record w at text name score strand rest s after is some =
+    row-of w ([] ∷ [] ∷ [] ∷ after.cells) [] [] [] name score strand at s
     (record { count = omega (arith, after.count); seq_is = refl; start_is = refl; stop_is = refl; name_is = after.name_is; score_is = after.score_is; strand_is = after.strand_is }) is some
 
 -- a text of at least one byte
@@ -262,23 +262,23 @@ first-alone text some = grind (arith, common_steps)
 
 -- ---- a line of a record
 
-pub short-line : (g : Sequences) (w : ℕ) (text next : List ℕ) (l : FastLine) (rest name score strand end : List ℕ) → BeginsWithInterval g text l.seq l.start l.stop rest → BeginsWithCells w rest name score strand end
-    → (end ≡ 10 ∷ next) ⊎ (end ≡ 13 ∷ 10 ∷ next) → l.size ≡ length text - length next
-    → (short : IsFastLine g w text l) × (short.feature ≡ record_of l.seq l.start l.stop name score (strand_of strand) w)
-short-line g w text next l rest name score strand end place after feed size_is =
+pub short-line : (g : Sequences) (w : ℕ) (text next : List ℕ) (at : Interval) (size : ℕ) (rest name score strand end : List ℕ) → BeginsWithInterval g text at rest → BeginsWithCells w rest name score strand end
+    → (end ≡ 10 ∷ next) ⊎ (end ≡ 13 ∷ 10 ∷ next) → size ≡ length text - length next
+    → (short : IsFastLine g w text at size) × (short.feature ≡ record_of at name score (strand_of strand) w)
+short-line g w text next at size rest name score strand end place after feed size_is =
     let cells : List (List ℕ) = after.cells in
     let tail : List ℕ = place.stops ++ laid cells in
     let line : List ℕ = place_line place.name place.starts tail in
-    let digits : all_ascii_digits place.stops ≡ true = number-digits place.stops l.stop place.stop_is in
+    let digits : all_ascii_digits place.stops ≡ true = number-digits place.stops at.stop place.stop_is in
     let feedless_tail : HasNoFeed tail = All-append (λ b. b ≢ 10) place.stops (laid cells) (digits-without 10 place.stops refl digits) (laid-without 10 cells refl (λ e. omega (arith, e)) after.plain) in
-    let plain : HasNoFeed line = feedless place.name place.starts tail place.named.one_line (digits-without 10 place.starts refl (number-digits place.starts l.start place.start_is)) feedless_tail in
+    let plain : HasNoFeed line = feedless place.name place.starts tail place.named.one_line (digits-without 10 place.starts refl (number-digits place.starts at.start place.start_is)) feedless_tail in
     let kept : strip_last 13 line ≡ line = stripped place.name place.starts tail (All-append (λ b. b ≢ 13) place.stops (laid cells) (digits-without 13 place.stops refl digits) (laid-without 13 cells refl (λ e. omega (arith, e)) after.plain)) in
     let ends = ended line end next plain kept feed in
     let text_is : text ≡ line ++ end =
     place.text_is ∙ ap (λ t. place_line place.name place.starts (place.stops ++ t)) after.text_is
     ∙ ap (place_line place.name place.starts) (sym (append_assoc place.stops (laid cells) end)) ∙ place-parts place.name place.starts tail end in
-    let sized = append-size ends.0 next l.size (size_is ∙ ap (λ (t : List ℕ). length t - length next) (text_is ∙ ends.2)) in
-    let alone : BeginsWithInterval g line l.seq l.start l.stop (laid cells) =
+    let sized = append-size ends.0 next size (size_is ∙ ap (λ (t : List ℕ). length t - length next) (text_is ∙ ends.2)) in
+    let alone : BeginsWithInterval g line at (laid cells) =
     record {
       name = place.name;
       starts = place.starts;
@@ -291,20 +291,18 @@ short-line g w text next l rest name score strand end place after feed size_is =
       some = place.some;
       within = place.within;
     } in
-    let short : IsFastLine g w text l = record {
+    let short : IsFastLine g w text at size = record {
       line = line;
-      feature = record_of l.seq l.start l.stop name score (strand_of strand) w;
-      lines_are = ap lines text_is ∙ ends.3 ∙ ap (λ (t : List ℕ). line ∷ lines t) (sym (ap (drop l.size) (text_is ∙ ends.2) ∙ sized.1));
+      feature = record_of at name score (strand_of strand) w;
+      lines_are = ap lines text_is ∙ ends.3 ∙ ap (λ (t : List ℕ). line ∷ lines t) (sym (ap (drop size) (text_is ∙ ends.2) ∙ sized.1));
       some = omega (arith, ends.1, sized.0);
       within = omega arith;
       unread = unread-after place.name (place.starts ++ 9 ∷ tail) place.named.unread;
-      reads = line-read g w line (laid cells) name score strand cells l.seq l.start l.stop (strand_of strand) alone (laid-after cells after.plain)
+      reads = line-read g w line (laid cells) name score strand cells at (strand_of strand) alone (laid-after cells after.plain)
           (λ a b c. record { count = omega (arith, after.count); seq_is = refl; start_is = refl; stop_is = refl; name_is = after.name_is; score_is = after.score_is; strand_is = after.strand_is })
           refl after.sound;
-      seq_is = refl;
-      start_is = refl;
-      stop_is = refl;
-      fits = record { width_is = refl; is_placed = record { some = place.some; within = (ranked g l.seq place.len place.named.length_is, subst (λ n. l.stop ≤ n) (sym (ap (λ (o : Option ℕ). unwrap_or o 0) place.named.length_is)) place.within) }; beside = after.sound };
+      interval_is = refl;
+      fits = record { width_is = refl; is_placed = record { some = place.some; within = (ranked g at.seq place.len place.named.length_is, subst (λ n. at.stop ≤ n) (sym (ap (λ (o : Option ℕ). unwrap_or o 0) place.named.length_is)) place.within) }; beside = after.sound };
     } in
     (short, refl)
   where

@@ -6,6 +6,7 @@ use Rattle.iv_lines.specs.Fields.{columns}
 use Rattle.iv_lines.specs.Number.{number}
 use Rattle.iv_lines.specs.Inside.Fields.{HasNoTab, ArePassed}
 use Rattle.iv_text.specs.Inside.OnePass.{BeginsWithName, BeginsWithNumber, BeginsWithInterval}
+use Rattle.iv_lines.specs.declared.interval.Interval.{Interval}
 use Rattle.iv_lines.specs.declared.record_ref.Strand.{Strand}
 use Rattle.std.specs.Borrow.{Bor}
 use Rattle.std.specs.Prelude.{MatchOption, IfSome, IsSome}
@@ -48,7 +49,7 @@ place-columns line name d1 d2 rest others whole p0 p1 p2 after =
 -- columns that were cut from the front of a text
 pub place-begins : (g : Sequences) (text name r1 r2 r3 rest : List ℕ) (rank from to len : ℕ)
     → BeginsWithName g text name rank len r1 → BeginsWithNumber r1 from r2 → r2 ≡ 9 ∷ r3 → BeginsWithNumber r3 to rest → from < to → to ≤ len
-    → BeginsWithInterval g text rank from to rest
+    → BeginsWithInterval g text (record { seq = rank; start = from; stop = to }) rest
 place-begins g text name r1 r2 r3 rest rank from to len named starts e2 stops some within = record {
   name = name;
   starts = starts.0;
@@ -79,25 +80,25 @@ none-found : (t : Fault → Bool) → t fault.Columns ≡ false → t fault.Unkn
     → t fault.Name ≡ false → t fault.Score ≡ false → t fault.Strand ≡ false → find t faults ≡ None
 none-found t h1 h2 h3 h4 h5 h6 h7 h8 h9 = simp (h1, h2, h3, h4, h5, h6, h7, h8, h9)
 
--- the record of these columns
-abbrev pub record_of : ℕ → ℕ → ℕ → List ℕ → List ℕ → Option Strand → ℕ → RecordValue
-record_of rank from to name score strand w = record { seq = rank; start = from; stop = to; name = name; score = score; strand = strand; width = w }
+-- the record of this interval and these columns
+abbrev pub record_of : Interval → List ℕ → List ℕ → Option Strand → ℕ → RecordValue
+record_of at name score strand w = record { seq = at.seq; start = at.start; stop = at.stop; name = name; score = score; strand = strand; width = w }
 
-sound-line : (g : Sequences) (w : ℕ) (line seq start stop name score sixth : List ℕ) (rank from to len : ℕ) (strand : Option Strand)
-    → AreColumns w (columns line) seq start stop name score sixth → name_index g seq ≡ Some rank → length_at g rank ≡ Some len → number start ≡ Some from → number stop ≡ Some to
-    → strand ≡ strand_of sixth → from < to → to ≤ len → AreSoundColumns w name score strand
-    → read g w line ≡ Ok (record_of rank from to name score strand w)
-sound-line g w line seq start stop name score sixth rank from to len strand cols rank_is length_is start_is stop_is strand_is some within sound =
+sound-line : (g : Sequences) (w : ℕ) (line seq start stop name score sixth : List ℕ) (at : Interval) (len : ℕ) (strand : Option Strand)
+    → AreColumns w (columns line) seq start stop name score sixth → name_index g seq ≡ Some at.seq → length_at g at.seq ≡ Some len → number start ≡ Some at.start → number stop ≡ Some at.stop
+    → strand ≡ strand_of sixth → at.start < at.stop → at.stop ≤ len → AreSoundColumns w name score strand
+    → read g w line ≡ Ok (record_of at name score strand w)
+sound-line g w line seq start stop name score sixth at len strand cols rank_is length_is start_is stop_is strand_is some within sound =
     let cs = columns line in
     let r : RecordValue = feature g w cs in
-    let ranked : name_index g (column cs 0) ≡ Some rank = ap (name_index g) cols.seq_is ∙ rank_is in
-    let starts : number (column cs 1) ≡ Some from = ap number cols.start_is ∙ start_is in
-    let stops : number (column cs 2) ≡ Some to = ap number cols.stop_is ∙ stop_is in
+    let ranked : name_index g (column cs 0) ≡ Some at.seq = ap (name_index g) cols.seq_is ∙ rank_is in
+    let starts : number (column cs 1) ≡ Some at.start = ap number cols.start_is ∙ start_is in
+    let stops : number (column cs 2) ≡ Some at.stop = ap number cols.stop_is ∙ stop_is in
     let stranded : strand_of (column cs 5) ≡ strand = ap strand_of cols.strand_is ∙ sym strand_is in
-    let at_rank : r.seq ≡ rank = ap (λ (o : Option ℕ). unwrap_or o 0) ranked in
-    let at_start : number_in (column cs 1) ≡ from = ap (λ (o : Option ℕ). unwrap_or o 0) starts in
-    let at_stop : number_in (column cs 2) ≡ to = ap (λ (o : Option ℕ). unwrap_or o 0) stops in
-    let known : unwrap_or (length_at g rank) 0 ≡ len = ap (λ (o : Option ℕ). unwrap_or o 0) length_is in
+    let at_rank : r.seq ≡ at.seq = ap (λ (o : Option ℕ). unwrap_or o 0) ranked in
+    let at_start : number_in (column cs 1) ≡ at.start = ap (λ (o : Option ℕ). unwrap_or o 0) starts in
+    let at_stop : number_in (column cs 2) ≡ at.stop = ap (λ (o : Option ℕ). unwrap_or o 0) stops in
+    let known : unwrap_or (length_at g at.seq) 0 ≡ len = ap (λ (o : Option ℕ). unwrap_or o 0) length_is in
     let at_length : unwrap_or (length_at g r.seq) 0 ≡ len = ap (λ k. unwrap_or (length_at g k) 0) at_rank ∙ known in
     let none : find (has_fault g w cs) faults ≡ None =
     none-found (has_fault g w cs)
@@ -108,14 +109,14 @@ sound-line g w line seq start stop name score sixth rank from to len strand cols
     (guarded 4 w (bad_text (column cs 3)) (λ h. ap bad_text cols.name_is ∙ sound.name_good h))
     (guarded 5 w (bad_text (column cs 4)) (λ h. ap bad_text cols.score_is ∙ sound.score_good h))
     (guarded 6 w (is_none (strand_of (column cs 5))) (λ h. ap is_none stranded ∙ is_there strand (sound.strand_good h))) in
-    let same : r ≡ record_of rank from to name score strand w =
+    let same : r ≡ record_of at name score strand w =
     λ i. record { seq = at_rank i; start = at_start i; stop = at_stop i; name = cols.name_is i; score = cols.score_is i; strand = stranded i; width = w } in
     ap (λ o. unless_fault o (Ok r)) none ∙ ap Ok same
 
 -- the columns beyond the width are empty
-pub row-of : (w : ℕ) (cs : List (List ℕ)) (seq start stop name score sixth : List ℕ) (rank from to : ℕ) (strand : Option Strand)
-    → AreColumns w cs seq start stop name score sixth → strand ≡ strand_of sixth → from < to → IsRecord (record_of rank from to name score strand w)
-row-of w cs seq start stop name score sixth rank from to strand cols strand_is some = record {
+pub row-of : (w : ℕ) (cs : List (List ℕ)) (seq start stop name score sixth : List ℕ) (at : Interval) (strand : Option Strand)
+    → AreColumns w cs seq start stop name score sixth → strand ≡ strand_of sixth → at.start < at.stop → IsRecord (record_of at name score strand w)
+row-of w cs seq start stop name score sixth at strand cols strand_is some = record {
   some = some;
   no_name = λ h. sym cols.name_is ∙ get_or_past cs 3 [] (omega (arith, cols.count));
   no_score = λ h. sym cols.score_is ∙ get_or_past cs 4 [] (omega (arith, cols.count));
@@ -123,16 +124,16 @@ row-of w cs seq start stop name score sixth rank from to strand cols strand_is s
 }
 
 -- a line that was cut from its front
-pub line-read : (g : Sequences) (w : ℕ) (line rest name score sixth : List ℕ) (others : List (List ℕ)) (rank from to : ℕ) (strand : Option Strand)
-    → BeginsWithInterval g line rank from to rest → ArePassed rest others → ((a b c : List ℕ) → AreColumns w (a ∷ b ∷ c ∷ others) a b c name score sixth)
+pub line-read : (g : Sequences) (w : ℕ) (line rest name score sixth : List ℕ) (others : List (List ℕ)) (at : Interval) (strand : Option Strand)
+    → BeginsWithInterval g line at rest → ArePassed rest others → ((a b c : List ℕ) → AreColumns w (a ∷ b ∷ c ∷ others) a b c name score sixth)
     → strand ≡ strand_of sixth → AreSoundColumns w name score strand
-    → read g w line ≡ Ok (record_of rank from to name score strand w)
-line-read g w line rest name score sixth others rank from to strand place after are strand_is sound =
+    → read g w line ≡ Ok (record_of at name score strand w)
+line-read g w line rest name score sixth others at strand place after are strand_is sound =
     let cols = place-columns line place.name place.starts place.stops rest others place.text_is
-    place.named.plain (number-plain place.starts from place.start_is) (number-plain place.stops to place.stop_is) after in
+    place.named.plain (number-plain place.starts at.start place.start_is) (number-plain place.stops at.stop place.stop_is) after in
     let all : AreColumns w (columns line) place.name place.starts place.stops name score sixth =
     subst (λ (cs : List (List ℕ)). AreColumns w cs place.name place.starts place.stops name score sixth) (sym cols) (are place.name place.starts place.stops) in
-    sound-line g w line place.name place.starts place.stops name score sixth rank from to place.len strand all place.named.rank_is place.named.length_is place.start_is place.stop_is
+    sound-line g w line place.name place.starts place.stops name score sixth at place.len strand all place.named.rank_is place.named.length_is place.start_is place.stop_is
     strand_is place.some place.within sound
 
 -- ---- a line that was read names its record's sequence

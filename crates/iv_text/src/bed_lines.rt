@@ -2,13 +2,15 @@
 ghost use Rattle.std.specs.Prelude.{◌≡◌, ◌<◌, ℕ, IfOk, IfSome, refl, ◌≤◌, ◌+◌, ◌^◌, ◌⊎◌, ◌++◌, ◌∷◌, [], length, Some, IfErr, OnOk, MatchOption};
 ghost use Rattle.iv_text.specs.BedReading.{IsReadAt, AreSoundLines, BeginsAfter, RefusesLines, TakesLines, byte_after, none_held, shown};
 ghost use Rattle.iv_text.specs.Inside.BedReading.{RefusesLine, TakesLine};
+ghost use Rattle.iv_lines.specs.Intervals.{bare, interval_of, record_of_interval};
 ghost use Rattle.iv_lines.specs.RecordValue.{RecordValue};
 ghost use Rattle.iv_lines.specs.declared.fault.LoadCause.TheVariants as cause;
 
 use crate::bed_widths::{is_skipped_line, width_for};
-use crate::record_reader::{FastLine, RecordReader};
+use crate::record_reader::RecordReader;
 use iv_lines::{
-    Genome, HoldsRecords, LoadCause, LoadFault, Record, RecordBatches, RecordRef, split_line,
+    Batches, Genome, HoldsRecords, Interval, LoadCause, LoadFault, Record, RecordBatches,
+    RecordRef, split_line,
 };
 use std::alloc::{AllocError, Allocator};
 use std::marker::Model;
@@ -37,9 +39,9 @@ pub trait FromRecord<A: Allocator + Copy>: Sized + Drop {
     fn is_interval_alone(width: u8) -> bool;
 
     /// What is held of the record of a line of this width that begins at this byte, from its interval. `None` leaves it open.
-    fn from_interval(alloc: A, width: u8, line: &FastLine, at: u32) -> Option<Self>
-        requires { line.now.start < line.now.stop }
-        ensures { IfSome result (λ one. (r : RecordValue) → IsReadAt width line.now r → one ≡ held_of r at) };
+    fn from_interval(alloc: A, width: u8, interval: Interval, at: u32) -> Option<Self>
+        requires { interval.start < interval.stop }
+        ensures { IfSome result (λ one. (r : RecordValue) → IsReadAt width interval r → one ≡ held_of r at) };
 
     /// A projected record is its own projection.
     ghost again: { (r : RecordValue) → projected (projected r) ≡ projected r };
@@ -74,11 +76,41 @@ impl<A: Allocator + Copy> FromRecord<A> for Record<A> {
         width == 3
     }
 
-    fn from_interval(alloc: A, width: u8, line: &FastLine, _at: u32) -> Option<Self> {
+    fn from_interval(alloc: A, width: u8, interval: Interval, _at: u32) -> Option<Self> {
         if width != 3 {
             return None;
         }
-        Some(Record::of_interval(alloc, line.seq, line.start, line.stop))
+        Some(Record::of_interval(alloc, interval))
+    }
+}
+
+impl<A: Allocator + Copy> FromRecord<A> for Interval {
+    type Holder = Batches<Self, A>;
+
+    ghost projected = { bare };
+
+    ghost as_record = { record_of_interval };
+
+    ghost held_of = { λ r at. interval_of r };
+
+    ghost again = { λ r. refl };
+
+    ghost stands = { λ r at. refl };
+
+    fn from_record(_alloc: A, read: &RecordRef<'_>, _at: u32) -> Result<Self, AllocError> {
+        Ok(read.interval())
+    }
+
+    fn most_in_batch() -> usize {
+        usize::MAX
+    }
+
+    fn is_interval_alone(_width: u8) -> bool {
+        true
+    }
+
+    fn from_interval(_alloc: A, _width: u8, interval: Interval, _at: u32) -> Option<Self> {
+        Some(interval)
     }
 }
 
@@ -189,15 +221,15 @@ impl<K: FromRecord<A>, A: Allocator + Copy> BedLines<K, A> {
         if !K::is_interval_alone(width) {
             return self.take_first(alloc, reader, limit, width, text);
         }
-        let Some(line) = reader.read_fast(width, text) else {
+        let Some((interval, size)) = reader.read_fast(width, text) else {
             return Ok(None);
         };
         let at = self.at();
-        let Some(one) = K::from_interval(alloc, width, &line, at) else {
+        let Some(one) = K::from_interval(alloc, width, interval, at) else {
             return Ok(None);
         };
         self.take_one(limit, width, one)?;
-        Ok(Some(line.size))
+        Ok(Some(size))
     }
 
     /// Takes the first line of a text if the reader reads all columns of its record in one pass. It answers the line's size.

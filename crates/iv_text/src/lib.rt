@@ -21,12 +21,12 @@ pub use iv_bytes::{
 };
 pub use iv_lines::{
     BatchItems, Batches, Bed3Record, BedRecord, ContentSeed, Fault, Fields, Genome, HoldsRecords,
-    LoadCause, LoadFault, MOST_LENGTH, NameHasher, NameMap, Record, RecordBatches, RecordFault,
-    RecordRef, RowBuffer, Strand, columns, fault_text, first_line_ends_at_feed,
+    Interval, LoadCause, LoadFault, MOST_LENGTH, NameHasher, NameMap, Record, RecordBatches,
+    RecordFault, RecordRef, RowBuffer, Strand, columns, fault_text, first_line_ends_at_feed,
     genome_or_first_fault, is_bad_name, last_line_ends_at_end, lines_of, load_text,
     one_length_changes, one_ordered_list, put_interval, put_line, put_numbered, put_record,
     put_row, read_digits, read_number, read_record, read_strand, split_first_column, split_line,
     strand_bytes,
 };
 pub use lemmas::bed_or_first_fault;
-pub use record_reader::{FastLine, RecordReader};
+pub use record_reader::RecordReader;

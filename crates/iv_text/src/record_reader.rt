@@ -14,8 +14,8 @@ use crate::bed_widths::is_skipped_line;
 use crate::number_prefix::split_number;
 use bstr::ByteSlice;
 use iv_lines::{
-    Genome, OptionalColumns, RecordFault, RecordRef, after_byte, are_sound, columns_after,
-    cut_first_column, optional_columns_of, read_record, read_strand,
+    Genome, Interval, OptionalColumns, RecordFault, RecordRef, after_byte, are_sound,
+    columns_after, cut_first_column, optional_columns_of, read_record, read_strand,
 };
 use std::alloc::Allocator;
 use std::marker::Model;
@@ -133,34 +133,12 @@ fn split_cells(width: u8, text: &[u8]) -> Option<(OptionalColumns<'_>, &[u8])>
     Some((columns, rest))
 }
 
-/// The first line of a text, read in one pass: the interval of its record, 0-based and half-open, and how long the line is.
-#[derive(Clone, Copy, Debug)]
-pub struct FastLine {
-    /// The rank of its sequence in the genome.
-    pub seq: u32,
-    /// The start, from 0.
-    pub start: u32,
-    /// The end, not included.
-    pub stop: u32,
-    /// How many bytes the line has, its LF with them.
-    pub size: usize,
-}
-
 /// A sequence as a line names it, with its rank and its length.
 #[derive(Clone, Copy)]
 struct Named<'t> {
     name: &'t [u8],
     rank: u32,
     length: u32,
-}
-
-/// The columns that a text begins with: the interval of a record, and what follows.
-#[derive(Clone, Copy)]
-struct Front<'a> {
-    rank: u32,
-    start: u32,
-    stop: u32,
-    rest: &'a [u8],
 }
 
 /// How many slots for sequences a reader has.
@@ -320,12 +298,13 @@ impl<'g, 't, A: Allocator + Copy> RecordReader<'g, 't, A> {
         Some((known, rest))
     }
 
-    /// The three columns that a text begins with, if they name a sequence that a line before named, and lie on it.
+    /// The interval that a text begins with, and what follows its columns, if they name a sequence that a line before named, and
+    /// lie on it.
     ///
     /// `None` leaves it open.
     #[inline(always)]
-    fn split_interval<'a>(&self, text: &'a [u8]) -> Option<Front<'a>>
-        ensures { IfSome result (λ f. BeginsWithInterval self.now text.now f.rank f.start f.stop f.rest.now) }
+    fn split_interval<'a>(&self, text: &'a [u8]) -> Option<(Interval, &'a [u8])>
+        ensures { IfSome result (λ p. BeginsWithInterval self.now text.now p.0 p.1.now) }
     {
         let (named, from_start) = self.split_name(text)?;
         let (start, after) = split_number(from_start)?;
@@ -334,32 +313,27 @@ impl<'g, 't, A: Allocator + Copy> RecordReader<'g, 't, A> {
         if start >= stop || stop > u64::from(named.length) {
             return None;
         }
-        Some(Front {
-            rank: named.rank,
+        let interval = Interval {
+            seq: named.rank,
             start: start as u32,
             stop: stop as u32,
-            rest,
-        })
+        };
+        Some((interval, rest))
     }
 
-    /// The first line of a text, if it names a sequence that a line before named and means a record of this width
-    /// that ends at a LF: read in one pass, which finds the line's end too.
+    /// The interval of the first line of a text, and how many bytes the line has, its LF with them, if it names a sequence that a
+    /// line before named and means a record of this width that ends at a LF: read in one pass, which finds the line's end too.
     ///
     /// `None` leaves it open: [`read`](Self::read) answers for every line.
     #[inline(always)]
-    pub fn read_fast(&self, width: u8, text: &[u8]) -> Option<FastLine>
+    pub fn read_fast(&self, width: u8, text: &[u8]) -> Option<(Interval, usize)>
         requires { IsWidth width }
-        ensures { IfSome result (λ l. IsFastLine self.now width text.now l) }
+        ensures { IfSome result (λ p. IsFastLine self.now width text.now p.0 p.1) }
     {
-        let front = self.split_interval(text)?;
-        let (_, end) = split_cells(width, front.rest)?;
+        let (interval, rest) = self.split_interval(text)?;
+        let (_, end) = split_cells(width, rest)?;
         let next = after_line_end(end)?;
-        Some(FastLine {
-            seq: front.rank,
-            start: front.start,
-            stop: front.stop,
-            size: text.len() - next.len(),
-        })
+        Some((interval, text.len() - next.len()))
     }
 
     /// The record of the first line of a text, and how long the line is, under the conditions of [`read_fast`](Self::read_fast).
@@ -368,19 +342,11 @@ impl<'g, 't, A: Allocator + Copy> RecordReader<'g, 't, A> {
         requires { IsWidth width }
         ensures { IfSome result (λ p. IsFirstLine self.now width text.now p.0 p.1) }
     {
-        let front = self.split_interval(text)?;
-        let (columns, end) = split_cells(width, front.rest)?;
+        let (interval, rest) = self.split_interval(text)?;
+        let (columns, end) = split_cells(width, rest)?;
         let next = after_line_end(end)?;
         let strand = read_strand(columns.strand);
-        let record = RecordRef::of_columns(
-            front.rank,
-            front.start,
-            front.stop,
-            columns.name,
-            columns.score,
-            strand,
-            width,
-        );
+        let record = RecordRef::of_columns(interval, columns.name, columns.score, strand, width);
         Some((record, text.len() - next.len()))
     }
 
@@ -392,23 +358,15 @@ impl<'g, 't, A: Allocator + Copy> RecordReader<'g, 't, A> {
         ensures value { IfSome result (λ r. read self.now width line.now ≡ Ok r) }
         ensures fits { IfSome result (λ r. Fits self.now width r) }
     {
-        let front = self.split_interval(line)?;
-        let columns = columns_after(front.rest)?;
+        let (interval, rest) = self.split_interval(line)?;
+        let columns = columns_after(rest)?;
         let others = optional_columns_of(columns, width)?;
         let strand = read_strand(others.strand);
         let sound = are_sound(width, others.name, others.score, strand);
         if !sound {
             return None;
         }
-        Some(RecordRef::of_columns(
-            front.rank,
-            front.start,
-            front.stop,
-            others.name,
-            others.score,
-            strand,
-            width,
-        ))
+        Some(RecordRef::of_columns(interval, others.name, others.score, strand, width))
     }
 
     /// The record that the next line means at a width, or its first fault, as

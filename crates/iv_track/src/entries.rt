@@ -18,7 +18,7 @@ use crate::counted::count_copies;
 use crate::short_records::short_records;
 use crate::track_record::Lent;
 use iv_ledger::{Abbreviated, Ledger, Meter, Walk};
-use iv_lines::{Bed3Record, Record, RecordBatches};
+use iv_lines::{Bed3Record, Interval, Record, RecordBatches};
 use std::alloc::{AllocError, Allocator};
 use std::marker::Model;
 
@@ -216,7 +216,12 @@ impl<A: Allocator + Copy> Entries<A> {
                 Some((Lent::Full(feature), copies))
             }
             Storage::Bed3(ledger) => {
-                let least = Bed3Record::new(seq, start, start + 1);
+                let base = Interval {
+                    seq,
+                    start,
+                    stop: start + 1,
+                };
+                let least = Bed3Record::new(base);
                 let (feature, copies) = first_from(ledger, least, meter)?;
                 Some((Lent::Bed3(feature), copies))
             }
@@ -270,7 +275,12 @@ impl<A: Allocator + Copy> Entries<A> {
                 }
             }
             Storage::Bed3(ledger) => {
-                let least = Bed3Record::new(seq, start, start + 1);
+                let base = Interval {
+                    seq,
+                    start,
+                    stop: start + 1,
+                };
+                let least = Bed3Record::new(base);
                 EntriesWalk {
                     rest: Rest::Bed3(walk_from(ledger, least, meter)),
                 }
@@ -309,7 +319,11 @@ fn interval_of<A: Allocator>(feature: &Record<A>) -> Bed3Record
     ensures { result ≡ record { seq = feature.now.seq; start = feature.now.start; stop = feature.now.stop; name = []; score = []; strand = None; width = 3 } }
 {
     feature.lemma_of_interval();
-    Bed3Record::new(feature.seq(), feature.start() as u32, feature.stop() as u32)
+    Bed3Record::new(Interval {
+        seq: feature.seq(),
+        start: feature.start() as u32,
+        stop: feature.stop() as u32,
+    })
 }
 
 /// The same record as one of three columns. If it has more or fewer, it is given back.

@@ -88,7 +88,7 @@ where
 ///
 /// # Errors
 ///
-/// That of the call, and one if there is no value.
+/// That of the value, or of the call.
 pub fn seen<T: Drop, S, F>(value: Result<T, Fail>, look: F) -> Result<S, Fail>
 where
     F: Fn(&mut T) -> Result<S, Fail>,

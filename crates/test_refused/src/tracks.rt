@@ -2,7 +2,7 @@
 ghost use Rattle.std.specs.Prelude.{◌≡◌, IfOk};
 
 use crate::session_files::Refusing;
-use iv_lines::{BedRecord, Genome, Record};
+use iv_lines::{BedRecord, Genome, Interval, Record};
 use iv_pair::Second;
 use iv_text::BedFile;
 use iv_track::{EditFault, Meter, Track};
@@ -50,7 +50,8 @@ fn record(alloc: Refusing<'_>, number: u32) -> Result<Record<Refusing<'_>>, Fail
     if start >= stop {
         return Err(Fail::new("no base"));
     }
-    Ok(Record::of_interval(alloc, 0, start, stop))
+    let seq = 0;
+    Ok(Record::of_interval(alloc, Interval { seq, start, stop }))
 }
 
 /// The lines of the records below a number, the last one first.

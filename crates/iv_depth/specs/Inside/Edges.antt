@@ -1,15 +1,15 @@
 -- Starts and stops of records, as numbers in order, and the net changes of depth there. This is the state of a sweep and of a build,
 -- as seen by their proofs.
 use Rattle.std.specs.Prelude.{◌≡◌, ◌≢◌, ℕ, ◌+◌, ◌<◌, ◌≤◌, ◌^◌, nat_le, Bool, List, [], ◌∷◌, Option, Some, None, length, map, count_by, if◌then◌else◌, ℤ, pos, ◌+ℤ◌, ◌-ℤ◌}
-use Rattle.iv_locators.specs.declared.span.Span.{Span}
+use Rattle.iv_lines.specs.declared.interval.Interval.{Interval}
 
 -- where the intervals start
-abbrev pub starts_of : List Span → List ℕ
-starts_of spans = map (λ (span : Span). span.start) spans
+abbrev pub starts_of : List Interval → List ℕ
+starts_of intervals = map (λ (interval : Interval). interval.start) intervals
 
 -- where they stop
-abbrev pub stops_of : List Span → List ℕ
-stops_of spans = map (λ (span : Span). span.stop) spans
+abbrev pub stops_of : List Interval → List ℕ
+stops_of intervals = map (λ (interval : Interval). interval.stop) intervals
 
 -- how many of the numbers are p or less
 abbrev pub up_to : ℕ → List ℕ → ℕ
@@ -27,7 +27,7 @@ BeginsElse p [] = Unit {0}
 BeginsElse p (n ∷ ns) = n ≢ p
 
 -- these are the stops of the intervals, from the least to the greatest
-pub record AreStopsOf (places : List Span) (stops : List ℕ) : Type 0 where
+pub record AreStopsOf (places : List Interval) (stops : List ℕ) : Type 0 where
   pub rise : Rise 0 stops
   pub sums : (p : ℕ) → up_to p stops ≡ up_to p (stops_of places)
 

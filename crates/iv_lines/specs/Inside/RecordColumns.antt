@@ -1,7 +1,7 @@
 -- The record that stored columns are.
 use Rattle.std.specs.Prelude.{ℕ, List, []}
 use Rattle.iv_lines.specs.RecordValue.{RecordValue}
-use Rattle.iv_lines.specs.declared.record_columns.Interval.{Interval}
+use Rattle.iv_lines.specs.declared.interval.Interval.{Interval}
 use Rattle.iv_lines.specs.declared.record_columns.StrandAndWidth.{StrandAndWidth}
 use Rattle.iv_lines.specs.declared.record_columns.RecordColumns.{RecordColumns}
 use Rattle.iv_lines.specs.declared.record_columns.RecordColumns.TheVariants.{Empty, Short, Medium, Long}

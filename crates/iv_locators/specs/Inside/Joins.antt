@@ -4,11 +4,11 @@ use Rattle.iv_locators.specs.declared.locator.Locator.{Locator}
 
 -- a locator is on the sequence of one that doesn't start past it, and starts at its stop or before
 abbrev pub touches : Locator → Locator → Bool
-touches last locator = (last.span.seq == locator.span.seq) && nat_le locator.span.start last.span.stop
+touches last locator = (last.interval.seq == locator.interval.seq) && nat_le locator.interval.start last.interval.stop
 
 -- the two as one locator, with the line of the first
 abbrev pub grown : Locator → Locator → Locator
-grown last locator = record last { span = record last.span { stop = max last.span.stop locator.span.stop } }
+grown last locator = record last { interval = record last.interval { stop = max last.interval.stop locator.interval.stop } }
 
 -- the first of locators in order, and those after it, each joined to the one before it if they touch
 abbrev pub joined_from : Locator → List Locator → List Locator

@@ -10,7 +10,7 @@ has_rank seq r = r.seq == seq
 
 -- so is that of the locator
 abbrev pub is_at : ℕ → Locator → Bool
-is_at seq p = p.span.seq == seq
+is_at seq p = p.interval.seq == seq
 
 -- the list says so of this rank
 abbrev pub is_marked : List Bool → ℕ → Bool

@@ -24,7 +24,7 @@ ends_by seq at b = is_up_to seq at b.seq b.stop
 
 -- whether a locator begins before a position
 abbrev pub place_before : ℕ → ℕ → Locator → Bool
-place_before seq at locator = is_before seq at locator.span.seq locator.span.start
+place_before seq at locator = is_before seq at locator.interval.seq locator.interval.start
 
 -- whether an end is at a position or before it
 abbrev pub end_by : ℕ → ℕ → End → Bool
@@ -40,7 +40,7 @@ EndsAscend ends = (seq at : ℕ) → IsPartitionedBy (end_by seq at) ends
 
 -- where a locator ends
 abbrev pub end_of : Locator → End
-end_of locator = record { seq = locator.span.seq; stop = locator.span.stop }
+end_of locator = record { seq = locator.interval.seq; stop = locator.interval.stop }
 
 -- these are the ends of the records, in order
 pub record AreEndsOf (ends : List End) (records : List RecordValue) : Type 0 where

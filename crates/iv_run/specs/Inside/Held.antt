@@ -8,7 +8,7 @@ use Rattle.iv_lines.specs.Read.{Fits}
 use Rattle.iv_lines.specs.RecordValue.{RecordValue}
 use Rattle.iv_lines.specs.declared.fault.LoadFault.{LoadFault}
 use Rattle.iv_fasta.specs.FastaReading.{Wanted, is_wanted, only}
-use Rattle.iv_locators.specs.Locators.{bare}
+use Rattle.iv_lines.specs.Intervals.{bare}
 use Rattle.iv_run.specs.Pieces.{SaysSoFar}
 use Rattle.iv_run.specs.Loading.{IsAnswer, Parsed}
 use Rattle.iv_run.specs.declared.fault.CliFault.{CliFault}

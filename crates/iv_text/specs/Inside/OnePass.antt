@@ -11,7 +11,7 @@ use Rattle.iv_lines.specs.Named.{name_index}
 use Rattle.iv_lines.specs.Read.{column, AreSoundColumns}
 use Rattle.iv_lines.specs.Inside.Read.{is_line_byte}
 use Rattle.iv_lines.specs.RecordValue.{RecordValue, strand_of}
-use Rattle.iv_text.specs.declared.record_reader.FastLine.{FastLine}
+use Rattle.iv_lines.specs.declared.interval.Interval.{Interval}
 
 -- the name is that of a sequence of the genome, with its rank and its length; it holds no TAB and no LF, and as a line it would be no header
 pub record IsNamed (g : Sequences) (name : List ℕ) (rank len : ℕ) : Type 0 where
@@ -30,17 +30,17 @@ abbrev pub BeginsWithNumber : List ℕ → ℕ → List ℕ → Type 0
 BeginsWithNumber text n rest = (digits : List ℕ) × (text ≡ digits ++ rest) × (number digits ≡ Some n)
 
 -- the text begins with the columns of an interval on the genome: a name, a start and a stop; the rest is after them
-pub record BeginsWithInterval (g : Sequences) (text : List ℕ) (rank start stop : ℕ) (rest : List ℕ) : Type 0 where
+pub record BeginsWithInterval (g : Sequences) (text : List ℕ) (i : Interval) (rest : List ℕ) : Type 0 where
   pub name : List ℕ
   pub starts : List ℕ
   pub stops : List ℕ
   pub len : ℕ
   pub text_is : text ≡ name ++ tab ∷ (starts ++ tab ∷ (stops ++ rest))
-  pub named : IsNamed g name rank len
-  pub start_is : number starts ≡ Some start
-  pub stop_is : number stops ≡ Some stop
-  pub some : start < stop
-  pub within : stop ≤ len
+  pub named : IsNamed g name i.seq len
+  pub start_is : number starts ≡ Some i.start
+  pub stop_is : number stops ≡ Some i.stop
+  pub some : i.start < i.stop
+  pub within : i.stop ≤ len
 
 -- no cell goes on at this byte: a TAB, or one that no name and no score holds
 abbrev pub ends_cell : ℕ → Bool
@@ -73,4 +73,4 @@ pub record BeginsWithCells (width : ℕ) (text name score strand rest : List ℕ
 
 -- the text begins with a line of this record that has so many bytes and is read in one pass
 abbrev pub IsFirstLine : Sequences → ℕ → List ℕ → RecordValue → ℕ → Type 0
-IsFirstLine g width text feature size = (l : FastLine) × (fast : IsFastLine g width text l) × (fast.feature ≡ feature) × (l.size ≡ size)
+IsFirstLine g width text feature size = (i : Interval) × (fast : IsFastLine g width text i size) × (fast.feature ≡ feature)

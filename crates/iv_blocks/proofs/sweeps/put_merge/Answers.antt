@@ -3,8 +3,8 @@ use Rattle.std.specs.List.{flat_map}
 use Rattle.std.proofs.lemmas.List.Folds.{flat_map-map}
 use Rattle.iv_bytes.proofs.PutLemmas.{Underway-begin, Underway-more, Underway-fails, Underway-ends, Puts-err}
 use Rattle.iv_lines.specs.Genome.{Sequences}
-use Rattle.iv_locators.specs.Inside.Spans.{span_records}
-use Rattle.iv_locators.specs.declared.span.Span.{Span}
+use Rattle.iv_lines.specs.Inside.Intervals.{interval_records}
+use Rattle.iv_lines.specs.declared.interval.Interval.{Interval}
 use Rattle.iv_cover.specs.TrackBlocks.{blocks_of}
 use Rattle.iv_blocks.specs.Inside.BlockSweeps.{interval_of, interval_row}
 use Rattle.iv_blocks.specs.Inside.Texts.{merge_text}
@@ -14,9 +14,9 @@ use Rattle.iv_blocks.proofs.MergeTexts.{text-blocks}
 use Rattle.iv_blocks.proofs.sweeps.put_merge.Goals as goal
 
 -- the rows of all blocks are the text
-text-is : (d : ℕ) (g : Sequences) (spans : List Span) (o : BlockOptions) → IsByIntervals d o
-    → flat_map (interval_row g) (map interval_of (blocks_of d g (span_records spans))) ≡ merge_text o g (span_records spans)
-text-is d g spans o plain = flat_map-map (interval_row g) interval_of (blocks_of d g (span_records spans)) ∙ text-blocks d g (span_records spans) o plain
+text-is : (d : ℕ) (g : Sequences) (intervals : List Interval) (o : BlockOptions) → IsByIntervals d o
+    → flat_map (interval_row g) (map interval_of (blocks_of d g (interval_records intervals))) ≡ merge_text o g (interval_records intervals)
+text-is d g intervals o plain = flat_map-map (interval_row g) interval_of (blocks_of d g (interval_records intervals)) ∙ text-blocks d g (interval_records intervals) o plain
 
 pub loop-block-init : goal.loop-block-init
 loop-block-init g c = rw (c.into_iter-block-iterator.ensures.into_iter_gives ∙ c.of-block-items.ensures c.args.genome.now c.requires.on_genome) (Underway-begin _ _)
@@ -26,11 +26,11 @@ loop-block-preserved g c = Underway-more _ _ _ _ _ _ (rw c.in-Some.ensures.steps
 
 pub returns-in_err-put_block : goal.returns-in_err-put_block
 returns-in_err-put_block g c = λ o plain.
-    rw (← text-is c.args.distance c.args.genome.now c.args.spans.now o plain)
+    rw (← text-is c.args.distance c.args.genome.now c.args.intervals.now o plain)
     (Puts-err _ _ c.from_residual.result _ c.from_residual.ensures.0
     (Underway-fails _ _ _ _ _ _ (rw c.in-Some.ensures.steps at c.loop-block.invariant) c.in_err-put_block.ensures))
 
 pub returns : goal.returns
 returns g c = λ o plain.
-    rw (← text-is c.args.distance c.args.genome.now c.args.spans.now o plain)
+    rw (← text-is c.args.distance c.args.genome.now c.args.intervals.now o plain)
     (Underway-ends _ _ _ (rw c.in-None.ensures.steps.0 at c.loop-block.invariant))

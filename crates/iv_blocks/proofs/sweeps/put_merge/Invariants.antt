@@ -2,7 +2,7 @@ use Rattle.std.proofs.Common.{map}
 use Rattle.std.specs.List.{flat_map}
 use Rattle.iv_bytes.proofs.PutLemmas.{Underway}
 use Rattle.iv_cover.specs.TrackBlocks.{blocks_of}
-use Rattle.iv_locators.specs.Inside.Spans.{span_records}
+use Rattle.iv_lines.specs.Inside.Intervals.{interval_records}
 use Rattle.iv_blocks.specs.Inside.BlockSweeps.{interval_of, interval_row}
 use Rattle.iv_blocks.proofs.sweeps.put_merge.Given as goal
 
@@ -10,4 +10,4 @@ use Rattle.iv_blocks.proofs.sweeps.put_merge.Given as goal
 abbrev pub invariant-loop-block : goal.invariant-loop-block
 invariant-loop-block g l = Underway (g.S.Sink.state l.fn.sink) (g.S.Sink.state l.sink)
     (flat_map (interval_row l.genome) l.block-iterator)
-    (flat_map (interval_row l.genome) (map interval_of (blocks_of l.distance l.genome (span_records l.spans))))
+    (flat_map (interval_row l.genome) (map interval_of (blocks_of l.distance l.genome (interval_records l.intervals))))

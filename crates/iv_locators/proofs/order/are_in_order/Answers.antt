@@ -9,4 +9,4 @@ pub returns : goal.returns
 returns c =
     let w = c.args.width in
     let text = c.args.text.now in
-    in-order (record { span = record { seq = 0; start = 0; stop = 0 }; line_start = 0 }) (λ x y. is_lt (record_cmp (record_at w text x) (record_at w text y))) c.args.locators.now c.is_sorted_by.result c.is_sorted_by.ensures.cases (λ a s f' k. search rules)
+    in-order (record { interval = record { seq = 0; start = 0; stop = 0 }; line_start = 0 }) (λ x y. is_lt (record_cmp (record_at w text x) (record_at w text y))) c.args.locators.now c.is_sorted_by.result c.is_sorted_by.ensures.cases (λ a s f' k. search rules)

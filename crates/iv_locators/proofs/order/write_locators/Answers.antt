@@ -11,7 +11,7 @@ loop-index-preserved g c =
     let i = c.loop-index.index in
     let locators = c.loop-index.locators.items in
     let keyed = c.args.keyed.now in
-    let none : PrefixKeyed = record { head = 0; locator = record { span = record { seq = 0; start = 0; stop = 0 }; line_start = 0 } } in
+    let none : PrefixKeyed = record { head = 0; locator = record { interval = record { seq = 0; start = 0; stop = 0 }; line_start = 0 } } in
     let read : Locator = locator_of (slice_index_or keyed i none) in
     let within : i < length keyed = omega (arith, c.loop-index-test.true) in
     record {

@@ -17,4 +17,4 @@ returns c =
     IsPartitionPoint-from_clause p (drop passed locators) c.partition_point.result
     (rw whole at c.partition_point.ensures.partitioned) (split_up-drop p locators passed split_up) (λ a r q k. search rules) in
     let most : c.partition_point.result ≤ length (drop passed locators) = rw whole at c.partition_point.ensures.bound in
-    searched-past p locators passed c.partition_point.result (record { span = record { seq = 0; start = 0; stop = 0 }; line_start = 0 }) split_up c.pass_starts-passed.ensures.few point most
+    searched-past p locators passed c.partition_point.result (record { interval = record { seq = 0; start = 0; stop = 0 }; line_start = 0 }) split_up c.pass_starts-passed.ensures.few point most

@@ -2,7 +2,7 @@ use Rattle.std.proofs.Common.{◌≡◌, ◌++◌, ◌∷◌, ◌∙◌, [], All
 use Rattle.std.proofs.lemmas.List.Elements.{All-nil, All-append, All-cons}
 use Rattle.iv_text.specs.BedFile.{Bed}
 use Rattle.iv_lines.specs.RecordValue.{RecordValue}
-use Rattle.iv_locators.specs.Locators.{bare}
+use Rattle.iv_lines.specs.Intervals.{bare}
 use Rattle.iv_locators.specs.Inside.Locators.{HasBase, records_at}
 use Rattle.iv_locators.specs.declared.locator.Locator.{Locator}
 use Rattle.iv_track.proofs.WalkLemmas.{filter-from_first}

@@ -1,5 +1,5 @@
 use Rattle.std.proofs.Common.{◌≡◌, ◌++◌, [], All, length, map}
-use Rattle.iv_locators.specs.Locators.{bare}
+use Rattle.iv_lines.specs.Intervals.{bare}
 use Rattle.iv_locators.specs.Inside.Locators.{HasBase, records_at}
 use Rattle.iv_pair.proofs.intervals.intervals_of.Given as goal
 

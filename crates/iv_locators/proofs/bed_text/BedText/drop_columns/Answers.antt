@@ -2,7 +2,7 @@ use Rattle.std.proofs.Common.{List, map, ap, arith, ◌∙◌}
 use Rattle.std.specs.Cow.{cow_slice_items}
 use Rattle.iv_lines.specs.RecordValue.{RecordValue}
 use Rattle.iv_text.specs.BedFile.{Bed}
-use Rattle.iv_locators.specs.Locators.{bare}
+use Rattle.iv_lines.specs.Intervals.{bare}
 use Rattle.iv_locators.proofs.BareLemmas.{rows-bare}
 use Rattle.iv_locators.proofs.LocatorLemmas.{three-whole}
 use Rattle.iv_locators.proofs.bed_text.BedText.drop_columns.Goals as goal

@@ -6,7 +6,7 @@ use Rattle.iv_lines.specs.Ordered.{AreInOrder}
 use Rattle.iv_locators.specs.Cover.{is_covered}
 use Rattle.iv_locators.specs.Inside.Cover.{AreApart}
 use Rattle.iv_locators.specs.Inside.Joins.{joined_locators}
-use Rattle.iv_locators.specs.Locators.{bare}
+use Rattle.iv_lines.specs.Intervals.{bare}
 use Rattle.iv_locators.specs.Inside.Locators.{HasAllColumns, HasBase, records_at}
 use Rattle.iv_locators.specs.declared.locator.Locator.{Locator}
 use Rattle.iv_locators.proofs.BareLemmas.{rows-bare}

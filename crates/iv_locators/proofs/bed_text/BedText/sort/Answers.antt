@@ -11,7 +11,7 @@ use Rattle.iv_locators.proofs.OrderLemmas.{sorted-rows, sorted-by-rows}
 use Rattle.iv_locators.proofs.bed_text.BedText.sort.Goals as goal
 
 none : Locator
-none = record { span = record { seq = 0; start = 0; stop = 0 }; line_start = 0 }
+none = record { interval = record { seq = 0; start = 0; stop = 0 }; line_start = 0 }
 
 pub invariant_of-self : goal.invariant_of-self
 invariant_of-self g c =

@@ -1,10 +1,7 @@
-use Rattle.std.proofs.Common.{ℕ, ap}
+use Rattle.std.proofs.Common.{ap}
+use Rattle.iv_lines.specs.declared.interval.Interval.{Interval}
 use Rattle.iv_locators.specs.declared.locator.Locator.{Locator}
-use Rattle.iv_locators.specs.declared.span.Span.{Span}
 use Rattle.iv_locators.proofs.locator.LocatorFromRecord.from_interval.Goals as goal
 
-abbrev with_line : ℕ → Span → Locator
-with_line at span = record { span = span; line_start = at }
-
 pub returns : goal.returns
-returns g c = λ r reads. ap (with_line c.args.at) (c.in_ok-span.ensures r reads)
+returns g c = λ r reads. ap {B = Locator} (λ (i : Interval). record { interval = i; line_start = c.args.at }) reads.interval_is

@@ -1,9 +1,10 @@
 use Rattle.std.proofs.Common.{ap, sym, ◌∙◌, map}
 use Rattle.std.proofs.lemmas.Simd.{map-map}
-use Rattle.iv_locators.specs.Inside.Locators.{record_at, span_of}
+use Rattle.iv_locators.specs.Inside.Locators.{record_at}
+use Rattle.iv_lines.specs.Intervals.{interval_of}
 use Rattle.iv_locators.proofs.text_records.TextRecords.locators.Goals as goal
 
 pub returns-clause-spots : goal.returns-clause-spots
 returns-clause-spots c =
     let fields = c.self.inside in
-    sym (map-map span_of (record_at fields.width fields.text.now) fields.locators.now) ∙ ap (map span_of) c.self.view_is
+    sym (map-map interval_of (record_at fields.width fields.text.now) fields.locators.now) ∙ ap (map interval_of) c.self.view_is

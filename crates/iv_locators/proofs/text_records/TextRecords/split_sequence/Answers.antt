@@ -9,11 +9,11 @@ returns-clause-here c =
     let s = c.self.inside in
     c.split_at.ensures.front
     ∙ (split-rows (record_at s.width s.text.now) c.args.seq s.locators.now c.args.self.now c.partition_point.result c.self.view_is c.requires.order c.requires.from c.partition_point.ensures.bound
-    (λ parted. IsPartitionPoint-from_clause (λ locator. nat_le locator.span.seq c.args.seq) s.locators.now c.partition_point.result c.partition_point.ensures.partitioned parted (λ a r q k. search rules))).0
+    (λ parted. IsPartitionPoint-from_clause (λ locator. nat_le locator.interval.seq c.args.seq) s.locators.now c.partition_point.result c.partition_point.ensures.partitioned parted (λ a r q k. search rules))).0
 
 pub returns-clause-later : goal.returns-clause-later
 returns-clause-later c =
     let s = c.self.inside in
     c.split_at.ensures.back
     ∙ (split-rows (record_at s.width s.text.now) c.args.seq s.locators.now c.args.self.now c.partition_point.result c.self.view_is c.requires.order c.requires.from c.partition_point.ensures.bound
-    (λ parted. IsPartitionPoint-from_clause (λ locator. nat_le locator.span.seq c.args.seq) s.locators.now c.partition_point.result c.partition_point.ensures.partitioned parted (λ a r q k. search rules))).1
+    (λ parted. IsPartitionPoint-from_clause (λ locator. nat_le locator.interval.seq c.args.seq) s.locators.now c.partition_point.result c.partition_point.ensures.partitioned parted (λ a r q k. search rules))).1

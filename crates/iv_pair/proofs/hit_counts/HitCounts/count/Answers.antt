@@ -1,6 +1,6 @@
 use Rattle.std.proofs.Common.{◌≡◌, ◌+◌, ◌∙◌, [], None, List, length, map, ap, arith, refl}
 use Rattle.iv_lines.specs.RecordValue.{RecordValue}
-use Rattle.iv_locators.specs.Inside.Locators.{span_of}
+use Rattle.iv_lines.specs.Intervals.{interval_of}
 use Rattle.iv_track.specs.Regions.{hits}
 use Rattle.iv_pair.specs.Inside.Counts.{AreEndsOf}
 use Rattle.iv_pair.proofs.CountLemmas.{AreStartsOf-rows, hits-between}
@@ -9,7 +9,7 @@ use Rattle.iv_pair.proofs.hit_counts.HitCounts.count.Goals as goal
 
 pub count_starts-begun-requires-clause-ordered : goal.count_starts-begun-requires-clause-ordered
 count_starts-begun-requires-clause-ordered g c =
-    (AreStartsOf-rows c.locators.result.now c.self.inside.intervals.records (c.locators.ensures.spots ∙ ap (λ (l : List RecordValue). map span_of l) c.records.ensures)
+    (AreStartsOf-rows c.locators.result.now c.self.inside.intervals.records (c.locators.ensures.spots ∙ ap (λ (l : List RecordValue). map interval_of l) c.records.ensures)
     c.locators.ensures.some c.self.invariant.ordered).ascend
 
 pub count_ends-ended-requires : goal.count_ends-ended-requires
@@ -22,7 +22,7 @@ number g c =
     let ends_are : AreEndsOf c.as_slice.result.now records = rw c.as_slice.ensures.value c.self.invariant.ends_are in
     hits-between a records c.as_slice.result.now c.locators.result.now c.args.seq c.args.start c.args.stop c.count_ends-ended.result c.count_starts-begun.result
     ends_are
-    (AreStartsOf-rows c.locators.result.now records (c.locators.ensures.spots ∙ ap (λ (l : List RecordValue). map span_of l) c.records.ensures) c.locators.ensures.some c.self.invariant.ordered)
+    (AreStartsOf-rows c.locators.result.now records (c.locators.ensures.spots ∙ ap (λ (l : List RecordValue). map interval_of l) c.records.ensures) c.locators.ensures.some c.self.invariant.ordered)
     c.requires refl refl refl c.count_ends-ended.ensures c.count_starts-begun.ensures
 
 pub overflow_sub-result : goal.overflow_sub-result

@@ -1,7 +1,7 @@
 use Rattle.std.proofs.Common.{◌∙◌, List, map, sym, ap, subst}
 use Rattle.iv_lines.specs.Ordered.{AreInOrder}
 use Rattle.iv_lines.specs.RecordValue.{RecordValue}
-use Rattle.iv_locators.specs.Inside.Locators.{span_of}
+use Rattle.iv_lines.specs.Intervals.{interval_of}
 use Rattle.iv_locators.proofs.BareLemmas.{in_order-bare}
 use Rattle.iv_pair.proofs.CountLemmas.{AreEndsOf-moved}
 use Rattle.iv_pair.proofs.hit_counts.HitCounts.of.Goals as goal
@@ -9,6 +9,6 @@ use Rattle.iv_pair.proofs.hit_counts.HitCounts.of.Goals as goal
 pub invariant_of-result : goal.invariant_of-result
 invariant_of-result g c = record {
   ends_are = AreEndsOf-moved c.in_ok-ends.ends.items c.locators.result.now c.in_ok-intervals.intervals.records
-      (c.locators.ensures.spots ∙ ap (λ (l : List RecordValue). map span_of l) c.records.ensures) c.in_ok-ends.ensures.moved c.in_ok-ends.ensures.ordered;
+      (c.locators.ensures.spots ∙ ap (λ (l : List RecordValue). map interval_of l) c.records.ensures) c.in_ok-ends.ensures.moved c.in_ok-ends.ensures.ordered;
   ordered = subst AreInOrder (sym c.in_ok-intervals.ensures) (in_order-bare c.args.second.now.records c.len-count.ensures.ordered);
 }

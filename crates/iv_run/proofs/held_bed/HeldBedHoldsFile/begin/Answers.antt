@@ -1,4 +1,4 @@
-use Rattle.iv_locators.specs.Locators.{bare}
+use Rattle.iv_lines.specs.Intervals.{bare}
 use Rattle.iv_run.proofs.PieceLemmas.{says-begun}
 use Rattle.iv_run.proofs.held_bed.HeldBedHoldsFile.begin.Goals as goal
 

@@ -1,5 +1,5 @@
 use Rattle.std.proofs.Common.{◌≡◌, ◌∙◌, ◌++◌, ◌^◌, List, ℕ, ap, arith}
-use Rattle.iv_locators.specs.Locators.{bare}
+use Rattle.iv_lines.specs.Intervals.{bare}
 use Rattle.iv_run.proofs.PieceLemmas.{says-room, says-sound}
 use Rattle.iv_run.proofs.HeldLemmas.{three-more}
 use Rattle.iv_run.proofs.held_bed.HoldingTakesPieces.take.Goals as goal

@@ -1,7 +1,7 @@
 use Rattle.std.proofs.Common.{subst}
 use Rattle.std.proofs.lemmas.Result.{err_from_is_err_and}
 use Rattle.iv_bytes.specs.Sinks.{FailsIn, Takes}
-use Rattle.iv_locators.specs.Inside.Spans.{span_records}
+use Rattle.iv_lines.specs.Inside.Intervals.{interval_records}
 use Rattle.iv_run.proofs.IntervalsAlone.{genomecov-text}
 use Rattle.iv_run.proofs.IntervalsLemmas.{of-merge, of-complement, of-genomecov}
 use Rattle.iv_run.proofs.intervals_view.IntervalsView.put.Goals as goal
@@ -24,10 +24,10 @@ returns-in_err-put_complement-in-Complement-clause-text g c =
 
 pub returns-in_ok-print-in-Genomecov-clause-text : goal.returns-in_ok-print-in-Genomecov-clause-text
 returns-in_ok-print-in-Genomecov-clause-text g c = rw c.in-Genomecov.is (of-genomecov c.in-Genomecov.shown _
-    (subst (Takes _ _) (genomecov-text c.in-Genomecov.shown c.args.genome.now (span_records c.args.spans.now)) (rw c.in_ok-new-in-Genomecov.ensures at c.in_ok-print-in-Genomecov.ensures.text)))
+    (subst (Takes _ _) (genomecov-text c.in-Genomecov.shown c.args.genome.now (interval_records c.args.intervals.now)) (rw c.in_ok-new-in-Genomecov.ensures at c.in_ok-print-in-Genomecov.ensures.text)))
 
 pub returns-in_err-print-in-Genomecov-clause-text : goal.returns-in_err-print-in-Genomecov-clause-text
 returns-in_err-print-in-Genomecov-clause-text g c =
     let p = err_from_is_err_and c.from_residual-in_err-print-in-Genomecov.result c.from_residual-in_err-print-in-Genomecov.ensures.1 in
     rw (p.1, p.2, c.in-Genomecov.is) (of-genomecov c.in-Genomecov.shown _
-    (subst (FailsIn _ _) (genomecov-text c.in-Genomecov.shown c.args.genome.now (span_records c.args.spans.now)) (rw c.in_ok-new-in-Genomecov.ensures at c.in_err-print-in-Genomecov.ensures.text)))
+    (subst (FailsIn _ _) (genomecov-text c.in-Genomecov.shown c.args.genome.now (interval_records c.args.intervals.now)) (rw c.in_ok-new-in-Genomecov.ensures at c.in_err-print-in-Genomecov.ensures.text)))

@@ -18,7 +18,7 @@ returns-in_err-take_one-clause-err g c =
     (elim c.in_err-take_one.ensures.err [
       | inl memory ↦ inl memory
       | inr full ↦ inr (subst (λ (f : LoadCause). RefusesLine k.held_of genome c.args.limit old c.args.text.now f) (sym full.0)
-          (short-full k.held_of genome c.args.limit old w c.args.text.now c.in-Some-read_fast.line c.in-Some-read_fast.ensures wide known full.1))
+          (short-full k.held_of genome c.args.limit old w c.args.text.now c.in-Some-read_fast.interval c.in-Some-read_fast.size c.in-Some-read_fast.ensures wide known full.1))
     ])
 
 pub returns-clause-ok : goal.returns-clause-ok
@@ -28,14 +28,15 @@ returns-clause-ok g c =
     let old = c.args.self.now in
     let w = c.in-Some.width in
     let text = c.args.text.now in
-    let line = c.in-Some-read_fast.line in
+    let at = c.in-Some-read_fast.interval in
+    let size = c.in-Some-read_fast.size in
     let short = c.in-Some-read_fast.ensures in
     let known = sym c.width.ensures ∙ c.in-Some.is in
     let wide = known-wide k.projected genome c.args.limit (shown k.as_record old) w c.requires.sound known in
     let taken = c.in_ok-take_one.ensures in (
       short.some,
       short.within,
-      short-taken k.held_of genome c.args.limit old c.take_one.new.self w text line c.in-Some-from_interval.one short wide known
-          (c.in-Some-from_interval.ensures short.feature (short-read genome w text line short) ∙ ap (k.held_of short.feature) c.at-at.ensures.value)
+      short-taken k.held_of genome c.args.limit old c.take_one.new.self w text at size c.in-Some-from_interval.one short wide known
+          (c.in-Some-from_interval.ensures short.feature (short-read genome w text at size short) ∙ ap (k.held_of short.feature) c.at-at.ensures.value)
           (subst (λ (n : ℕ). n < 2 ^ 32) c.at-at.ensures.value c.at-at.ensures.small) taken.free taken.ok,
     )

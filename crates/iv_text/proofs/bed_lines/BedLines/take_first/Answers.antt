@@ -18,7 +18,7 @@ returns-in_err-take_one-clause-err g c =
     (elim c.in_err-take_one.ensures.err [
       | inl memory ↦ inl memory
       | inr full ↦ inr (subst (λ (f : LoadCause). RefusesLine k.held_of genome c.args.limit old c.args.text.now f) (sym full.0)
-          (short-full k.held_of genome c.args.limit old w c.args.text.now first.0 first.1 wide c.requires.known full.1))
+          (short-full k.held_of genome c.args.limit old w c.args.text.now first.0 c.in-Some.size first.1 wide c.requires.known full.1))
     ])
 
 pub returns-clause-ok : goal.returns-clause-ok

@@ -2,13 +2,13 @@ use Rattle.std.proofs.Common.{◌∙◌, ℕ, Result, ap, sym, subst}
 use Rattle.std.proofs.lemmas.Result.{err_from_is_err_and}
 use Rattle.iv_text.specs.BedFile.{Bed}
 use Rattle.iv_lines.specs.declared.fault.LoadFault.{LoadFault}
-use Rattle.iv_locators.specs.Locators.{bare}
+use Rattle.iv_lines.specs.Intervals.{bare}
 use Rattle.iv_run.specs.Loading.{parsed}
 use Rattle.iv_run.specs.RunFiles.{AreAllWanted, AreOf, FilesRead, IsParsed}
 use Rattle.iv_run.specs.Inside.RunFiles.{ReportsProjected}
 use Rattle.iv_run.proofs.IntervalsLemmas.{shows-places}
 use Rattle.iv_run.proofs.ShotLemmas.{shows-damage}
-use Rattle.iv_run.proofs.intervals_view.RunFiles+HeldRecords+Span+A+A.print.Goals as goal
+use Rattle.iv_run.proofs.intervals_view.RunFiles+HeldRecords+Interval+A+A.print.Goals as goal
 
 pub returns-in_err-files : goal.returns-in_err-files
 returns-in_err-files g c = λ plan sizes first second fasta_text ask width are.
