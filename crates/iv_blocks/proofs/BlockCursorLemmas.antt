@@ -3,58 +3,58 @@ use Rattle.std.proofs.Common.{◌≡◌, ℕ, suc, ◌+◌, ◌++◌, Bool, true
 use Rattle.std.specs.Map.Iter.{TakesFirst}
 use Rattle.std.specs.List.{take_while, prefix_len}
 use Rattle.std.specs.Option.{is_some}
-use Rattle.iv_cover.specs.declared.block.Block.{Block}
+use Rattle.iv_lines.specs.declared.interval.Interval.{Interval}
 use Rattle.iv_lines.proofs.ListLemmas.{Mem}
 use Rattle.iv_blocks.specs.Inside.BlockCursor.{interval_of, ahead_of, BeginsElse, GivesPassing, drop_while, TakesForEach}
 use Rattle.iv_blocks.specs.KeptBlocks.{Entries}
 
 -- what is read ahead, and what is left, are all
-pub ahead-read : (old new : Entries) (given : Option Block) → TakesFirst (λ (b : Block). b) (map interval_of old) given (map interval_of new) → ahead_of given new ≡ map interval_of old
+pub ahead-read : (old new : Entries) (given : Option Interval) → TakesFirst (λ (b : Interval). b) (map interval_of old) given (map interval_of new) → ahead_of given new ≡ map interval_of old
 ahead-read old new None took = took.1 ∙ sym took.0
 ahead-read old new (Some b) took = sym took
 
-module _ (test : Block → Bool) where
-  pub take-first : (blocks after : List Block) (b : Block) → blocks ≡ b ∷ after → test b ≡ true → take_while test blocks ≡ b ∷ take_while test after
+module _ (test : Interval → Bool) where
+  pub take-first : (blocks after : List Interval) (b : Interval) → blocks ≡ b ∷ after → test b ≡ true → take_while test blocks ≡ b ∷ take_while test after
   take-first blocks after b first passes =
       let more : 1 + prefix_len test after ≡ suc (prefix_len test after) = omega arith in
       rw (first, passes, more) refl
 
-  pub drop-first : (blocks after : List Block) (b : Block) → blocks ≡ b ∷ after → test b ≡ true → drop_while test blocks ≡ drop_while test after
+  pub drop-first : (blocks after : List Interval) (b : Interval) → blocks ≡ b ∷ after → test b ≡ true → drop_while test blocks ≡ drop_while test after
   drop-first blocks after b first passes =
       let more : 1 + prefix_len test after ≡ suc (prefix_len test after) = omega arith in
       rw (first, passes, more) refl
 
-  pub take-none : (blocks : List Block) → BeginsElse test blocks → take_while test blocks ≡ []
+  pub take-none : (blocks : List Interval) → BeginsElse test blocks → take_while test blocks ≡ []
   take-none [] else = refl
   take-none (b ∷ blocks) else = rw else refl
 
-  pub drop-none : (blocks : List Block) → BeginsElse test blocks → drop_while test blocks ≡ blocks
+  pub drop-none : (blocks : List Interval) → BeginsElse test blocks → drop_while test blocks ≡ blocks
   drop-none [] else = refl
   drop-none (b ∷ blocks) else = rw else refl
 
   -- blocks that all pass, and then others
-  pub take-all : (xs ys : List Block) → ((b : Block) → Mem b xs → test b ≡ true) → BeginsElse test ys → take_while test (xs ++ ys) ≡ xs
+  pub take-all : (xs ys : List Interval) → ((b : Interval) → Mem b xs → test b ≡ true) → BeginsElse test ys → take_while test (xs ++ ys) ≡ xs
   take-all [] ys all else = take-none ys else
   take-all (x ∷ xs) ys all else =
-      take-first (x ∷ (xs ++ ys)) (xs ++ ys) x refl (all x (inl refl)) ∙ ap (λ (l : List Block). x ∷ l) (take-all xs ys (λ b m. all b (inr m)) else)
+      take-first (x ∷ (xs ++ ys)) (xs ++ ys) x refl (all x (inl refl)) ∙ ap (λ (l : List Interval). x ∷ l) (take-all xs ys (λ b m. all b (inr m)) else)
 
-  pub drop-all : (xs ys : List Block) → ((b : Block) → Mem b xs → test b ≡ true) → BeginsElse test ys → drop_while test (xs ++ ys) ≡ ys
+  pub drop-all : (xs ys : List Interval) → ((b : Interval) → Mem b xs → test b ≡ true) → BeginsElse test ys → drop_while test (xs ++ ys) ≡ ys
   drop-all [] ys all else = drop-none ys else
   drop-all (x ∷ xs) ys all else = drop-first (x ∷ (xs ++ ys)) (xs ++ ys) x refl (all x (inl refl)) ∙ drop-all xs ys (λ b m. all b (inr m)) else
 
-  pub begins-else : (blocks : List Block) → ((b : Block) → Mem b blocks → test b ≡ false) → BeginsElse test blocks
+  pub begins-else : (blocks : List Interval) → ((b : Interval) → Mem b blocks → test b ≡ false) → BeginsElse test blocks
   begins-else [] none = tt
   begins-else (b ∷ blocks) none = none b (inl refl)
 
 -- a call gave some block
-pub given-some : (test : Block → Bool) (old new : List Block) (given : Option Block) → is_some given ≡ true → GivesPassing test old given new
-    → (b : Block) × (old ≡ b ∷ new) × (test b ≡ true)
+pub given-some : (test : Interval → Bool) (old new : List Interval) (given : Option Interval) → is_some given ≡ true → GivesPassing test old given new
+    → (b : Interval) × (old ≡ b ∷ new) × (test b ≡ true)
 given-some test old new None some gives = cc
 given-some test old new (Some b) some gives = (b, gives.0, gives.1)
 
-pub TakesForEach-begin : (meter : ℕ) (blocks : List Block) → TakesForEach meter meter blocks blocks
+pub TakesForEach-begin : (meter : ℕ) (blocks : List Interval) → TakesForEach meter meter blocks blocks
 TakesForEach-begin meter blocks = record { no_less = omega arith; at_most = omega arith }
 
-pub TakesForEach-next : (start before after : ℕ) (all now left : List Block) → TakesForEach start before all now → TakesForEach before after now left
+pub TakesForEach-next : (start before after : ℕ) (all now left : List Interval) → TakesForEach start before all now → TakesForEach before after now left
     → TakesForEach start after all left
 TakesForEach-next start before after all now left h next = record { no_less = omega arith; at_most = omega arith }

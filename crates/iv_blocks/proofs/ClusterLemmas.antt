@@ -20,7 +20,7 @@ use Rattle.iv_lines.specs.RecordValue.{RecordValue, record_cmp}
 use Rattle.iv_cover.specs.Blocks.{blocks_below, block_at}
 use Rattle.iv_cover.specs.TrackBlocks.{start_of, stop_of}
 use Rattle.iv_lines.specs.CoveredPositions.{on}
-use Rattle.iv_cover.specs.declared.block.Block.{Block}
+use Rattle.iv_lines.specs.declared.interval.Interval.{Interval}
 use Rattle.iv_cover.proofs.Groups.{mem-append}
 use Rattle.iv_lines.proofs.PrecedesLemmas.{Precedes, precedes-from}
 use Rattle.iv_lines.proofs.ListLemmas.{Mem, filter-agree, mem-filter}
@@ -38,21 +38,21 @@ use Rattle.iv_blocks.proofs.ComplementLemmas.{mem-values}
 -- ---- blocks up to a record
 
 -- a later record has all blocks before it that an earlier one has
-until-later : (q r : RecordValue) (b : Block) → Precedes q r → starts_until q.seq q.start b ≡ true → starts_until r.seq r.start b ≡ true
-until-later q r b precedes passes = elim (or_cases (nat_lt b.sequence q.seq) ((b.sequence == q.seq) && nat_le b.start q.start) passes) [
+until-later : (q r : RecordValue) (b : Interval) → Precedes q r → starts_until q.seq q.start b ≡ true → starts_until r.seq r.start b ≡ true
+until-later q r b precedes passes = elim (or_cases (nat_lt b.seq q.seq) ((b.seq == q.seq) && nat_le b.start q.start) passes) [
   | inl lower ↦
-      let low : b.sequence < q.seq = ltb-true _ _ lower in
+      let low : b.seq < q.seq = ltb-true _ _ lower in
       elim precedes [
-        | inl less ↦ or_left (nat_lt b.sequence r.seq) _ (lt-ltb b.sequence r.seq (omega (arith, less)))
-        | inr same ↦ or_left (nat_lt b.sequence r.seq) _ (lt-ltb b.sequence r.seq (omega (arith, same.0)))
+        | inl less ↦ or_left (nat_lt b.seq r.seq) _ (lt-ltb b.seq r.seq (omega (arith, less)))
+        | inr same ↦ or_left (nat_lt b.seq r.seq) _ (lt-ltb b.seq r.seq (omega (arith, same.0)))
       ]
   | inr here ↦
-      let both = and_parts (b.sequence == q.seq) (nat_le b.start q.start) here in
-      let seq : b.sequence ≡ q.seq = eqb-true _ _ both.0 in
+      let both = and_parts (b.seq == q.seq) (nat_le b.start q.start) here in
+      let seq : b.seq ≡ q.seq = eqb-true _ _ both.0 in
       let start : b.start ≤ q.start = leb-true _ _ both.1 in
       elim precedes [
-        | inl less ↦ or_left (nat_lt b.sequence r.seq) _ (lt-ltb b.sequence r.seq (omega (arith, seq, less)))
-        | inr same ↦ or_right (nat_lt b.sequence r.seq) _ (and_from _ _ (eq-eqb b.sequence r.seq (omega (arith, seq, same.0))) (le-leb b.start r.start (omega (arith, start, same.1))))
+        | inl less ↦ or_left (nat_lt b.seq r.seq) _ (lt-ltb b.seq r.seq (omega (arith, seq, less)))
+        | inr same ↦ or_right (nat_lt b.seq r.seq) _ (and_from _ _ (eq-eqb b.seq r.seq (omega (arith, seq, same.0))) (le-leb b.start r.start (omega (arith, start, same.1))))
       ]
 ]
 
@@ -62,54 +62,54 @@ later-rows r (x ∷ records) all q (inl at) = subst (λ y. Precedes r y) at (pre
 later-rows r (x ∷ records) all q (inr m) = later-rows r records all.1 q m
 
 -- these are the blocks that the walk has gone past: each starts up to each record that remains
-pub record IsPassed (number : ℕ) (all left : List Block) (records : List RecordValue) : Type 0 where
-  pub passed : List Block
+pub record IsPassed (number : ℕ) (all left : List Interval) (records : List RecordValue) : Type 0 where
+  pub passed : List Interval
   pub whole : all ≡ passed ++ left
   pub count : number ≡ length passed
-  pub until : (r : RecordValue) → Mem r records → (b : Block) → Mem b passed → starts_until r.seq r.start b ≡ true
+  pub until : (r : RecordValue) → Mem r records → (b : Interval) → Mem b passed → starts_until r.seq r.start b ≡ true
 
-pub IsPassed-begin : (all left : List Block) (records : List RecordValue) → left ≡ all → IsPassed 0 all left records
+pub IsPassed-begin : (all left : List Interval) (records : List RecordValue) → left ≡ all → IsPassed 0 all left records
 IsPassed-begin all left records same = record { passed = []; whole = sym same; count = refl; until = λ r m b never. absurd never }
 
-split : (test : Block → Bool) (blocks : List Block) → blocks ≡ take_while test blocks ++ drop_while test blocks
+split : (test : Interval → Bool) (blocks : List Interval) → blocks ≡ take_while test blocks ++ drop_while test blocks
 split test blocks = sym (take-append-drop (prefix_len test blocks) blocks)
 
-take-passes : (test : Block → Bool) (blocks : List Block) (b : Block) → Mem b (take_while test blocks) → test b ≡ true
+take-passes : (test : Interval → Bool) (blocks : List Interval) (b : Interval) → Mem b (take_while test blocks) → test b ≡ true
 take-passes test [] b m = absurd m
 take-passes test (x ∷ blocks) b m = go (λ later. take-passes test blocks b later) (test x) refl
   where
     go : (Mem b (take_while test blocks) → test b ≡ true) → (p : Bool) → test x ≡ p → test b ≡ true
-    go rest true is = elim (subst (λ (l : List Block). Mem b l) (take-first test (x ∷ blocks) blocks x refl is) m) [
+    go rest true is = elim (subst (λ (l : List Interval). Mem b l) (take-first test (x ∷ blocks) blocks x refl is) m) [
       | inl at ↦ ap test (sym at) ∙ is
       | inr later ↦ rest later
     ]
-    go rest false is = absurd (subst (λ (l : List Block). Mem b l) (take-none test (x ∷ blocks) is) m)
+    go rest false is = absurd (subst (λ (l : List Interval). Mem b l) (take-none test (x ∷ blocks) is) m)
 
 -- a stricter test takes no more
-take-fewer : (test more : Block → Bool) → ((b : Block) → test b ≡ true → more b ≡ true) → (blocks : List Block) → length (take_while test blocks) ≤ length (take_while more blocks)
+take-fewer : (test more : Interval → Bool) → ((b : Interval) → test b ≡ true → more b ≡ true) → (blocks : List Interval) → length (take_while test blocks) ≤ length (take_while more blocks)
 take-fewer test more weaker [] = omega arith
 take-fewer test more weaker (x ∷ blocks) = elim (cases_Bool (test x)) [
   | inl e ↦
       omega (
         arith,
         take-fewer test more weaker blocks,
-        ap (λ (l : List Block). length l) (take-first test (x ∷ blocks) blocks x refl e),
-        ap (λ (l : List Block). length l) (take-first more (x ∷ blocks) blocks x refl (weaker x e)),
+        ap (λ (l : List Interval). length l) (take-first test (x ∷ blocks) blocks x refl e),
+        ap (λ (l : List Interval). length l) (take-first more (x ∷ blocks) blocks x refl (weaker x e)),
       )
-  | inr e ↦ omega (arith, ap (λ (l : List Block). length l) (take-none test (x ∷ blocks) e))
+  | inr e ↦ omega (arith, ap (λ (l : List Interval). length l) (take-none test (x ∷ blocks) e))
 ]
 
-drop-begins : (test : Block → Bool) (blocks : List Block) → BeginsElse test (drop_while test blocks)
+drop-begins : (test : Interval → Bool) (blocks : List Interval) → BeginsElse test (drop_while test blocks)
 drop-begins test [] = tt
 drop-begins test (x ∷ blocks) = go (drop-begins test blocks) (test x) refl
   where
     go : BeginsElse test (drop_while test blocks) → (p : Bool) → test x ≡ p → BeginsElse test (drop_while test (x ∷ blocks))
-    go rest true is = subst (λ (l : List Block). BeginsElse test l) (sym (drop-first test (x ∷ blocks) blocks x refl is)) rest
-    go rest false is = subst (λ (l : List Block). BeginsElse test l) (sym (drop-none test (x ∷ blocks) is)) is
+    go rest true is = subst (λ (l : List Interval). BeginsElse test l) (sym (drop-first test (x ∷ blocks) blocks x refl is)) rest
+    go rest false is = subst (λ (l : List Interval). BeginsElse test l) (sym (drop-none test (x ∷ blocks) is)) is
 
-module _ (number more : ℕ) (all left after : List Block) (records rest : List RecordValue) (r : RecordValue) (h : IsPassed number all left records) (first : records ≡ r ∷ rest)
+module _ (number more : ℕ) (all left after : List Interval) (records rest : List RecordValue) (r : RecordValue) (h : IsPassed number all left records) (first : records ≡ r ∷ rest)
     (counted : more ≡ length (take_while (starts_until r.seq r.start) left)) (past : after ≡ drop_while (starts_until r.seq r.start) left) where
-  passes : (b : Block) → Mem b (h.passed ++ take_while (starts_until r.seq r.start) left) → starts_until r.seq r.start b ≡ true
+  passes : (b : Interval) → Mem b (h.passed ++ take_while (starts_until r.seq r.start) left) → starts_until r.seq r.start b ≡ true
   passes b m = elim (mem-append h.passed (take_while (starts_until r.seq r.start) left) b m) [
     | inl before ↦ h.until r (subst (λ (l : List RecordValue). Mem r l) (sym first) (inl refl)) b before
     | inr now ↦ take-passes (starts_until r.seq r.start) left b now
@@ -120,9 +120,9 @@ module _ (number more : ℕ) (all left after : List Block) (records rest : List 
       let sorted : AreInOrder (r ∷ rest) = subst (λ (l : List RecordValue). AreInOrder l) first ordered in
       record {
         passed = h.passed ++ take_while (starts_until r.seq r.start) left;
-        whole = h.whole ∙ ap (λ (l : List Block). h.passed ++ l) (split (starts_until r.seq r.start) left)
+        whole = h.whole ∙ ap (λ (l : List Interval). h.passed ++ l) (split (starts_until r.seq r.start) left)
             ∙ sym (append_assoc h.passed (take_while (starts_until r.seq r.start) left) (drop_while (starts_until r.seq r.start) left))
-            ∙ ap (λ (l : List Block). (h.passed ++ take_while (starts_until r.seq r.start) left) ++ l) (sym past);
+            ∙ ap (λ (l : List Interval). (h.passed ++ take_while (starts_until r.seq r.start) left) ++ l) (sym past);
         count = omega (arith, h.count, counted, length-append h.passed (take_while (starts_until r.seq r.start) left));
         until = λ q m b here. until-later r q b (later-rows r rest sorted.0 q m) (passes b here);
       }
@@ -130,31 +130,31 @@ module _ (number more : ℕ) (all left after : List Block) (records rest : List 
   -- those that were counted are no longer left
   pub left-is : length left ≡ more + length after
   left-is =
-      let parts = ap (λ (l : List Block). length l) (split (starts_until r.seq r.start) left) in
+      let parts = ap (λ (l : List Interval). length l) (split (starts_until r.seq r.start) left) in
       omega (
         arith,
         parts,
         length-append (take_while (starts_until r.seq r.start) left) (drop_while (starts_until r.seq r.start) left),
         counted,
-        ap (λ (l : List Block). length l) past,
+        ap (λ (l : List Interval). length l) past,
       )
 
   -- the number is that of all blocks up to the record
   pub number-is : number + more ≡ length (take_while (starts_until r.seq r.start) all)
   number-is =
       let parts : all ≡ (h.passed ++ take_while (starts_until r.seq r.start) left) ++ drop_while (starts_until r.seq r.start) left
-      = h.whole ∙ ap (λ (l : List Block). h.passed ++ l) (split (starts_until r.seq r.start) left)
+      = h.whole ∙ ap (λ (l : List Interval). h.passed ++ l) (split (starts_until r.seq r.start) left)
       ∙ sym (append_assoc h.passed (take_while (starts_until r.seq r.start) left) (drop_while (starts_until r.seq r.start) left)) in
       let same = ap (take_while (starts_until r.seq r.start)) parts
       ∙ take-all (starts_until r.seq r.start) (h.passed ++ take_while (starts_until r.seq r.start) left) (drop_while (starts_until r.seq r.start) left) passes (drop-begins (starts_until r.seq r.start) left) in
-      omega (arith, h.count, counted, length-append h.passed (take_while (starts_until r.seq r.start) left), ap (λ (l : List Block). length l) same)
+      omega (arith, h.count, counted, length-append h.passed (take_while (starts_until r.seq r.start) left), ap (λ (l : List Interval). length l) same)
 
-pub IsPassed-few : (number more : ℕ) (all left : List Block) (records : List RecordValue) (r : RecordValue) → IsPassed number all left records → more ≡ length (take_while (starts_until r.seq r.start) left)
+pub IsPassed-few : (number more : ℕ) (all left : List Interval) (records : List RecordValue) (r : RecordValue) → IsPassed number all left records → more ≡ length (take_while (starts_until r.seq r.start) left)
     → (number + more ≤ length all) × (length left ≤ length all)
 IsPassed-few number more all left records r h counted =
-    let whole : length all ≡ length h.passed + length left = ap (λ (l : List Block). length l) h.whole ∙ length-append h.passed left in
+    let whole : length all ≡ length h.passed + length left = ap (λ (l : List Interval). length l) h.whole ∙ length-append h.passed left in
     let part : length left ≡ length (take_while (starts_until r.seq r.start) left) + length (drop_while (starts_until r.seq r.start) left)
-    = ap (λ (l : List Block). length l) (split (starts_until r.seq r.start) left) ∙ length-append (take_while (starts_until r.seq r.start) left) (drop_while (starts_until r.seq r.start) left) in
+    = ap (λ (l : List Interval). length l) (split (starts_until r.seq r.start) left) ∙ length-append (take_while (starts_until r.seq r.start) left) (drop_while (starts_until r.seq r.start) left) in
     (omega (arith, h.count, counted, whole, part), omega (arith, whole))
 
 -- ---- the number by the definition
@@ -253,9 +253,9 @@ module _ (o : BlockOptions) (g : Sequences) (width : ℕ) (records : List Record
       ∙ ap (take_while (starts_until s p)) (map-append interval_of (lower ++ here) later)
       ∙ take-all (starts_until s p) (map interval_of (lower ++ here)) (map interval_of later) (before s p) (begins-else (starts_until s p) (map interval_of later) (after s p)) in
       let long : length (map interval_of (lower ++ here)) ≡ length lower + length here = length-map (lower ++ here) interval_of ∙ length-append lower here in
-      omega (arith, ap (λ (l : List Block). length l) same, long, ranks-count s, side-count s (p + 1))
+      omega (arith, ap (λ (l : List Interval). length l) same, long, ranks-count s, side-count s (p + 1))
     where
-      before : (s p : ℕ) (b : Block) → Mem b (map interval_of (all_entries look (sequence_length g) s ++ side_entries look s false (p + 1))) → starts_until s p b ≡ true
+      before : (s p : ℕ) (b : Interval) → Mem b (map interval_of (all_entries look (sequence_length g) s ++ side_entries look s false (p + 1))) → starts_until s p b ≡ true
       before s p b m =
           let found = mem-map interval_of (all_entries look (sequence_length g) s ++ side_entries look s false (p + 1)) b m in
           rw (← found.2) (elim (mem-append (all_entries look (sequence_length g) s) (side_entries look s false (p + 1)) found.0 found.1) [
@@ -271,7 +271,7 @@ module _ (o : BlockOptions) (g : Sequences) (width : ℕ) (records : List Record
                 or_right (nat_lt found.0.0.0 s) _ (and_from _ _ (eq-eqb found.0.0.0 s at.0) (le-leb found.0.0.2 p (omega (arith, at.1))))
           ])
 
-      after : (s p : ℕ) (b : Block) → Mem b (map interval_of (from (s, false, p + 1) entries)) → starts_until s p b ≡ false
+      after : (s p : ℕ) (b : Interval) → Mem b (map interval_of (from (s, false, p + 1) entries)) → starts_until s p b ≡ false
       after s p b m =
           let found = mem-map interval_of (from (s, false, p + 1) entries) b m in
           let e = found.0 in

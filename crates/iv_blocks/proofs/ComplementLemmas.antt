@@ -14,7 +14,7 @@ use Rattle.iv_lines.specs.CoveredPositions.{covers}
 use Rattle.iv_cover.specs.Depth.{depth}
 use Rattle.iv_cover.specs.Runs.{empty_runs}
 use Rattle.iv_cover.specs.TrackBlocks.{start_of, stop_of}
-use Rattle.iv_cover.specs.declared.block.Block.{Block}
+use Rattle.iv_lines.specs.declared.interval.Interval.{Interval}
 use Rattle.iv_cover.proofs.Cover.{Free, Covered, some_start, block_at_start, block_at-some}
 use Rattle.iv_cover.proofs.Groups.{mem-left, mem-right, mem-append}
 use Rattle.iv_cover.proofs.Positions.{values, values-none, values-some, values-agree, values-none_from}
@@ -35,49 +35,49 @@ use Rattle.iv_blocks.proofs.UnstrandedLemmas.{all-lie, map-flat_map}
 -- ---- one block after another
 
 -- the rows up to the next block, and the others
-pub gaps-next : (name : List ℕ) (shown : Bool) (start length : ℕ) (blocks after : List Block) (b : Block) → blocks ≡ b ∷ after
+pub gaps-next : (name : List ℕ) (shown : Bool) (start length : ℕ) (blocks after : List Interval) (b : Interval) → blocks ≡ b ∷ after
     → flat_map (gap_row name) (gaps_between shown start length blocks)
     ≡ flat_map (gap_row name) (gap_between start b.start) ++ flat_map (gap_row name) (gaps_between true b.stop length after)
 gaps-next name shown start length blocks after b first = rw first (flat_map-append (gap_row name) (gap_between start b.start) (gaps_between true b.stop length after))
 
 -- the row past the last block
-pub gaps-last : (name : List ℕ) (shown : Bool) (start length : ℕ) (blocks : List Block) → shown ≡ true → blocks ≡ []
+pub gaps-last : (name : List ℕ) (shown : Bool) (start length : ℕ) (blocks : List Interval) → shown ≡ true → blocks ≡ []
     → flat_map (gap_row name) (gaps_between shown start length blocks) ≡ flat_map (gap_row name) (gap_between start length)
 gaps-last name shown start length blocks is none = rw (is, none) refl
 
 -- ---- one sequence after another
 
 -- each block is on its sequence
-abbrev AreOwn : Sequences → (ℕ → List Block) → Type 0
-AreOwn g own = (s : ℕ) (b : Block) → Mem b (own s) → (b.sequence ≡ s) × (b.start ≤ sequence_length g s)
+abbrev AreOwn : Sequences → (ℕ → List Interval) → Type 0
+AreOwn g own = (s : ℕ) (b : Interval) → Mem b (own s) → (b.seq ≡ s) × (b.start ≤ sequence_length g s)
 
-later : (g : Sequences) (own : ℕ → List Block) → AreOwn g own → (seq n low : ℕ) → low < seq → (b : Block) → Mem b (flat_map own (range_with_len seq n)) → starts_until low (sequence_length g low) b ≡ false
+later : (g : Sequences) (own : ℕ → List Interval) → AreOwn g own → (seq n low : ℕ) → low < seq → (b : Interval) → Mem b (flat_map own (range_with_len seq n)) → starts_until low (sequence_length g low) b ≡ false
 later g own are seq zero low high b m = absurd m
 later g own are seq (suc n) low high b m = elim (mem-append (own seq) (flat_map own (range_with_len (seq + 1) n)) b m) [
   | inl here ↦
       let at = (are seq b here).0 in
-      rw (le-ltb b.sequence low (omega (arith, at)), ne_eqb b.sequence low (λ is. absurd (omega (arith, is, at)))) refl
+      rw (le-ltb b.seq low (omega (arith, at)), ne_eqb b.seq low (λ is. absurd (omega (arith, is, at)))) refl
   | inr rest ↦ later g own are (seq + 1) n low (omega arith) b rest
 ]
 
 -- the sequences' own blocks give their rows
-pub texts-are : (wanted : Bool) (g : Sequences) (own : ℕ → List Block) → AreOwn g own → (n seq : ℕ)
+pub texts-are : (wanted : Bool) (g : Sequences) (own : ℕ → List Interval) → AreOwn g own → (n seq : ℕ)
     → texts wanted g seq n (flat_map own (range_with_len seq n)) ≡ flat_map (λ s. sequence_text wanted g s (own s)) (range_with_len seq n)
 unfolding texts
 texts-are wanted g own are zero seq = refl
 texts-are wanted g own are (suc n) seq =
-    let test : Block → Bool = starts_until seq (sequence_length g seq) in
-    let rest : List Block = flat_map own (range_with_len (seq + 1) n) in
-    let all : (b : Block) → Mem b (own seq) → test b ≡ true = λ b m.
+    let test : Interval → Bool = starts_until seq (sequence_length g seq) in
+    let rest : List Interval = flat_map own (range_with_len (seq + 1) n) in
+    let all : (b : Interval) → Mem b (own seq) → test b ≡ true = λ b m.
     let at = are seq b m in
-    let same : (b.sequence == seq) ≡ true = eq-eqb b.sequence seq at.0 in
+    let same : (b.seq == seq) ≡ true = eq-eqb b.seq seq at.0 in
     or_right _ _ (and_from _ _ same (le-leb b.start (sequence_length g seq) at.1)) in
     let else : BeginsElse test rest = begins-else test rest (later g own are (seq + 1) n seq (omega arith)) in
-    ap₂ (λ (l m : List Block). sequence_text wanted g seq l ++ texts wanted g (seq + 1) n m) (take-all test (own seq) rest all else) (drop-all test (own seq) rest all else)
+    ap₂ (λ (l m : List Interval). sequence_text wanted g seq l ++ texts wanted g (seq + 1) n m) (take-all test (own seq) rest all else) (drop-all test (own seq) rest all else)
     ∙ ap (λ (l : List ℕ). sequence_text wanted g seq (own seq) ++ l) (texts-are wanted g own are n (seq + 1))
 
 -- the rows of the next sequence, and those of the others
-pub texts-next : (wanted : Bool) (g : Sequences) (seq length : ℕ) (name : List ℕ) (blocks after : List Block) → seq < seq_count g
+pub texts-next : (wanted : Bool) (g : Sequences) (seq length : ℕ) (name : List ℕ) (blocks after : List Interval) → seq < seq_count g
     → name ≡ sequence_name g seq → length ≡ sequence_length g seq → after ≡ drop_while (starts_until seq length) blocks
     → texts wanted g seq (seq_count g - seq) blocks
     ≡ flat_map (gap_row name) (gaps_between wanted 0 length (take_while (starts_until seq length) blocks)) ++ texts wanted g (seq + 1) (seq_count g - (seq + 1)) after
@@ -86,7 +86,7 @@ texts-next wanted g seq length name blocks after low named long past =
     let e : seq_count g - seq ≡ suc (seq_count g - (seq + 1)) = omega arith in
     rw (past, named, long, e) refl
 
-pub texts-none : (wanted : Bool) (g : Sequences) (seq : ℕ) (blocks : List Block) → seq_count g ≤ seq → texts wanted g seq (seq_count g - seq) blocks ≡ []
+pub texts-none : (wanted : Bool) (g : Sequences) (seq : ℕ) (blocks : List Interval) → seq_count g ≤ seq → texts wanted g seq (seq_count g - seq) blocks ≡ []
 unfolding texts
 texts-none wanted g seq blocks high = let e : seq_count g - seq ≡ zero = omega arith in rw e refl
 
@@ -145,29 +145,29 @@ depth-none records s p free =
 -- ---- the blocks of a sequence
 
 -- where a block is that starts at b.0 and stops at b.1.0
-abbrev pub place_of : ℕ → ℕ → Option (ℕ × List RecordValue) → Option Block
-place_of s x at = option_map (λ (b : ℕ × List RecordValue). record { sequence = s; start = x; stop = b.0 }) at
+abbrev pub place_of : ℕ → ℕ → Option (ℕ × List RecordValue) → Option Interval
+place_of s x at = option_map (λ (b : ℕ × List RecordValue). record { seq = s; start = x; stop = b.0 }) at
 
 place-of : (o : BlockOptions) (g : Sequences) (s x : ℕ) (at : Option (ℕ × List RecordValue))
     → option_map interval_of (option_map (entry_of o g s false) (option_map (λ b. (x, b)) at)) ≡ place_of s x at
 place-of o g s x None = refl
 place-of o g s x (Some b) = refl
 
-place-is_placed : (s x : ℕ) (at : Option (ℕ × List RecordValue)) (b : Block) → place_of s x at ≡ Some b → (b.sequence ≡ s) × (b.start ≡ x)
+place-is_placed : (s x : ℕ) (at : Option (ℕ × List RecordValue)) (b : Interval) → place_of s x at ≡ Some b → (b.seq ≡ s) × (b.start ≡ x)
 place-is_placed s x None b is = cc
 place-is_placed s x (Some p) b is = (cc, cc)
 
 -- where a block is, the gaps are shown
-shown-some : (from to : ℕ) (blocks : List Block) → blocks ≢ [] → gaps_between false from to blocks ≡ gaps_between true from to blocks
+shown-some : (from to : ℕ) (blocks : List Interval) → blocks ≢ [] → gaps_between false from to blocks ≡ gaps_between true from to blocks
 shown-some from to [] some = absurd (some refl)
 shown-some from to (b ∷ blocks) some = refl
 
 -- where the block on a sequence is that starts at a position, if there is one
-abbrev pub interval_at : List RecordValue → ℕ → ℕ → Option Block
+abbrev pub interval_at : List RecordValue → ℕ → ℕ → Option Interval
 interval_at records s x = place_of s x (block_at start_of stop_of 0 (group false s false records) x)
 
 -- where the blocks on a sequence are
-abbrev pub intervals_on : Sequences → List RecordValue → ℕ → List Block
+abbrev pub intervals_on : Sequences → List RecordValue → ℕ → List Interval
 intervals_on g records s = values (interval_at records s) (sequence_length g s)
 
 module _ (g : Sequences) (records : List RecordValue) (lie : All (IsOnGenome g) records) where
@@ -198,9 +198,9 @@ module _ (g : Sequences) (records : List RecordValue) (lie : All (IsOnGenome g) 
       let stop : ℕ = block_stop start_of stop_of 0 (group false s false records) first.0 in
       let block = block_at-some start_of stop_of 0 (group false s false records) first.0 stop (λ q m. (within s q m).0)
       (block_at_start start_of stop_of 0 (group false s false records) first.0 (λ q m. (within s q m).0) first.2) in
-      let b : Block = record { sequence = s; start = first.0; stop = stop } in
+      let b : Interval = record { seq = s; start = first.0; stop = stop } in
       let there = value-mem (interval_at records s) (sequence_length g s) first.0 b (omega (arith, first.1, fits)) (ap (place_of s first.0) block) in
-      subst (λ (l : List Block). Mem b l) none there
+      subst (λ (l : List Interval). Mem b l) none there
 
   -- and one without has none
   own-none : (s : ℕ) → list_any (λ r. r.seq == s) records ≡ false → intervals_on g records s ≡ []

@@ -7,7 +7,7 @@ use Rattle.iv_lines.specs.RecordValue.{RecordValue}
 use Rattle.iv_cover.specs.Blocks.{is_block_start, block_stop, block_at}
 use Rattle.iv_cover.specs.Runs.{Run, empty_runs}
 use Rattle.iv_cover.specs.TrackBlocks.{start_of, stop_of}
-use Rattle.iv_cover.specs.declared.block.Block.{Block}
+use Rattle.iv_lines.specs.declared.interval.Interval.{Interval}
 use Rattle.iv_cover.proofs.BlockLemmas.{covered-in_block}
 use Rattle.iv_cover.proofs.Cover.{Free, Covered, Lasting, IsBlock, cases_covered, block_at_start, block-test, block_at-some, block_at-none, block_unique, none_within}
 use Rattle.iv_cover.proofs.EmptyLemmas.{empty_runs-none, empty_runs-run, empty_runs-skip}
@@ -29,8 +29,8 @@ runs-gap f from mid to low high zeros ends = go (cases_lt from mid)
 module _ (G : List RecordValue) (f : ℕ → ℕ) (s to : ℕ) (lasting : Lasting start_of stop_of 0 G) (within : (q : RecordValue) → Mem q G → q.stop ≤ to)
     (some : (p : ℕ) → Covered start_of stop_of 0 G (suc p) → f p ≢ 0) (none : (p : ℕ) → Free start_of stop_of 0 G (suc p) → f p ≡ 0) where
   -- where the block of a position is, if one starts there
-  abbrev pub is_placed : ℕ → Option Block
-  is_placed x = option_map (λ (b : ℕ × List RecordValue). record { sequence = s; start = x; stop = b.0 }) (block_at start_of stop_of 0 G x)
+  abbrev pub is_placed : ℕ → Option Interval
+  is_placed x = option_map (λ (b : ℕ × List RecordValue). record { seq = s; start = x; stop = b.0 }) (block_at start_of stop_of 0 G x)
 
   -- the blocks from position p on, if all others stop at `from` or before
   pub gaps-are : (k p from : ℕ) → p + k ≡ to → from ≤ to → ((q : ℕ) → from ≤ q → q < p → f q ≡ 0)
@@ -53,8 +53,8 @@ module _ (G : List RecordValue) (f : ℕ → ℕ) (s to : ℕ) (lasting : Lastin
       go rest (inl e) =
           let t : ℕ = block_stop start_of stop_of 0 G p in
           let b = block_at_start start_of stop_of 0 G p lasting e in
-          let at : is_placed p ≡ Some (record { sequence = s; start = p; stop = t })
-          = ap (option_map (λ (b : ℕ × List RecordValue). record { sequence = s; start = p; stop = b.0 })) (block_at-some start_of stop_of 0 G p t lasting b) in
+          let at : is_placed p ≡ Some (record { seq = s; start = p; stop = t })
+          = ap (option_map (λ (b : ℕ × List RecordValue). record { seq = s; start = p; stop = b.0 })) (block_at-some start_of stop_of 0 G p t lasting b) in
           let low : from ≤ p = elim (cases_lt p from) [
             | inl inner ↦ absurd (both_ways _ (inside p (omega arith) inner) e)
             | inr past ↦ past
@@ -76,7 +76,7 @@ module _ (G : List RecordValue) (f : ℕ → ℕ) (s to : ℕ) (lasting : Lastin
           ∙ sym skip
       go rest (inr e) =
           let at : is_placed p ≡ None
-          = ap (option_map (λ (b : ℕ × List RecordValue). record { sequence = s; start = p; stop = b.0 })) (block_at-none start_of stop_of 0 G p e) in
+          = ap (option_map (λ (b : ℕ × List RecordValue). record { seq = s; start = p; stop = b.0 })) (block_at-none start_of stop_of 0 G p e) in
           let here : from ≤ p → f p ≡ 0 = λ low. elim (cases_covered start_of stop_of 0 G (suc p)) [
             | inl covered ↦
                 let c = covered-in_block start_of stop_of 0 G (suc p) lasting covered in

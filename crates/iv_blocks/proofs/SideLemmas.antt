@@ -5,7 +5,7 @@ use Rattle.std.proofs.lemmas.List.Elements.{filter-append}
 use Rattle.iv_lines.specs.RecordValue.{RecordValue}
 use Rattle.iv_blocks.specs.Inside.Groups.{is_on}
 use Rattle.iv_blocks.specs.declared.group.Side.TheVariants.{Both}
-use Rattle.iv_cover.specs.declared.block.Block.{Block}
+use Rattle.iv_lines.specs.declared.interval.Interval.{Interval}
 use Rattle.iv_cover.specs.TrackBlocks.{with_members}
 use Rattle.iv_cover.specs.Inside.RemainingBlocks.{is_joined, remaining_blocks}
 use Rattle.iv_cover.proofs.RemainingLemmas.{remaining-joined}
@@ -41,17 +41,17 @@ pub passed : (n : ℕ) (xs : List RecordValue) (r : RecordValue) (rs : List Reco
 passed n xs r rs at = let next = drop-next n xs r rs at in rw add-one (next.0, next.1)
 
 -- a record that does not pass changes nothing
-pub over : (d : ℕ) (p : RecordValue → Bool) (b : Block) (n : ℕ) (xs : List RecordValue) (r : RecordValue) (rs : List RecordValue) → drop n xs ≡ r ∷ rs → p r ≡ false
+pub over : (d : ℕ) (p : RecordValue → Bool) (b : Interval) (n : ℕ) (xs : List RecordValue) (r : RecordValue) (rs : List RecordValue) → drop n xs ≡ r ∷ rs → p r ≡ false
     → remaining_blocks d (Some (with_members b (filter p (take n xs)))) (filter p (r ∷ rs)) ≡ remaining_blocks d (Some (with_members b (filter p (take (n + 1) xs)))) (filter p rs)
 over d p b n xs r rs at e =
     ap₂ (λ (m l : List RecordValue). remaining_blocks d (Some (with_members b m)) l) (sym (off-last p n xs r rs at e)) (off-first p r rs e)
 
 -- one that passes joins the block
-pub joins : (d : ℕ) (p : RecordValue → Bool) (b c : Block) (n : ℕ) (xs : List RecordValue) (r : RecordValue) (rs : List RecordValue) → drop n xs ≡ r ∷ rs → p r ≡ true
+pub joins : (d : ℕ) (p : RecordValue → Bool) (b c : Interval) (n : ℕ) (xs : List RecordValue) (r : RecordValue) (rs : List RecordValue) → drop n xs ≡ r ∷ rs → p r ≡ true
     → is_joined d (with_members b (filter p (take n xs))) r ≡ true
-    → c ≡ record { sequence = b.sequence; start = b.start; stop = max b.stop r.stop }
+    → c ≡ record { seq = b.seq; start = b.start; stop = max b.stop r.stop }
     → remaining_blocks d (Some (with_members b (filter p (take n xs)))) (filter p (r ∷ rs)) ≡ remaining_blocks d (Some (with_members c (filter p (take (n + 1) xs)))) (filter p rs)
 joins d p b c n xs r rs at e joined same =
     ap (remaining_blocks d (Some (with_members b (filter p (take n xs))))) (on-first p r rs e)
     ∙ remaining-joined d (with_members b (filter p (take n xs))) r (filter p rs) joined
-    ∙ sym (ap₂ (λ (m : Block) (l : List RecordValue). remaining_blocks d (Some (with_members m l)) (filter p rs)) same (on-last p n xs r rs at e))
+    ∙ sym (ap₂ (λ (m : Interval) (l : List RecordValue). remaining_blocks d (Some (with_members m l)) (filter p rs)) same (on-last p n xs r rs at e))

@@ -17,7 +17,7 @@ use Rattle.iv_lines.proofs.ListLemmas.{filter-agree}
 use Rattle.iv_ledger.specs.Entries.{IsLedger, value_at}
 use Rattle.iv_track.proofs.CountedLemmas.{given-items}
 use Rattle.iv_cover.specs.Inside.RemainingBlocks.{remaining_blocks, is_joined}
-use Rattle.iv_cover.specs.declared.block.Block.{Block}
+use Rattle.iv_lines.specs.declared.interval.Interval.{Interval}
 use Rattle.iv_cover.specs.declared.column.ColumnSummary.{ColumnSummary}
 use Rattle.iv_cover.proofs.RemainingLemmas.{remaining-begun, remaining-joined, remaining-split_up}
 use Rattle.iv_blocks.specs.Inside.Groups.{is_in_group}
@@ -97,25 +97,25 @@ module _ (o : BlockOptions) (g : Sequences) (width : ℕ) (records : List Record
 
 module _ (g : Sequences) (summaries : List ColumnSummary) (d : ℕ) where
   -- the first record opens a block
-  pub entries-begun : (r : RecordValue) (records : List RecordValue) (block : Block) → block ≡ record { sequence = r.seq; start = r.start; stop = r.stop }
+  pub entries-begun : (r : RecordValue) (records : List RecordValue) (block : Interval) → block ≡ record { seq = r.seq; start = r.start; stop = r.stop }
       → entries_with g summaries d [] block (r ∷ []) records ≡ map (kept_entry g summaries) (remaining_blocks d None (r ∷ records))
   entries-begun r records block is = ap (map (kept_entry g summaries)) (sym (remaining-begun d r records block is))
 
-  pub entries-alike : (es fs : Entries) (b c : Block) (ms ns records : List RecordValue) → es ≡ fs → b ≡ c → ms ≡ ns → entries_with g summaries d es b ms records ≡ entries_with g summaries d fs c ns records
+  pub entries-alike : (es fs : Entries) (b c : Interval) (ms ns records : List RecordValue) → es ≡ fs → b ≡ c → ms ≡ ns → entries_with g summaries d es b ms records ≡ entries_with g summaries d fs c ns records
   entries-alike es fs b c ms ns records p q r = λ i. entries_with g summaries d (p i) (q i) (r i) records
 
-  module _ (entries : Entries) (block : Block) (members : List RecordValue) (r : RecordValue) (records : List RecordValue) (next : Block)
-      (next_is : next ≡ record { sequence = r.seq; start = r.start; stop = r.stop }) (test : Bool) (test_is : test ≡ ((next.sequence == block.sequence) && nat_le next.start (block.stop + d))) where
+  module _ (entries : Entries) (block : Interval) (members : List RecordValue) (r : RecordValue) (records : List RecordValue) (next : Interval)
+      (next_is : next ≡ record { seq = r.seq; start = r.start; stop = r.stop }) (test : Bool) (test_is : test ≡ ((next.seq == block.seq) && nat_le next.start (block.stop + d))) where
     is_test : is_joined d (with_members block members) r ≡ test
-    is_test = sym (test_is ∙ ap (λ (n : Block). (n.sequence == block.sequence) && nat_le n.start (block.stop + d)) next_is)
+    is_test = sym (test_is ∙ ap (λ (n : Interval). (n.seq == block.seq) && nat_le n.start (block.stop + d)) next_is)
 
     -- a record that joins the open block
-    pub entries-joined : (after : Block) → after ≡ record { sequence = block.sequence; start = block.start; stop = max block.stop next.stop } → test ≡ true
+    pub entries-joined : (after : Interval) → after ≡ record { seq = block.seq; start = block.start; stop = max block.stop next.stop } → test ≡ true
         → entries_with g summaries d entries after (members ++ r ∷ []) records ≡ entries_with g summaries d entries block members (r ∷ records)
     entries-joined after after_is yes_test =
-        let whole : after ≡ record { sequence = block.sequence; start = block.start; stop = max block.stop r.stop }
-        = after_is ∙ ap (λ (n : Block). record { sequence = block.sequence; start = block.start; stop = max block.stop n.stop }) next_is in
-        ap (λ (b : Block). entries_with g summaries d entries b (members ++ r ∷ []) records) whole
+        let whole : after ≡ record { seq = block.seq; start = block.start; stop = max block.stop r.stop }
+        = after_is ∙ ap (λ (n : Interval). record { seq = block.seq; start = block.start; stop = max block.stop n.stop }) next_is in
+        ap (λ (b : Interval). entries_with g summaries d entries b (members ++ r ∷ []) records) whole
         ∙ ap (λ (bs : List BlockWithMembers). entries ++ map (kept_entry g summaries) bs) (sym (remaining-joined d (with_members block members) r records (is_test ∙ yes_test)))
 
     -- a record that closes it

@@ -2,13 +2,13 @@
 ghost use Rattle.std.specs.Prelude.{◌≡◌, ℕ, List, [], None, map};
 ghost use Rattle.std.specs.Map.Iter.{TakesFirst};
 ghost use Rattle.iv_ledger.specs.Steps.{TakesUpTo};
-ghost use Rattle.iv_cover.specs.declared.block.Block.{Block};
+ghost use Rattle.iv_lines.specs.declared.interval.Interval.{Interval};
 ghost use Rattle.iv_blocks.specs.Inside.BlockCursor.{interval_of, starts_until, GivesPassing, TakesForEach};
 
 use crate::block_ledger::LedgerWalk;
 use crate::blocks::Blocks;
-use iv_cover::Block;
 use iv_ledger::Meter;
+use iv_lines::Interval;
 use std::alloc::Allocator;
 use std::marker::Model;
 
@@ -18,14 +18,14 @@ pub(crate) trait BlocksAhead {
     type Meter;
 
     /// The blocks that are left.
-    ghost left: { Self → List Block };
+    ghost left: { Self → List Interval };
     /// How many steps are counted.
     ghost steps: { Self.Meter → ℕ };
 
     /// The next block, if it starts at this position of the sequence of this rank, or before it.
     ///
     /// At most one step for a block, and none if there is no such block.
-    fn next_until(&mut self, seq: u32, position: u64, counter: &mut Self::Meter) -> Option<Block>
+    fn next_until(&mut self, seq: u32, position: u64, counter: &mut Self::Meter) -> Option<Interval>
         ensures next { GivesPassing (starts_until seq position) (left self.old) result (left self.new) }
         ensures steps { TakesForEach (steps counter.old) (steps counter.new) (left self.old) (left self.new) };
 }
@@ -37,15 +37,15 @@ pub(crate) trait BlocksAhead {
 pub(crate) struct BlockCursor<'a, A: Allocator + Copy> {
     walk: LedgerWalk<'a, A>,
     // The block that was read ahead, `None` after the last.
-    next: Option<Block>,
+    next: Option<Interval>,
 }
 
 impl<'a, A: Allocator + Copy> Model for BlockCursor<'a, A> {
     ghost use Rattle.std.specs.Prelude.{◌≡◌, List, [], None};
-    ghost use Rattle.iv_cover.specs.declared.block.Block.{Block};
+    ghost use Rattle.iv_lines.specs.declared.interval.Interval.{Interval};
     ghost use Rattle.iv_blocks.specs.Inside.BlockCursor.{ahead_of};
 
-    ghost Value = { List Block };
+    ghost Value = { List Interval };
 
     ghost view = { λ a. ahead_of a.next a.walk };
 
@@ -71,7 +71,7 @@ impl<'a, A: Allocator + Copy> BlocksAhead for BlockCursor<'a, A> {
 
     ghost steps = { λ meter. meter };
 
-    fn next_until(&mut self, seq: u32, position: u64, meter: &mut Meter) -> Option<Block> {
+    fn next_until(&mut self, seq: u32, position: u64, meter: &mut Meter) -> Option<Interval> {
         let block = self.next?;
         if !is_until(block, seq, position) {
             return None;
@@ -82,22 +82,22 @@ impl<'a, A: Allocator + Copy> BlocksAhead for BlockCursor<'a, A> {
 }
 
 /// Whether the block starts at this position of the sequence of this rank, or before it.
-fn is_until(block: Block, seq: u32, position: u64) -> bool
+fn is_until(block: Interval, seq: u32, position: u64) -> bool
     ensures { result ≡ starts_until seq position block }
 {
-    block.sequence < seq || (block.sequence == seq && u64::from(block.start) <= position)
+    block.seq < seq || (block.seq == seq && u64::from(block.start) <= position)
 }
 
 /// Where the next block is, `None` after the last. One step.
-fn read<A: Allocator + Copy>(walk: &mut LedgerWalk<'_, A>, meter: &mut Meter) -> Option<Block>
+fn read<A: Allocator + Copy>(walk: &mut LedgerWalk<'_, A>, meter: &mut Meter) -> Option<Interval>
     ensures next { TakesFirst (λ b. b) (map interval_of walk.old) result (map interval_of walk.new) }
     ensures last { result ≡ None → walk.new ≡ [] }
     ensures step { TakesUpTo meter.old meter.new 1 }
 {
     let entry = walk.next(meter)?;
-    let (sequence, _, start) = entry.key;
-    Some(Block {
-        sequence,
+    let (seq, _, start) = entry.key;
+    Some(Interval {
+        seq,
         start,
         stop: entry.stop,
     })

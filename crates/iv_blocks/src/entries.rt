@@ -10,9 +10,9 @@ ghost use Rattle.iv_blocks.specs.Inside.UnstrandedBlocks.{kept_entry, GivesStops
 use crate::group::Key;
 use crate::kept_block::KeptBlock;
 use crate::options::BlockOptions;
-use iv_cover::{Block, BlockWalk, results_in};
+use iv_cover::{BlockWalk, results_in};
 use iv_ledger::Meter;
-use iv_lines::{Batches, Genome};
+use iv_lines::{Batches, Genome, Interval};
 use iv_track::{Track, TrackRecord};
 use std::alloc::{AllocError, Allocator};
 use std::marker::Model;
@@ -37,13 +37,13 @@ pub(crate) fn entries_of<A: Allocator + Copy>(
         return Ok(entries);
     };
     first.lemma_of_interval();
-    let mut block = Block::of(&first);
+    let mut block = Interval::of(&first);
     let mut members = Vec::new(alloc);
     let mut memory = Vec::new(alloc);
     members.push(first)?;
     while let Some(record) = records.next(meter) {
         record.lemma_of_interval();
-        let next = Block::of(&record);
+        let next = Interval::of(&record);
         if block.is_joined_by(next, options.distance) {
             block = block.with(next);
         } else {
@@ -79,14 +79,14 @@ fn push_entry<A: Allocator + Copy>(
     alloc: A,
     options: &BlockOptions,
     genome: &Genome<A>,
-    block: Block,
+    block: Interval,
     members: &[TrackRecord<'_, A>],
     memory: Vec<u8, A>,
     entries: &mut Batches<(Key, KeptBlock<A>), A>,
 ) -> Result<Vec<u8, A>, AllocError>
     ensures { OnOk result (entries.new ≡ entries.old ++ kept_entry genome.now (listed options.now.summaries) (with_members block members.now) ∷ []) }
 {
-    let name = genome.name_or_empty(block.sequence);
+    let name = genome.name_or_empty(block.seq);
     let results = results_in(alloc, options.summaries.as_slice(), name, members, memory)?;
     let kept = KeptBlock::copy_of(alloc, block.stop, results.as_slice())?;
     entries.push(MOST_IN_BATCH, (key_of(block), kept))?;
@@ -94,10 +94,10 @@ fn push_entry<A: Allocator + Copy>(
 }
 
 /// Where a block is kept if strands are together.
-fn key_of(block: Block) -> Key
-    ensures { result ≡ (block.sequence, false, block.start) }
+fn key_of(block: Interval) -> Key
+    ensures { result ≡ (block.seq, false, block.start) }
 {
-    (block.sequence, false, block.start)
+    (block.seq, false, block.start)
 }
 
 /// An iterator over the blocks of a walk: where each is kept, and where it stops.

@@ -11,14 +11,15 @@ ghost use Rattle.iv_cover.specs.TrackBlocks.{blocks_of, with_members};
 ghost use Rattle.iv_blocks.specs.Inside.Groups.{is_on};
 
 use crate::group::Side;
-use iv_cover::{Block, Column, ParsedNumber, Value, Values};
+use iv_cover::{Column, ParsedNumber, Value, Values};
+use iv_lines::Interval;
 use iv_locators::{TextRecord, TextRecords};
 use std::marker::Model;
 
 /// A block, and the records that are in it, in their order.
 #[derive(Drop)]
 pub(crate) struct SideBlock<'t> {
-    pub(crate) block: Block,
+    pub(crate) block: Interval,
     pub(crate) members: SideRecords<'t>,
 }
 
@@ -121,19 +122,19 @@ fn block_from(
     others: TextRecords<'_>,
     side: Side,
     distance: u32,
-) -> (Block, usize)
+) -> (Interval, usize)
     requires few { length others + 1 < 2 ^ 64 }
     requires on { is_on side first.now ≡ true }
     ensures within { result.1 ≤ length others.entry + 1 }
     ensures next { remaining_blocks distance None (filter (is_on side) (first.now ∷ others.entry)) ≡ with_members result.0 (filter (is_on side) (take result.1 (first.now ∷ others.entry))) ∷ remaining_blocks distance None (filter (is_on side) (drop result.1 (first.now ∷ others.entry))) }
 {
     first.lemma_of_interval();
-    let mut block = Block::of(first);
+    let mut block = Interval::of(first);
     let mut count = 1;
     for record in others {
         if side.has(&record) {
             record.lemma_of_interval();
-            let next = Block::of(&record);
+            let next = Interval::of(&record);
             if !block.is_joined_by(next, distance) {
                 return (block, count);
             }

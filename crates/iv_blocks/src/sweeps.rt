@@ -19,7 +19,6 @@ use crate::block_cursor::BlocksAhead;
 use crate::complement::put_gaps;
 use crate::side_blocks::{SideBlocks, SideRecords};
 use iv_bytes::{Sink, WriteFault};
-use iv_cover::Block;
 use iv_lines::{Genome, Interval, put_interval, put_numbered};
 use iv_locators::TextRecords;
 use std::alloc::Allocator;
@@ -47,13 +46,13 @@ pub fn put_merge<A: Allocator + Copy, S: Sink>(
 
 /// Puts the row of a block: its sequence's name, start and stop.
 fn put_block<A: Allocator + Copy, S: Sink>(
-    block: Block,
+    block: Interval,
     genome: &Genome<A>,
     sink: &mut S,
 ) -> Result<(), WriteFault>
     ensures { Puts (S.state sink.old) (S.state sink.new) result (interval_row genome.now block) }
 {
-    let name = genome.name_or_empty(block.sequence);
+    let name = genome.name_or_empty(block.seq);
     put_interval(name, u64::from(block.start), u64::from(block.stop), sink)
 }
 
@@ -127,11 +126,11 @@ pub(crate) struct IntervalBlocks<'s> {
 impl<'s> Model for IntervalBlocks<'s> {
     ghost use Rattle.std.specs.Prelude.{List, None, map};
     ghost use Rattle.iv_cover.specs.Inside.RemainingBlocks.{remaining_blocks};
-    ghost use Rattle.iv_cover.specs.declared.block.Block.{Block};
+    ghost use Rattle.iv_lines.specs.declared.interval.Interval.{Interval};
     ghost use Rattle.iv_lines.specs.Inside.Intervals.{interval_records};
     ghost use Rattle.iv_blocks.specs.Inside.BlockSweeps.{interval_of};
 
-    ghost Value = { List Block };
+    ghost Value = { List Interval };
 
     ghost view = { λ b. map interval_of (remaining_blocks b.distance None (interval_records b.rest.now)) };
 }
@@ -160,14 +159,14 @@ impl<'s> IntervalBlocks<'s> {
 }
 
 impl<'s> Iterator for IntervalBlocks<'s> {
-    type Item = Block;
+    type Item = Interval;
 
     ghost next_gives = { YieldsFirst (λ blocks. blocks) };
 
     ghost remaining = { item_count (λ blocks. blocks) };
 
     /// The next block, `None` after the last. It looks at its intervals, and at the one after them.
-    fn next(&mut self) -> Option<Block> {
+    fn next(&mut self) -> Option<Interval> {
         let (first, others) = self.rest.split_first()?;
         let (block, rest) = block_from(*first, others, self.distance);
         self.rest = rest;
@@ -183,7 +182,7 @@ impl<'s> BlocksAhead for IntervalBlocks<'s> {
 
     ghost steps = { λ _. 0 };
 
-    fn next_until(&mut self, seq: u32, position: u64, _counter: &mut ()) -> Option<Block> {
+    fn next_until(&mut self, seq: u32, position: u64, _counter: &mut ()) -> Option<Interval> {
         let (next_seq, start) = self.next_start()?;
         if next_seq > seq || (next_seq == seq && u64::from(start) > position) {
             return None;
@@ -192,29 +191,17 @@ impl<'s> BlocksAhead for IntervalBlocks<'s> {
     }
 }
 
-/// A block of one record alone.
-fn block_of(interval: Interval) -> Block
-    ensures { result ≡ record { sequence = interval.seq; start = interval.start; stop = interval.stop } }
-{
-    Block {
-        sequence: interval.seq,
-        start: interval.start,
-        stop: interval.stop,
-    }
-}
-
 /// The block that an interval begins, with those of the others that join it, and the intervals after it.
-fn block_from(first: Interval, others: &[Interval], distance: u32) -> (Block, &[Interval])
+fn block_from(first: Interval, others: &[Interval], distance: u32) -> (Interval, &[Interval])
     ensures { GivesFirst (remaining_blocks distance None (record_of_interval first ∷ interval_records others.now)) (Some result.0) (remaining_blocks distance None (interval_records result.1.now)) }
 {
-    let mut block = block_of(first);
+    let mut block = first;
     let mut rest = others;
     while let Some((interval, later)) = rest.split_first() {
-        let next = block_of(*interval);
-        if !block.is_joined_by(next, distance) {
+        if !block.is_joined_by(*interval, distance) {
             return (block, rest);
         }
-        block = block.with(next);
+        block = block.with(*interval);
         rest = later;
     }
     (block, rest)

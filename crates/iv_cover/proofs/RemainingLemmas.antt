@@ -1,15 +1,16 @@
 -- One step of a walk over the records that are left.
 use Rattle.std.proofs.Common.{ℕ, ◌≡◌, true, false, List, [], ◌∷◌, ◌++◌, Some, None, sym, ap, ap₂}
 use Rattle.std.proofs.lemmas.Bool.{cond-true, cond-false}
+use Rattle.iv_lines.specs.Intervals.{interval_of}
 use Rattle.iv_lines.specs.RecordValue.{RecordValue}
-use Rattle.iv_cover.specs.declared.block.Block.{Block}
+use Rattle.iv_lines.specs.declared.interval.Interval.{Interval}
 use Rattle.iv_cover.specs.TrackBlocks.{BlockWithMembers, with_members}
 use Rattle.iv_cover.specs.Inside.RemainingBlocks.{is_joined, block_of, block_with, remaining_blocks}
 
 -- the first record opens a block
-pub remaining-begun : (d : ℕ) (r : RecordValue) (rs : List RecordValue) (b : Block) → b ≡ record { sequence = r.seq; start = r.start; stop = r.stop }
+pub remaining-begun : (d : ℕ) (r : RecordValue) (rs : List RecordValue) (b : Interval) → b ≡ interval_of r
     → remaining_blocks d None (r ∷ rs) ≡ remaining_blocks d (Some (with_members b (r ∷ []))) rs
-remaining-begun d r rs b is = ap (λ (n : Block). remaining_blocks d (Some (with_members n (r ∷ []))) rs) (sym is)
+remaining-begun d r rs b is = ap (λ (n : Interval). remaining_blocks d (Some (with_members n (r ∷ []))) rs) (sym is)
 
 -- a record that joins the open block
 pub remaining-joined : (d : ℕ) (b : BlockWithMembers) (r : RecordValue) (rs : List RecordValue) → is_joined d b r ≡ true

@@ -4,7 +4,7 @@ use Rattle.std.specs.List.{flat_map, range_with_len}
 use Rattle.iv_lines.specs.CoveredPositions.{on}
 use Rattle.iv_lines.specs.Genome.{Sequences, sequence_length, seq_count}
 use Rattle.iv_lines.specs.RecordValue.{RecordValue}
-use Rattle.iv_cover.specs.declared.block.Block.{Block}
+use Rattle.iv_lines.specs.declared.interval.Interval.{Interval}
 use Rattle.iv_cover.specs.Blocks.{blocks_below}
 
 -- a block on the sequence of this rank, from its start to its stop, with the records that are in it, in the order of the track
@@ -36,10 +36,10 @@ abbrev pub blocks_of : ℕ → Sequences → List RecordValue → List BlockWith
 blocks_of d g records = flat_map (blocks_on d g records) (range_with_len 0 (seq_count g))
 
 -- a block as a call gives it, with these members
-abbrev pub with_members : Block → List RecordValue → BlockWithMembers
-with_members b members = record { sequence = b.sequence; start = b.start; stop = b.stop; members = members }
+abbrev pub with_members : Interval → List RecordValue → BlockWithMembers
+with_members b members = record { sequence = b.seq; start = b.start; stop = b.stop; members = members }
 
 -- a call gave the first of the blocks, without its members, and left the others; or there was none, and it gave none
-abbrev pub GivesFirst : List BlockWithMembers → Option Block → List BlockWithMembers → Type 0
+abbrev pub GivesFirst : List BlockWithMembers → Option Interval → List BlockWithMembers → Type 0
 GivesFirst old None new = (old ≡ []) × (new ≡ [])
 GivesFirst old (Some b) new = (members : List RecordValue) × (old ≡ with_members b members ∷ new)

@@ -13,7 +13,7 @@ mod summaries;
 mod value;
 mod values;
 
-pub use block::{Block, BlockWalk};
+pub use block::BlockWalk;
 pub use column::{Column, ColumnSummary, asks_distinct};
 pub use kept::Kept;
 pub use lemmas::{

@@ -1,9 +1,11 @@
 //! An interval of a sequence, and the order of a track among intervals.
-ghost use Rattle.std.specs.Prelude.{◌≡◌, refl};
+ghost use Rattle.std.specs.Prelude.{◌≡◌, ◌+◌, ◌==◌, ◌&&◌, nat_le, max, refl};
 ghost use Rattle.std.specs.Ordering.{as_partial_cmp, eq_by_cmp};
 ghost use Rattle.std.specs.Cmp.{partial_equiv_from_equiv, eq_by_cmp_equiv, partial_order_from_agreeing_total};
-ghost use Rattle.iv_lines.specs.Intervals.{interval_cmp, intervals_total};
+ghost use Rattle.iv_lines.specs.Intervals.{interval_cmp, interval_of, intervals_total};
+ghost use Rattle.iv_lines.specs.RecordValue.{IsPlaced};
 
+use crate::bed_record::BedRecord;
 use std::cmp::Ordering;
 
 /// An interval of a sequence, 0-based and half-open.
@@ -20,6 +22,33 @@ pub struct Interval {
 }
 
 impl Interval {
+    /// The interval of a record. That it has 32 bits is what `lemma_of_interval` of each kind of record shows.
+    pub fn of<R: BedRecord>(feature: &R) -> Interval
+        requires { IsPlaced (R.as_record feature.now) }
+        ensures { result ≡ interval_of (R.as_record feature.now) }
+    {
+        Interval {
+            seq: feature.seq(),
+            start: feature.start() as u32,
+            stop: feature.stop() as u32,
+        }
+    }
+
+    /// Whether another is on the same sequence and starts at most `distance` bases past this one's end.
+    pub fn is_joined_by(self, next: Interval, distance: u32) -> bool
+        ensures { result ≡ ((next.seq == self.seq) && nat_le next.start (self.stop + distance)) }
+    {
+        let gap = next.start.saturating_sub(self.stop);
+        next.seq == self.seq && gap <= distance
+    }
+
+    /// This interval and another, which starts no earlier: it ends where the later of the two does.
+    pub fn with(self, next: Interval) -> Interval
+        ensures { result ≡ record self { stop = max self.stop next.stop } }
+    {
+        self.part(self.start, self.stop.max(next.stop))
+    }
+
     /// The part of it from one position to another, which is not included.
     pub fn part(self, start: u32, stop: u32) -> Interval
         ensures { result ≡ record self { start = start; stop = stop } }

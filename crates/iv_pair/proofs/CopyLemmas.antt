@@ -8,22 +8,21 @@ use Rattle.iv_lines.specs.Ordered.{AreInOrder}
 use Rattle.iv_lines.specs.RecordValue.{RecordValue}
 use Rattle.iv_locators.specs.Cover.{is_covered}
 use Rattle.iv_lines.specs.Intervals.{bare}
-use Rattle.iv_locators.specs.Inside.Locators.{record_at, records_at}
+use Rattle.iv_locators.specs.Inside.Locators.{locator_at, record_at, records_at}
 use Rattle.iv_locators.specs.declared.locator.Locator.{Locator}
 use Rattle.iv_locators.proofs.BareLemmas.{count-bare}
 use Rattle.iv_track.specs.Regions.{overlaps, hits}
 use Rattle.iv_pair.specs.Inside.PairPrinters.{CountAlike}
 use Rattle.iv_pair.specs.Inside.Counts.{ends_by, is_up_to}
 use Rattle.iv_pair.specs.Inside.HitFinder.{HitAlike, IsOnward}
-use Rattle.iv_pair.specs.Inside.Intervals.{locator_of}
 
 -- ---- the copy is made
 
 -- one record more is copied
 pub copied-next : (ps : List Locator) (r : RecordValue) (records rest whole : List RecordValue) → records ≡ r ∷ rest → records_at 3 [] ps ++ map bare records ≡ whole
-    → records_at 3 [] (ps ++ locator_of r ∷ []) ++ map bare rest ≡ whole
+    → records_at 3 [] (ps ++ locator_at r 0 ∷ []) ++ map bare rest ≡ whole
 copied-next ps r records rest whole first is =
-    ap (λ (l : List RecordValue). l ++ map bare rest) (map-append (record_at 3 []) ps (locator_of r ∷ []))
+    ap (λ (l : List RecordValue). l ++ map bare rest) (map-append (record_at 3 []) ps (locator_at r 0 ∷ []))
     ∙ append_assoc (records_at 3 [] ps) (bare r ∷ []) (map bare rest)
     ∙ ap (λ (l : List RecordValue). records_at 3 [] ps ++ map bare l) (sym first)
     ∙ is

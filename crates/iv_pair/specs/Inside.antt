@@ -5,6 +5,5 @@ pub mod HitLines
 pub mod Counts
 pub mod Pairs
 pub mod PairSweeps
-pub mod Intervals
 pub mod JoinedCovers
 pub mod PairPrinters

@@ -1,8 +1,7 @@
 //! A copy of the second file that has its intervals alone.
 ghost use Rattle.std.specs.Prelude.{◌≡◌, IfOk, map};
 ghost use Rattle.iv_lines.specs.Intervals.{bare};
-ghost use Rattle.iv_locators.specs.Inside.Locators.{HasBase};
-ghost use Rattle.iv_pair.specs.Inside.Intervals.{locator_of};
+ghost use Rattle.iv_locators.specs.Inside.Locators.{HasBase, locator_at};
 
 use crate::second::Second;
 use iv_ledger::Meter;
@@ -28,16 +27,12 @@ pub(crate) fn intervals_of<A: Allocator + Copy>(
 
 /// The interval of a record, as a locator without a line.
 fn locator_of<A: Allocator + Copy>(feature: &TrackRecord<'_, A>) -> Locator
-    ensures is { result ≡ locator_of feature.now }
+    ensures is { result ≡ locator_at feature.now 0 }
     ensures base { HasBase result }
 {
     feature.lemma_of_interval();
     Locator {
-        interval: Interval {
-            seq: feature.seq(),
-            start: feature.start() as u32,
-            stop: feature.stop() as u32,
-        },
+        interval: Interval::of(feature),
         line_start: 0,
     }
 }

@@ -319,11 +319,7 @@ fn interval_of<A: Allocator>(feature: &Record<A>) -> Bed3Record
     ensures { result ≡ record { seq = feature.now.seq; start = feature.now.start; stop = feature.now.stop; name = []; score = []; strand = None; width = 3 } }
 {
     feature.lemma_of_interval();
-    Bed3Record::new(Interval {
-        seq: feature.seq(),
-        start: feature.start() as u32,
-        stop: feature.stop() as u32,
-    })
+    Bed3Record::new(Interval::of(feature))
 }
 
 /// The same record as one of three columns. If it has more or fewer, it is given back.

@@ -4,21 +4,21 @@ use Rattle.std.specs.List.{flat_map}
 use Rattle.iv_lines.specs.Genome.{Sequences, sequence_name}
 use Rattle.iv_lines.specs.RecordText.{record_text}
 use Rattle.iv_lines.specs.RecordValue.{RecordValue}
-use Rattle.iv_cover.specs.declared.block.Block.{Block}
+use Rattle.iv_lines.specs.declared.interval.Interval.{Interval}
 use Rattle.iv_cover.specs.TrackBlocks.{BlockWithMembers}
 
 -- the interval of a block with members
-abbrev pub interval_of : BlockWithMembers → Block
-interval_of b = record { sequence = b.sequence; start = b.start; stop = b.stop }
+abbrev pub interval_of : BlockWithMembers → Interval
+interval_of b = record { seq = b.sequence; start = b.start; stop = b.stop }
 
 -- where the first of the blocks starts: the rank of its sequence, and the position
-abbrev pub next_start : List Block → Option (ℕ × ℕ)
+abbrev pub next_start : List Interval → Option (ℕ × ℕ)
 next_start [] = None
-next_start (b ∷ blocks) = Some (b.sequence, b.start)
+next_start (b ∷ blocks) = Some (b.seq, b.start)
 
 -- the row of an interval: the sequence's name, start and stop between tabs, and a line feed
-abbrev pub interval_row : Sequences → Block → List ℕ
-interval_row g b = sequence_name g b.sequence ++ codes "\t" ++ decimal b.start ++ codes "\t" ++ decimal b.stop ++ codes "\n"
+abbrev pub interval_row : Sequences → Interval → List ℕ
+interval_row g b = sequence_name g b.seq ++ codes "\t" ++ decimal b.start ++ codes "\t" ++ decimal b.stop ++ codes "\n"
 
 -- the row of a record with this number after its columns
 abbrev pub numbered_row : Sequences → ℕ → RecordValue → List ℕ

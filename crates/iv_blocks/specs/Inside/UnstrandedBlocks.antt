@@ -5,7 +5,7 @@ use Rattle.iv_lines.specs.Genome.{Sequences, sequence_name}
 use Rattle.iv_lines.specs.RecordValue.{RecordValue}
 use Rattle.iv_cover.specs.Inside.RemainingBlocks.{remaining_blocks}
 use Rattle.iv_cover.specs.TrackBlocks.{BlockWithMembers, with_members}
-use Rattle.iv_cover.specs.declared.block.Block.{Block}
+use Rattle.iv_lines.specs.declared.interval.Interval.{Interval}
 use Rattle.iv_cover.specs.declared.column.ColumnSummary.{ColumnSummary}
 use Rattle.iv_blocks.specs.KeptBlocks.{Key, Kept, Entries, kept_block}
 
@@ -14,7 +14,7 @@ abbrev pub kept_entry : Sequences → List ColumnSummary → BlockWithMembers �
 kept_entry g summaries b = ((b.sequence, false, b.start), kept_block (sequence_name g b.sequence) summaries (b.stop, b.members))
 
 -- the entries of these records' blocks at a distance, if the block is open and has some members, after entries that were made before
-abbrev pub entries_with : Sequences → List ColumnSummary → ℕ → Entries → Block → List RecordValue → List RecordValue → Entries
+abbrev pub entries_with : Sequences → List ColumnSummary → ℕ → Entries → Interval → List RecordValue → List RecordValue → Entries
 entries_with g summaries distance entries block members records = entries ++ map (kept_entry g summaries) (remaining_blocks distance (Some (with_members block members)) records)
 
 -- the key of a block, and where it stops

@@ -1,6 +1,6 @@
 use Rattle.std.proofs.Common.{◌+◌, ◌==◌, ◌&&◌, nat_le, max, ◌∷◌, Some, List, sym, ap, ◌∙◌, filter, take, arith}
 use Rattle.iv_lines.specs.RecordValue.{RecordValue}
-use Rattle.iv_cover.specs.declared.block.Block.{Block}
+use Rattle.iv_lines.specs.declared.interval.Interval.{Interval}
 use Rattle.iv_cover.specs.Inside.RemainingBlocks.{remaining_blocks}
 use Rattle.iv_cover.specs.TrackBlocks.{with_members}
 use Rattle.iv_blocks.specs.Inside.Groups.{is_on}
@@ -24,8 +24,8 @@ loop-record-preserved c =
     elim c.if-has.branch [
       | then-has+else-not-is_joined_by w ↦
           let on = sym c.has.ensures ∙ w.if-has.true in
-          let joined = w.is_joined_by.ensures ∙ ap (λ (n : Block). (n.sequence == b.sequence) && nat_le n.start (b.stop + d)) w.of-next.ensures in
-          let with = w.block-is ∙ w.with-block.ensures ∙ ap (λ (n : Block). record { sequence = b.sequence; start = b.start; stop = max b.stop n.stop }) w.of-next.ensures in
+          let joined = w.is_joined_by.ensures ∙ ap (λ (n : Interval). (n.seq == b.seq) && nat_le n.start (b.stop + d)) w.of-next.ensures in
+          let with = w.block-is ∙ w.with-block.ensures ∙ ap (λ (n : Interval). record { seq = b.seq; start = b.start; stop = max b.stop n.stop }) w.of-next.ensures in
           record {
             within = omega (arith, next.0);
             left = next.1;
@@ -36,6 +36,6 @@ loop-record-preserved c =
           record {
             within = omega (arith, next.0);
             left = next.1;
-            joined = before ∙ over d p b n xs r rs at off ∙ ap (λ (m : Block). remaining_blocks d (Some (with_members m (filter p (take (n + 1) xs)))) (filter p rs)) (sym w.block-is);
+            joined = before ∙ over d p b n xs r rs at off ∙ ap (λ (m : Interval). remaining_blocks d (Some (with_members m (filter p (take (n + 1) xs)))) (filter p rs)) (sym w.block-is);
           }
     ]

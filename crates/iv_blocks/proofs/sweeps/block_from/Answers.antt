@@ -1,6 +1,5 @@
-use Rattle.std.proofs.Common.{◌≡◌, ◌+◌, ◌==◌, ◌&&◌, nat_le, max, ◌∙◌, ◌++◌, List, [], ◌∷◌, Some, None, sym, ap, refl, length, arith}
+use Rattle.std.proofs.Common.{◌≡◌, ◌∙◌, ◌++◌, List, [], ◌∷◌, Some, None, sym, ap, refl, length, arith}
 use Rattle.iv_lines.specs.RecordValue.{RecordValue}
-use Rattle.iv_cover.specs.declared.block.Block.{Block}
 use Rattle.iv_cover.specs.Inside.RemainingBlocks.{remaining_blocks}
 use Rattle.iv_cover.specs.TrackBlocks.{with_members}
 use Rattle.iv_cover.proofs.RemainingLemmas.{remaining-begun, remaining-joined, remaining-split_up}
@@ -13,7 +12,7 @@ pub loop-interval-init : goal.loop-interval-init
 loop-interval-init c =
     let first : RecordValue = record_of_interval c.args.first in (
       first ∷ [],
-      remaining-begun c.args.distance first (interval_records c.args.others.now) c.block_of-block.result c.block_of-block.ensures,
+      remaining-begun c.args.distance first (interval_records c.args.others.now) c.args.first refl,
     )
 
 pub returns-then-not-is_joined_by : goal.returns-then-not-is_joined_by
@@ -26,7 +25,7 @@ returns-then-not-is_joined_by c =
       i.0,
       i.1 ∙ ap (λ (l : List Interval). remaining_blocks d (Some b) (interval_records l)) c.in-Some.ensures.cases.0
           ∙ remaining-split_up d b r rest
-          (sym (c.is_joined_by.ensures ∙ ap (λ (n : Block). (n.sequence == b.sequence) && nat_le n.start (b.stop + d)) c.block_of-next.ensures) ∙ c.if-not-is_joined_by.true)
+          (sym c.is_joined_by.ensures ∙ c.if-not-is_joined_by.true)
           ∙ ap (λ (l : List Interval). b ∷ remaining_blocks d None (interval_records l)) (sym c.in-Some.ensures.cases.0),
     )
 
@@ -40,9 +39,8 @@ loop-interval-preserved c =
       i.0 ++ r ∷ [],
       i.1 ∙ ap (λ (l : List Interval). remaining_blocks d (Some b) (interval_records l)) c.in-Some.ensures.cases.0
           ∙ remaining-joined d b r rest
-          (sym (c.is_joined_by.ensures ∙ ap (λ (n : Block). (n.sequence == b.sequence) && nat_le n.start (b.stop + d)) c.block_of-next.ensures) ∙ c.if-not-is_joined_by.false)
-          ∙ ap (λ (next : Block). remaining_blocks d (Some (with_members next (i.0 ++ r ∷ []))) rest)
-          (sym (c.with-block.ensures ∙ ap (λ (n : Block). record { sequence = b.sequence; start = b.start; stop = max b.stop n.stop }) c.block_of-next.ensures)),
+          (sym c.is_joined_by.ensures ∙ c.if-not-is_joined_by.false)
+          ∙ ap (λ (next : Interval). remaining_blocks d (Some (with_members next (i.0 ++ r ∷ []))) rest) (sym c.with-block.ensures),
     )
 
 none-of : (intervals : List Interval) → length intervals ≡ 0 → intervals ≡ []

@@ -3,11 +3,10 @@ use Rattle.std.proofs.lemmas.List.Elements.{All-nil, All-append, All-cons}
 use Rattle.iv_text.specs.BedFile.{Bed}
 use Rattle.iv_lines.specs.RecordValue.{RecordValue}
 use Rattle.iv_lines.specs.Intervals.{bare}
-use Rattle.iv_locators.specs.Inside.Locators.{HasBase, records_at}
+use Rattle.iv_locators.specs.Inside.Locators.{HasBase, locator_at, records_at}
 use Rattle.iv_locators.specs.declared.locator.Locator.{Locator}
 use Rattle.iv_track.proofs.WalkLemmas.{filter-from_first}
 use Rattle.iv_pair.proofs.CopyLemmas.{copied-next}
-use Rattle.iv_pair.specs.Inside.Intervals.{locator_of}
 use Rattle.iv_pair.proofs.intervals.intervals_of.Goals as goal
 
 pub loop-feature-init : goal.loop-feature-init
@@ -24,7 +23,7 @@ pub loop-feature-preserved : goal.loop-feature-preserved
 loop-feature-preserved g c =
     let i = c.loop-feature.invariant in
     let pushed : c.push.new.self.items ≡ c.loop-feature.locators.items ++ c.locator_of.result ∷ [] = c.in_ok-push.ensures.items in
-    let is : c.push.new.self.items ≡ c.loop-feature.locators.items ++ locator_of c.in-Some.feature ∷ [] = pushed ∙ ap (λ (l : Locator). c.loop-feature.locators.items ++ l ∷ []) c.locator_of.ensures.is in
+    let is : c.push.new.self.items ≡ c.loop-feature.locators.items ++ locator_at c.in-Some.feature 0 ∷ [] = pushed ∙ ap (λ (l : Locator). c.loop-feature.locators.items ++ l ∷ []) c.locator_of.ensures.is in
     record {
       bases = subst (All HasBase) (sym pushed) (All-append HasBase c.loop-feature.locators.items (c.locator_of.result ∷ []) i.bases (All-cons HasBase c.locator_of.result [] c.locator_of.ensures.base (All-nil HasBase)));
       records = ap (λ (l : List Locator). records_at 3 [] l ++ map bare c.next.new.self) is

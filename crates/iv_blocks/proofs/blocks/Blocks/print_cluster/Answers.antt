@@ -4,7 +4,7 @@ use Rattle.std.proofs.lemmas.List.{length-map}
 use Rattle.iv_bytes.proofs.PutLemmas.{Underway-begin, Underway-more, Underway-fails, Puts-err}
 use Rattle.iv_lines.specs.Ordered.{AreInOrder}
 use Rattle.iv_lines.specs.RecordValue.{RecordValue}
-use Rattle.iv_cover.specs.declared.block.Block.{Block}
+use Rattle.iv_lines.specs.declared.interval.Interval.{Interval}
 use Rattle.iv_track.proofs.WalkLemmas.{filter-from_first}
 use Rattle.iv_blocks.specs.Inside.BlockCursor.{interval_of, starts_until, drop_while}
 use Rattle.iv_blocks.specs.KeptBlocks.{KeptBlocks, Entries}
@@ -17,7 +17,7 @@ pub loop-feature-init : goal.loop-feature-init
 loop-feature-init g c =
     let all : c.walk-records.result ≡ c.args.track.now.records = c.walk-records.ensures.records ∙ filter-from_first c.args.track.now.records in
     let ahead = c.of-ahead.ensures.all in
-    let long : length c.of-ahead.result ≡ length c.args.self.now.entries = ap (λ (l : List Block). length l) ahead ∙ length-map c.args.self.now.entries interval_of in
+    let long : length c.of-ahead.result ≡ length c.args.self.now.entries = ap (λ (l : List Interval). length l) ahead ∙ length-map c.args.self.now.entries interval_of in
     record {
       put = rw all (Underway-begin _ _);
       ordered = subst (λ (l : List RecordValue). AreInOrder l) (sym all) c.walk-records.ensures.ordered;

@@ -1,7 +1,7 @@
 use Rattle.std.proofs.Common.{◌≡◌, ◌∙◌, ap, arith, length, not, List}
 use Rattle.std.proofs.lemmas.List.{length-map}
 use Rattle.iv_lines.specs.Genome.{seq_count}
-use Rattle.iv_cover.specs.declared.block.Block.{Block}
+use Rattle.iv_lines.specs.declared.interval.Interval.{Interval}
 use Rattle.iv_blocks.specs.Inside.BlockCursor.{interval_of, texts}
 use Rattle.iv_blocks.specs.declared.options.BlockOptions.{BlockOptions}
 use Rattle.iv_blocks.proofs.ComplementLemmas.{gaps-are}
@@ -19,7 +19,7 @@ returns-clause-text g c =
 pub returns-clause-steps : goal.returns-clause-steps
 returns-clause-steps g c =
     let a = c.args in
-    let long : length c.of-ahead.result ≡ length a.self.now.entries = ap (λ (l : List Block). length l) c.of-ahead.ensures.all ∙ length-map a.self.now.entries interval_of in
+    let long : length c.of-ahead.result ≡ length a.self.now.entries = ap (λ (l : List Interval). length l) c.of-ahead.ensures.all ∙ length-map a.self.now.entries interval_of in
     let count = count-is a.self.now.options a.genome.now a.track.now.width a.track.now.records a.self.now.entries c.requires.right c.requires.fit in
     record {
       no_less = omega (arith, c.of-ahead.ensures.steps, c.put_gaps.ensures.steps);

@@ -1,5 +1,5 @@
 use Rattle.std.proofs.Common.{◌+◌, ◌==◌, ◌&&◌, nat_le, max, ◌∙◌, List, [], ◌∷◌, ◌++◌, Some, None, length, sym, ap, arith}
-use Rattle.iv_cover.specs.declared.block.Block.{Block}
+use Rattle.iv_lines.specs.declared.interval.Interval.{Interval}
 use Rattle.iv_track.specs.Inside.Counted.{left}
 use Rattle.iv_cover.specs.Inside.RemainingBlocks.{remaining_blocks}
 use Rattle.iv_cover.specs.TrackBlocks.{BlockWithMembers, with_members}
@@ -43,7 +43,7 @@ returns-then-not-is_joined_by g c =
       i.0,
       i.1 ∙ ap (remaining_blocks d (Some b)) c.in-Some-next.ensures.feature
           ∙ remaining-split_up d b c.in-Some-next.record c.next-in-loop-record.new.self
-          (sym (c.is_joined_by.ensures ∙ ap (λ (n : Block). (n.sequence == b.sequence) && nat_le n.start (b.stop + d)) c.of-next.ensures) ∙ c.if-not-is_joined_by.true),
+          (sym (c.is_joined_by.ensures ∙ ap (λ (n : Interval). (n.seq == b.sequence) && nat_le n.start (b.stop + d)) c.of-next.ensures) ∙ c.if-not-is_joined_by.true),
     )
 
 pub loop-record-smaller : goal.loop-record-smaller
@@ -59,9 +59,9 @@ loop-record-preserved g c =
       i.0 ++ r ∷ [],
       i.1 ∙ ap (remaining_blocks d (Some b)) c.in-Some-next.ensures.feature
           ∙ remaining-joined d b r rest
-          (sym (c.is_joined_by.ensures ∙ ap (λ (n : Block). (n.sequence == b.sequence) && nat_le n.start (b.stop + d)) c.of-next.ensures) ∙ c.if-not-is_joined_by.false)
-          ∙ ap (λ (next : Block). remaining_blocks d (Some (with_members next (i.0 ++ r ∷ []))) rest)
-          (sym (c.with-block.ensures ∙ ap (λ (n : Block). record { sequence = b.sequence; start = b.start; stop = max b.stop n.stop }) c.of-next.ensures)),
+          (sym (c.is_joined_by.ensures ∙ ap (λ (n : Interval). (n.seq == b.sequence) && nat_le n.start (b.stop + d)) c.of-next.ensures) ∙ c.if-not-is_joined_by.false)
+          ∙ ap (λ (next : Interval). remaining_blocks d (Some (with_members next (i.0 ++ r ∷ []))) rest)
+          (sym (c.with-block.ensures ∙ ap (λ (n : Interval). record { seq = b.sequence; start = b.start; stop = max b.stop n.stop }) c.of-next.ensures)),
       i.2,
     )
 
