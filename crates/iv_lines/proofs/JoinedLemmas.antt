@@ -1,5 +1,5 @@
 -- The columns of a record after the third as one text.
-use Rattle.std.proofs.Common.{◌≡◌, ℕ, ◌==◌, ◌<◌, ◌≤◌, Bool, true, false, nat_le, cond, List, [], ◌∷◌, ◌++◌, None, Some, codes, length, drop, refl, sym, ap, subst, ◌∙◌, arith, append_assoc, append-nil, Result}
+use Rattle.std.proofs.Common.{◌≡◌, ℕ, ◌+◌, ◌==◌, ◌<◌, ◌≤◌, Bool, true, false, nat_le, cond, List, [], ◌∷◌, ◌++◌, None, Some, codes, length, drop, refl, sym, ap, subst, ◌∙◌, arith, append_assoc, append-nil, Result}
 use Rattle.std.specs.Prelude.{IsSome}
 use Rattle.std.specs.Option.{is_some}
 use Rattle.std.specs.List.{flat_map, join_with_byte}
@@ -11,7 +11,8 @@ use Rattle.iv_lines.specs.Fields.{columns}
 use Rattle.iv_lines.specs.Inside.Fields.{is_separator}
 use Rattle.iv_lines.specs.Read.{column}
 use Rattle.iv_lines.specs.Genome.{Sequences, sequence_name}
-use Rattle.iv_lines.specs.RecordText.{interval_text, strand_text}
+use Rattle.iv_lines.specs.RecordText.{interval_text, joined_record, rest_text, strand_text}
+use Rattle.iv_lines.specs.Inside.Read.{AreCells}
 use Rattle.iv_lines.specs.Inside.RecordText.{interval_columns, tabbed}
 use Rattle.iv_lines.specs.RecordValue.{RecordValue, strand_of}
 use Rattle.iv_lines.specs.declared.record_ref.Strand.TheVariants.{Plus, Minus, Dot}
@@ -64,6 +65,70 @@ whole-printed w cs count few strand some =
     subst (λ (v : ℕ). printed v cs ≡ with_tabs (drop 3 cs)) count
     (all-printed cs (omega (arith, count)) (omega (arith, count)) (λ six. strand (omega (arith, count))))
 
+-- the columns of a rest are as many as the width has after the third, and the third of them is a strand: it is all that its record prints
+whole-rest : (w : ℕ) (rest : List ℕ) → 3 + length (columns rest) ≡ w → w ≤ 6 → 4 ≤ w → (6 ≤ w → IsSome (strand_of (column (columns rest) 2)))
+    → codes "\t" ++ rest ≡ rest_text (joined_record 0 0 0 rest w)
+whole-rest w rest count few some strand = tabs-columns rest ∙ sym (whole-printed w ([] ∷ [] ∷ [] ∷ columns rest) (omega (arith, count)) few strand some)
+
+-- a line with as many columns as the width has, of which those after the third are those of a rest
+pub cells-are : (w : ℕ) (a b c rest : List ℕ) (cells : List (List ℕ)) → 3 + length cells ≡ w → w ≤ 6 → (w < 4 → rest ≡ []) → (4 ≤ w → columns rest ≡ cells)
+    → AreCells w (a ∷ b ∷ c ∷ cells) a b c rest
+cells-are w a b c rest cells count few none are =
+    subst (λ (v : ℕ). AreCells v (a ∷ b ∷ c ∷ cells) a b c rest) count (by cells (omega (arith, count)) (λ low. none (omega (arith, count, low))) (λ some. are (omega (arith, count))))
+  where
+    by : (cs : List (List ℕ)) → length cs ≤ 3 → (3 + length cs < 4 → rest ≡ []) → (1 ≤ length cs → columns rest ≡ cs) → AreCells (3 + length cs) (a ∷ b ∷ c ∷ cs) a b c rest
+    by [] low empty is = record {
+      count = refl;
+      seq_is = refl;
+      start_is = refl;
+      stop_is = refl;
+      name_is = refl;
+      score_is = refl;
+      strand_is = refl;
+      none = empty;
+      whole = λ strand wide. absurd (omega (arith, wide));
+    }
+    by (d ∷ []) low empty is =
+        let cut : columns rest ≡ d ∷ [] = is (omega arith) in
+        record {
+          count = refl;
+          seq_is = refl;
+          start_is = refl;
+          stop_is = refl;
+          name_is = ap (λ (cs : List (List ℕ)). column cs 0) (sym cut);
+          score_is = refl;
+          strand_is = refl;
+          none = empty;
+          whole = λ strand wide. whole-rest 4 rest (ap (λ (cs : List (List ℕ)). 3 + length cs) cut) (omega arith) (omega arith) (λ six. absurd (omega (arith, six)));
+        }
+    by (d ∷ e ∷ []) low empty is =
+        let cut : columns rest ≡ d ∷ e ∷ [] = is (omega arith) in
+        record {
+          count = refl;
+          seq_is = refl;
+          start_is = refl;
+          stop_is = refl;
+          name_is = ap (λ (cs : List (List ℕ)). column cs 0) (sym cut);
+          score_is = ap (λ (cs : List (List ℕ)). column cs 1) (sym cut);
+          strand_is = refl;
+          none = empty;
+          whole = λ strand wide. whole-rest 5 rest (ap (λ (cs : List (List ℕ)). 3 + length cs) cut) (omega arith) (omega arith) (λ six. absurd (omega (arith, six)));
+        }
+    by (d ∷ e ∷ f ∷ []) low empty is =
+        let cut : columns rest ≡ d ∷ e ∷ f ∷ [] = is (omega arith) in
+        record {
+          count = refl;
+          seq_is = refl;
+          start_is = refl;
+          stop_is = refl;
+          name_is = ap (λ (cs : List (List ℕ)). column cs 0) (sym cut);
+          score_is = ap (λ (cs : List (List ℕ)). column cs 1) (sym cut);
+          strand_is = ap (λ (cs : List (List ℕ)). strand_of (column cs 2)) (sym cut);
+          none = empty;
+          whole = λ strand wide. whole-rest 6 rest (ap (λ (cs : List (List ℕ)). 3 + length cs) cut) (omega arith) (omega arith) (λ six. strand (omega arith));
+        }
+    by (d ∷ e ∷ f ∷ g ∷ cs) low empty is = absurd (omega (arith, low))
+
 -- ---- how they are put
 
 -- the first three columns of a record
@@ -78,11 +143,13 @@ short-text front first laid joined rest tail begins is all =
     ∙ ap (λ (l : List ℕ). front ++ (l ++ tail)) all
     ∙ sym (append_assoc front rest tail)
 
--- the interval and a TAB, and the others after them
-long-text : (front first laid joined rest tail : List ℕ) → first ≡ front → laid ≡ 9 ∷ [] → codes "\t" ++ joined ≡ rest → (first ++ laid) ++ (joined ++ tail) ≡ (front ++ rest) ++ tail
-long-text front first laid joined rest tail begins is all =
+-- the interval and a TAB, if there are others, and the others after them
+long-text : (front first laid joined rest tail : List ℕ) → first ≡ front → laid ++ joined ≡ rest → (first ++ laid) ++ (joined ++ tail) ≡ (front ++ rest) ++ tail
+long-text front first laid joined rest tail begins all =
     append_assoc first laid (joined ++ tail)
-    ∙ short-text front first (laid ++ (joined ++ tail)) joined rest tail begins (ap (λ (l : List ℕ). l ++ (joined ++ tail)) is) all
+    ∙ ap (λ (l : List ℕ). first ++ l) (sym (append_assoc laid joined tail) ∙ ap (λ (l : List ℕ). l ++ tail) all)
+    ∙ ap (λ (l : List ℕ). l ++ (rest ++ tail)) begins
+    ∙ sym (append_assoc front rest tail)
 
 pub short-put : {T E : Type 0} (old new : SinkState) (result : Result T E) (front first laid joined rest tail : List ℕ)
     → first ≡ front → laid ≡ 9 ∷ (joined ++ tail) → codes "\t" ++ joined ≡ rest → Puts old new result (first ++ laid) → Puts old new result ((front ++ rest) ++ tail)
@@ -90,13 +157,13 @@ short-put old new result front first laid joined rest tail begins is all puts =
     subst (λ (t : List ℕ). Puts old new result t) (short-text front first laid joined rest tail begins is all) puts
 
 pub long-put : {T E : Type 0} (old mid new : SinkState) (result : Result T E) (front first laid joined rest tail : List ℕ)
-    → first ≡ front → laid ≡ 9 ∷ [] → codes "\t" ++ joined ≡ rest → Takes old mid (first ++ laid) → Puts mid new result (joined ++ tail) → Puts old new result ((front ++ rest) ++ tail)
-long-put old mid new result front first laid joined rest tail begins is all took puts =
-    subst (λ (t : List ℕ). Puts old new result t) (long-text front first laid joined rest tail begins is all)
+    → first ≡ front → laid ++ joined ≡ rest → Takes old mid (first ++ laid) → Puts mid new result (joined ++ tail) → Puts old new result ((front ++ rest) ++ tail)
+long-put old mid new result front first laid joined rest tail begins all took puts =
+    subst (λ (t : List ℕ). Puts old new result t) (long-text front first laid joined rest tail begins all)
     (Puts-back old mid new result (first ++ laid) (joined ++ tail) took puts)
 
 pub long-fails : (old new : SinkState) (front first laid joined rest tail : List ℕ)
-    → first ≡ front → laid ≡ 9 ∷ [] → codes "\t" ++ joined ≡ rest → FailsIn old new (first ++ laid) → FailsIn old new ((front ++ rest) ++ tail)
-long-fails old new front first laid joined rest tail begins is all fails =
-    subst (λ (t : List ℕ). FailsIn old new t) (long-text front first laid joined rest tail begins is all)
+    → first ≡ front → laid ++ joined ≡ rest → FailsIn old new (first ++ laid) → FailsIn old new ((front ++ rest) ++ tail)
+long-fails old new front first laid joined rest tail begins all fails =
+    subst (λ (t : List ℕ). FailsIn old new t) (long-text front first laid joined rest tail begins all)
     (FailsIn-front old new (first ++ laid) (joined ++ tail) fails)

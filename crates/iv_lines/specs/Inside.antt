@@ -8,6 +8,6 @@ pub mod RecordText
 pub mod Ordered
 pub mod Read
 pub mod Batches
+pub mod Rests
 pub mod RecordColumns
-pub mod OtherColumns
 pub mod Pieces

@@ -79,7 +79,7 @@ impl Bed3Record {
     pub fn as_ref<'a>(&self) -> RecordRef<'a>
         ensures { result ≡ self.now }
     {
-        RecordRef::of_columns(self.interval, &[], &[], None, 3)
+        RecordRef::of_interval(self.interval)
     }
 
     /// The same record, as one that may own texts. It takes no memory.

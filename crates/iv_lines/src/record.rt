@@ -6,12 +6,11 @@ ghost use Rattle.std.specs.Cmp.{partial_equiv_from_equiv, eq_by_cmp_equiv, parti
 ghost use Rattle.iv_lines.specs.Intervals.{record_of_interval};
 ghost use Rattle.iv_lines.specs.Read.{Fits};
 ghost use Rattle.iv_lines.specs.RecordValue.{IsPlaced, record_cmp, records_total};
-ghost use Rattle.iv_lines.specs.Inside.RecordValue.{beside_cmp};
 
 use crate::bed3_record::Bed3Record;
 use crate::genome::Genome;
 use crate::interval::Interval;
-use crate::record_columns::{RecordColumns, StrandAndWidth};
+use crate::record_columns::RecordColumns;
 use crate::record_ref::{RecordRef, Strand};
 use std::alloc::{AllocError, Allocator, Global};
 use std::cmp::Ordering;
@@ -27,14 +26,15 @@ pub struct Record<A: Allocator = Global> {
 }
 
 impl<A: Allocator> Model for Record<A> {
-    ghost use Rattle.iv_lines.specs.Inside.RecordColumns.{record_at};
-    ghost use Rattle.iv_lines.specs.RecordValue.{RecordValue, IsRecord};
+    ghost use Rattle.iv_lines.specs.Inside.RecordColumns.{interval_held, rest_held, width_held};
+    ghost use Rattle.iv_lines.specs.Inside.Rests.{IsWhole, record_with};
+    ghost use Rattle.iv_lines.specs.RecordValue.{RecordValue};
 
     ghost Value = { RecordValue };
 
-    ghost view = { λ r. record_at r.columns };
+    ghost view = { λ r. record_with (interval_held r.columns) (rest_held r.columns) (width_held r.columns) };
 
-    ghost invariant = { λ r. IsRecord (record_at r.columns) };
+    ghost invariant = { λ r. IsWhole (interval_held r.columns) (rest_held r.columns) (width_held r.columns) };
 }
 
 impl<A: Allocator> Record<A> {
@@ -51,7 +51,7 @@ impl<A: Allocator> Record<A> {
             start,
             stop: start + 1,
         };
-        Record::without_texts(alloc, 0, base)
+        Record::without_rest(alloc, 0, base)
     }
 
     /// The record of three columns with this interval, which has a base. It takes no memory.
@@ -59,35 +59,30 @@ impl<A: Allocator> Record<A> {
         requires { interval.start < interval.stop }
         ensures { result ≡ record_of_interval interval }
     {
-        Record::without_texts(alloc, 3, interval)
+        Record::without_rest(alloc, 3, interval)
     }
 
     /// The record of this width and interval, which has a base, without other columns. It takes no memory.
     #[inline(always)]
-    fn without_texts(_alloc: A, width: u8, interval: Interval) -> Self
-        requires { interval.start < interval.stop }
+    fn without_rest(_alloc: A, width: u8, interval: Interval) -> Self
+        requires base { interval.start < interval.stop }
+        requires few { width < 4 }
         ensures { result ≡ record (record_of_interval interval) { width = width } }
     {
-        let beside = StrandAndWidth {
-            strand: None,
-            width,
-        };
         Record {
-            columns: RecordColumns::Empty(beside, interval),
+            columns: RecordColumns::Empty(width, interval),
         }
     }
 
-    /// The same record, with name and score lent.
+    /// The same record, with its columns lent.
+    #[inline(always)]
     pub fn as_ref(&self) -> RecordRef<'_>
         ensures { result ≡ self.now }
     {
-        let beside = self.columns.strand_and_width();
-        RecordRef::of_columns(
+        RecordRef::of_rest(
             self.columns.interval(),
-            self.columns.name(),
-            self.columns.score(),
-            beside.strand,
-            beside.width,
+            self.columns.rest(),
+            self.columns.width(),
         )
     }
 
@@ -126,28 +121,28 @@ impl<A: Allocator> Record<A> {
     pub fn name(&self) -> &[u8]
         ensures { result.now ≡ self.now.name }
     {
-        self.columns.name()
+        self.as_ref().name()
     }
 
     /// The score as it was in its line, empty below width 5.
     pub fn score(&self) -> &[u8]
         ensures { result.now ≡ self.now.score }
     {
-        self.columns.score()
+        self.as_ref().score()
     }
 
     /// The strand, `None` below width 6.
     pub fn strand(&self) -> Option<Strand>
         ensures { result ≡ self.now.strand }
     {
-        self.columns.strand_and_width().strand
+        self.as_ref().strand()
     }
 
     /// How many columns it has, 3 to 6.
     pub fn width(&self) -> u8
         ensures { result ≡ self.now.width }
     {
-        self.columns.strand_and_width().width
+        self.columns.width()
     }
 
     /// The same record in 12 bytes, if it has three columns.
@@ -156,7 +151,7 @@ impl<A: Allocator> Record<A> {
         ensures same { IfSome result (λ bed3. bed3 ≡ self.now) }
         ensures three { IsSome result ↔ (self.now.width ≡ 3) }
     {
-        if self.columns.strand_and_width().width != 3 {
+        if self.columns.width() != 3 {
             return None;
         }
         Some(Bed3Record::new(self.columns.interval()))
@@ -170,21 +165,6 @@ impl<A: Allocator> Record<A> {
     }
 }
 
-impl<A: Allocator> Record<A> {
-    /// The order of two records by their columns after the third. It is apart from the whole order, since most records differ in
-    /// their intervals, and a search compares many.
-    #[inline(never)]
-    fn cmp_beside(&self, other: &Record<A>) -> Ordering
-        ensures { result ≡ beside_cmp self.now other.now }
-    {
-        self.name()
-            .cmp(other.name())
-            .then_with(|| self.score().cmp(other.score()))
-            .then_with(|| self.strand().cmp(&other.strand()))
-            .then_with(|| self.width().cmp(&other.width()))
-    }
-}
-
 impl<A: Allocator + Copy> Record<A> {
     /// A copy of a record that is in a line.
     #[inline(always)]
@@ -192,18 +172,7 @@ impl<A: Allocator + Copy> Record<A> {
         ensures ok { IfOk result (λ r. r ≡ feature.now) }
         ensures free { feature.now.width ≡ 3 → IsOk result }
     {
-        let others = feature.others();
-        let beside = StrandAndWidth {
-            strand: others.strand,
-            width: feature.width,
-        };
-        let columns = RecordColumns::copy_of(
-            alloc,
-            beside,
-            feature.interval,
-            others.name,
-            others.score,
-        )?;
+        let columns = RecordColumns::copy_of(alloc, feature.width, feature.interval, feature.rest)?;
         Ok(Record { columns })
     }
 }
@@ -245,6 +214,6 @@ impl<A: Allocator> Ord for Record<A> {
     #[inline]
     fn cmp(&self, other: &Record<A>) -> Ordering {
         let intervals = self.columns.interval().cmp(&other.columns.interval());
-        intervals.then_with(|| self.cmp_beside(other))
+        intervals.then_with(|| self.as_ref().compare_beside(&other.as_ref()))
     }
 }

@@ -1,20 +1,25 @@
-//! A record whose name and score lie in its line, and how it is read from one.
-ghost use Rattle.std.specs.Prelude.{◌≡◌, ◌<◌, ◌≤◌, ◌↔◌, ◌≢◌, ◌+◌, ◌++◌, [], ◌∷◌, ℕ, List, None, true, false, IsTrue, MatchOption, IfSome, IfOk, IsOk, codes, cond, drop, length, nat_le};
+//! A record that lends the rest of its line, and how it is read from one.
+ghost use Rattle.std.specs.Prelude.{◌≡◌, ◌<◌, ◌≤◌, ◌↔◌, ◌≢◌, ◌++◌, [], None, IsTrue, MatchOption, IfOk, IsOk, codes, cond, drop, length, nat_le};
 ghost use Rattle.iv_lines.specs.RecordText.{joined_record, rest_text};
 ghost use Rattle.iv_lines.specs.RecordValue.{strand_of, IsPlaced, IsRecord, part};
 ghost use Rattle.iv_lines.specs.Read.{Fits, read, bad_text, column, AreSoundColumns, IsWithin};
-ghost use Rattle.iv_lines.specs.Inside.Read.{chosen, AreColumns};
-ghost use Rattle.iv_lines.specs.Intervals.{interval_of};
+ghost use Rattle.iv_lines.specs.Inside.Read.{AreCells};
+ghost use Rattle.iv_lines.specs.Inside.RecordValue.{beside_cmp, strand_cmp};
+ghost use Rattle.std.specs.Cmp.Lexicographic.{slice_cmp};
+ghost use Rattle.std.specs.Option.{option_cmp};
+ghost use Rattle.std.specs.Ordering.{nat_cmp, ordering_then};
+ghost use Rattle.iv_lines.specs.Intervals.{interval_of, record_of_interval};
 ghost use Rattle.iv_lines.specs.Fields.{columns as columns_of};
 ghost use Rattle.iv_lines.specs.Widths.{IsWidth};
 
 use crate::fault::RecordFault;
 use crate::genome::Genome;
 use crate::interval::Interval;
-use crate::lines::{Fields, columns};
+use crate::lines::{Fields, columns, split_first_column};
 use crate::number::read_number;
 use crate::record::Record;
 use std::alloc::{AllocError, Allocator};
+use std::cmp::Ordering;
 use std::marker::Model;
 
 /// The strand of a record: the sixth column of a BED line.
@@ -40,103 +45,86 @@ pub fn read_strand(column: &[u8]) -> Option<Strand>
 }
 
 /// Name, score and strand. Those beyond the width are empty.
-#[derive(Clone, Copy, Debug)]
-pub(crate) struct CutColumns<'a> {
-    pub(crate) name: &'a [u8],
-    pub(crate) score: &'a [u8],
-    pub(crate) strand: Option<Strand>,
+#[derive(Clone, Copy)]
+struct CutColumns<'a> {
+    name: &'a [u8],
+    score: &'a [u8],
+    strand: Option<Strand>,
 }
 
-/// The columns of a record after the third.
-#[derive(Clone, Copy, Debug)]
-pub(crate) enum OtherColumns<'a> {
-    /// Each by itself.
-    Cut(CutColumns<'a>),
-    /// All of them as they are in a line, with a TAB between two of them. There is at least one.
-    Joined(&'a [u8]),
-}
-
-/// A checked record: its interval is 0-based and half-open, name and score are slices of the line.
+/// A checked record: its interval is 0-based and half-open, and the rest of its line is lent.
 ///
-/// Columns beyond the width are empty.
+/// The rest is what follows the third TAB. Name, score and strand are cut from it each time that they are asked for; those beyond the
+/// width are empty.
 #[derive(Debug, Drop)]
 pub struct RecordRef<'a> {
     pub(crate) interval: Interval,
-    others: OtherColumns<'a>,
+    pub(crate) rest: &'a [u8],
     pub(crate) width: u8,
 }
 
 impl<'a> Model for RecordRef<'a> {
-    ghost use Rattle.iv_lines.specs.Inside.OtherColumns.{IsHeld, record_held};
+    ghost use Rattle.iv_lines.specs.Inside.Rests.{IsWhole, record_with};
     ghost use Rattle.iv_lines.specs.RecordValue.{RecordValue};
 
     ghost Value = { RecordValue };
 
-    ghost view = { λ r. record_held r.interval r.others r.width };
+    ghost view = { λ r. record_with r.interval r.rest.now r.width };
 
-    ghost invariant = { λ r. IsHeld r.interval r.others r.width };
+    ghost invariant = { λ r. IsWhole r.interval r.rest.now r.width };
 }
 
 impl<'a> RecordRef<'a> {
-    /// The record of these columns, which has a base. Columns beyond the width are empty.
-    pub fn of_columns(
-        interval: Interval,
-        name: &'a [u8],
-        score: &'a [u8],
-        strand: Option<Strand>,
-        width: u8,
-    ) -> RecordRef<'a>
-        requires { IsRecord (record { seq = interval.seq; start = interval.start; stop = interval.stop; name = name.now; score = score.now; strand = strand; width = width }) }
-        ensures { result ≡ record { seq = interval.seq; start = interval.start; stop = interval.stop; name = name.now; score = score.now; strand = strand; width = width } }
-    {
-        RecordRef {
-            interval,
-            others: OtherColumns::Cut(CutColumns {
-                name,
-                score,
-                strand,
-            }),
-            width,
-        }
-    }
-
-    /// The record whose columns after the third are these of a line, with a TAB between two of them: as many as the width has.
-    ///
-    /// They are cut when they are asked for, and put as they are.
-    pub fn of_joined(interval: Interval, joined: &'a [u8], width: u8) -> RecordRef<'a>
+    /// The record of this width with this interval, which has a base, and with these columns after the third, as they are in a line:
+    /// as many as the width has, with a TAB between two of them; at width 3 they are empty.
+    pub fn of_rest(interval: Interval, rest: &'a [u8], width: u8) -> RecordRef<'a>
         requires some { interval.start < interval.stop }
-        requires whole { codes "\t" ++ joined.now ≡ rest_text (joined_record interval.seq interval.start interval.stop joined.now width) }
-        ensures { result ≡ joined_record interval.seq interval.start interval.stop joined.now width }
+        requires none { width < 4 → rest.now ≡ [] }
+        requires whole { 4 ≤ width → codes "\t" ++ rest.now ≡ rest_text (joined_record interval.seq interval.start interval.stop rest.now width) }
+        ensures { result ≡ joined_record interval.seq interval.start interval.stop rest.now width }
     {
         RecordRef {
             interval,
-            others: OtherColumns::Joined(joined),
+            rest,
             width,
         }
     }
 
-    /// All columns after the third, with a TAB between two of them, if they are held so.
-    pub(crate) fn joined(&self) -> Option<&'a [u8]>
-        ensures { IfSome result (λ joined. codes "\t" ++ joined.now ≡ rest_text self.now) }
+    /// The record of three columns with this interval, which has a base.
+    pub fn of_interval(interval: Interval) -> RecordRef<'a>
+        requires { interval.start < interval.stop }
+        ensures { result ≡ record_of_interval interval }
     {
-        match self.others {
-            OtherColumns::Joined(joined) => Some(joined),
-            OtherColumns::Cut(_) => None,
+        RecordRef::of_rest(interval, &[], 3)
+    }
+
+    /// All columns after the third, with a TAB between two of them, `None` at width 3.
+    pub(crate) fn rest_beyond(&self) -> Option<&'a [u8]>
+        ensures { MatchOption result (rest_text self.now ≡ []) (λ rest. codes "\t" ++ rest.now ≡ rest_text self.now) }
+    {
+        if self.width < 4 {
+            return None;
         }
+        Some(self.rest)
     }
 
     /// The columns after the third, each by itself. Those beyond the width are empty.
-    #[inline(always)]
-    pub(crate) fn others(&self) -> CutColumns<'a>
-        ensures beyond { IsRecord self.now }
+    fn others(&self) -> CutColumns<'a>
         ensures name { result.name.now ≡ self.now.name }
         ensures score { result.score.now ≡ self.now.score }
         ensures strand { result.strand ≡ self.now.strand }
     {
-        match self.others {
-            OtherColumns::Cut(others) => others,
-            OtherColumns::Joined(joined) => cut_columns(joined, self.width),
-        }
+        cut_columns(self.rest, self.width)
+    }
+
+    /// The order of two records by their columns after the third. It is apart from the whole order, since most records differ in
+    /// their intervals, and a search compares many.
+    #[inline(never)]
+    pub(crate) fn compare_beside(&self, other: &RecordRef<'_>) -> Ordering
+        ensures { result ≡ beside_cmp self.now other.now }
+    {
+        let (width, other_width) = (self.width, other.width);
+        compare_columns(&self.others(), width, &other.others(), other_width)
     }
 
     /// Its interval.
@@ -221,7 +209,7 @@ impl<'a> RecordRef<'a> {
         if self.width() != width || !is_within(genome, self.seq(), self.stop()) {
             return false;
         }
-        are_sound(width, self.name(), self.score(), self.strand())
+        are_sound(width, &self.others())
     }
 
     /// The part of it from one position to another, which is not included, with its other columns.
@@ -235,7 +223,7 @@ impl<'a> RecordRef<'a> {
         self.lemma_of_interval();
         RecordRef {
             interval: self.interval.part(start as u32, stop as u32),
-            others: self.others,
+            rest: self.rest,
             width: self.width,
         }
     }
@@ -259,12 +247,12 @@ fn next_or_empty<'a>(columns: &mut Fields<'a>) -> &'a [u8]
 }
 
 /// Name, score and strand, as far as the width goes, of the columns after the third.
-fn cut_columns(joined: &[u8], width: u8) -> CutColumns<'_>
-    ensures name { result.name.now ≡ cond (nat_le 4 width) (column (columns_of joined.now) 0) [] }
-    ensures score { result.score.now ≡ cond (nat_le 5 width) (column (columns_of joined.now) 1) [] }
-    ensures strand { result.strand ≡ cond (nat_le 6 width) (strand_of (column (columns_of joined.now) 2)) None }
+fn cut_columns(rest: &[u8], width: u8) -> CutColumns<'_>
+    ensures name { result.name.now ≡ cond (nat_le 4 width) (column (columns_of rest.now) 0) [] }
+    ensures score { result.score.now ≡ cond (nat_le 5 width) (column (columns_of rest.now) 1) [] }
+    ensures strand { result.strand ≡ cond (nat_le 6 width) (strand_of (column (columns_of rest.now) 2)) None }
 {
-    let mut columns = columns(joined);
+    let mut columns = columns(rest);
     let mut cut = CutColumns {
         name: &[],
         score: &[],
@@ -282,6 +270,24 @@ fn cut_columns(joined: &[u8], width: u8) -> CutColumns<'_>
     cut
 }
 
+/// Name, score and strand in the order of a track, and then two widths.
+fn compare_columns(
+    first: &CutColumns<'_>,
+    first_width: u8,
+    second: &CutColumns<'_>,
+    second_width: u8,
+) -> Ordering
+    ensures { result ≡ ordering_then (slice_cmp nat_cmp first.now.name.now second.now.name.now) (ordering_then (slice_cmp nat_cmp first.now.score.now second.now.score.now) (ordering_then (option_cmp strand_cmp first.now.strand second.now.strand) (nat_cmp first_width second_width))) }
+{
+    let scores = first.score.cmp(second.score);
+    let strands = first.strand.cmp(&second.strand);
+    let widths = first_width.cmp(&second_width);
+    first
+        .name
+        .cmp(second.name)
+        .then(scores.then(strands.then(widths)))
+}
+
 /// Whether a name or a score is refused.
 fn is_bad_text(column: &[u8]) -> bool
     ensures { result ≡ bad_text column.now }
@@ -295,12 +301,12 @@ fn is_bad_text(column: &[u8]) -> bool
 }
 
 /// Whether a record of this width may have this name, score and strand.
-pub fn are_sound(width: u8, name: &[u8], score: &[u8], strand: Option<Strand>) -> bool
-    ensures { IsTrue result ↔ AreSoundColumns width name.now score.now strand }
+fn are_sound(width: u8, others: &CutColumns<'_>) -> bool
+    ensures { IsTrue result ↔ AreSoundColumns width others.now.name.now others.now.score.now others.now.strand }
 {
-    (width < 4 || !is_bad_text(name))
-        && (width < 5 || !is_bad_text(score))
-        && (width < 6 || strand.is_some())
+    (width < 4 || !is_bad_text(others.name))
+        && (width < 5 || !is_bad_text(others.score))
+        && (width < 6 || others.strand.is_some())
 }
 
 /// Whether the genome has the rank, and the stop is within its sequence.
@@ -313,65 +319,61 @@ pub(crate) fn is_within<A: Allocator + Copy>(genome: &Genome<A>, seq: u32, stop:
     }
 }
 
-/// The next column if one is wanted, and else an empty one.
-fn next_wanted<'a>(columns: &mut Fields<'a>, wanted: bool) -> Option<&'a [u8]>
-    ensures taken { MatchOption result ((wanted ≡ true) × (columns.old ≡ [])) (λ column. columns.old ≡ chosen wanted column.now columns.new) }
-    ensures empty { wanted ≡ false → IfSome result (λ column. column.now ≡ []) }
+/// Whether a text has so many columns: one more than it has TABs.
+fn are_so_many(text: &[u8], count: u8) -> bool
+    requires { count ≤ 3 }
+    ensures { IsTrue result ↔ (length (columns_of text.now) ≡ count) }
 {
-    if wanted { columns.next() } else { Some(&[]) }
-}
-
-/// The columns of a line after the third, with empty ones beyond the width.
-#[derive(Clone, Copy)]
-pub struct OptionalColumns<'a> {
-    pub name: &'a [u8],
-    pub score: &'a [u8],
-    pub strand: &'a [u8],
-}
-
-/// The columns after the third, if there are as many of them as the width wants.
-pub fn optional_columns_of<'a>(columns: Fields<'a>, width: u8) -> Option<OptionalColumns<'a>>
-    requires { IsWidth width }
-    ensures { MatchOption result (3 + length columns.entry ≢ width) (λ o. (seq start stop : List ℕ) → AreColumns width (seq ∷ start ∷ stop ∷ columns.entry) seq start stop o.name.now o.score.now o.strand.now) }
-{
-    let mut columns = columns;
-    let name = next_wanted(&mut columns, width >= 4)?;
-    let score = next_wanted(&mut columns, width >= 5)?;
-    let strand = next_wanted(&mut columns, width >= 6)?;
-    match columns.next() {
-        Some(_) => None,
-        None => Some(OptionalColumns {
-            name,
-            score,
-            strand,
-        }),
+    let mut columns = columns(text);
+    if count >= 1 && columns.next().is_none() {
+        return false;
     }
+    if count >= 2 && columns.next().is_none() {
+        return false;
+    }
+    if count >= 3 && columns.next().is_none() {
+        return false;
+    }
+    columns.next().is_none()
 }
 
-/// The columns of a line.
+/// The columns of a line: those of the interval, and all after them as they are.
 #[derive(Clone, Copy)]
 struct Cells<'a> {
     seq: &'a [u8],
     start: &'a [u8],
     stop: &'a [u8],
-    others: OptionalColumns<'a>,
+    /// Empty if there are no others.
+    rest: &'a [u8],
 }
 
 /// The columns, if there are as many as the width.
 fn cells_of(line: &[u8], width: u8) -> Option<Cells<'_>>
     requires { IsWidth width }
-    ensures { MatchOption result (length (columns_of line.now) ≢ width) (λ c. AreColumns width (columns_of line.now) c.seq.now c.start.now c.stop.now c.others.name.now c.others.score.now c.others.strand.now) }
+    ensures { MatchOption result (length (columns_of line.now) ≢ width) (λ c. AreCells width (columns_of line.now) c.seq.now c.start.now c.stop.now c.rest.now) }
 {
-    let mut columns = columns(line);
-    let seq = columns.next()?;
-    let start = columns.next()?;
-    let stop = columns.next()?;
-    let others = optional_columns_of(columns, width)?;
+    let (seq, after_seq) = split_first_column(line);
+    let (start, after_start) = split_first_column(after_seq?);
+    let (stop, after_stop) = split_first_column(after_start?);
+    let Some(rest) = after_stop else {
+        if width > 3 {
+            return None;
+        }
+        return Some(Cells {
+            seq,
+            start,
+            stop,
+            rest: &[],
+        });
+    };
+    if !are_so_many(rest, width - 3) {
+        return None;
+    }
     Some(Cells {
         seq,
         start,
         stop,
-        others,
+        rest,
     })
 }
 
@@ -406,14 +408,14 @@ pub fn read_record<'a, A: Allocator + Copy>(
     if stop > length as u64 {
         return Err(RecordFault::PastEnd);
     }
-    if width >= 4 && is_bad_text(cells.others.name) {
+    let others = cut_columns(cells.rest, width);
+    if width >= 4 && is_bad_text(others.name) {
         return Err(RecordFault::Name);
     }
-    if width >= 5 && is_bad_text(cells.others.score) {
+    if width >= 5 && is_bad_text(others.score) {
         return Err(RecordFault::Score);
     }
-    let strand = read_strand(cells.others.strand);
-    if width >= 6 && strand.is_none() {
+    if width >= 6 && others.strand.is_none() {
         return Err(RecordFault::Strand);
     }
     let interval = Interval {
@@ -421,11 +423,5 @@ pub fn read_record<'a, A: Allocator + Copy>(
         start: start as u32,
         stop: stop as u32,
     };
-    Ok(RecordRef::of_columns(
-        interval,
-        cells.others.name,
-        cells.others.score,
-        strand,
-        width,
-    ))
+    Ok(RecordRef::of_rest(interval, cells.rest, width))
 }

@@ -1,13 +1,12 @@
 //! Records as they are printed.
-ghost use Rattle.std.specs.Prelude.{◌≡◌, ◌+◌, ◌≤◌, ◌++◌, length, codes, decimal};
+ghost use Rattle.std.specs.Prelude.{◌≡◌, ◌≤◌, ◌++◌, [], codes, decimal, length};
 ghost use Rattle.iv_bytes.specs.Sinks.{Puts};
 ghost use Rattle.iv_lines.specs.RecordText.{strand_text, rest_text, record_text};
-ghost use Rattle.iv_lines.specs.Inside.RecordText.{interval_columns};
 
 use crate::genome::Genome;
 use crate::record_ref::{RecordRef, Strand};
 use crate::row_buffer::RowBuffer;
-use iv_bytes::{Sink, WriteFault, put_all, put_pieces};
+use iv_bytes::{Sink, WriteFault};
 use std::alloc::Allocator;
 
 /// The sixth column: `+`, `-`, `.`, or nothing.
@@ -22,121 +21,64 @@ pub fn strand_bytes<'t>(strand: Option<Strand>) -> &'t [u8]
     }
 }
 
-/// Puts a record's first three columns, with a TAB between two of them.
-fn put_interval_of<S: Sink, A: Allocator + Copy>(
-    sink: &mut S,
-    genome: &Genome<A>,
-    feature: &RecordRef<'_>,
-) -> Result<(), WriteFault>
-    ensures { Puts (S.state sink.old) (S.state sink.new) result (interval_columns genome.now feature.now) }
-{
-    let name = genome.name_or_empty(feature.seq());
-    RowBuffer::new().put_after_numbers(name, feature.start(), feature.stop(), sink)
-}
-
-/// Puts a record's columns after the third, each with a TAB in front of it.
-fn put_rest<S: Sink>(sink: &mut S, feature: &RecordRef<'_>) -> Result<(), WriteFault>
-    ensures { Puts (S.state sink.old) (S.state sink.new) result (rest_text feature.now) }
-{
-    let name = feature.name();
-    let score = feature.score();
-    let strand = strand_bytes(feature.strand());
-    match feature.width() {
-        0..=3 => put_pieces(sink, &[]),
-        4 => put_pieces(sink, &[b"\t", name]),
-        5 => put_pieces(sink, &[b"\t", name, b"\t", score]),
-        _ => put_pieces(sink, &[b"\t", name, b"\t", score, b"\t", strand]),
-    }
-}
-
-/// Puts a record's columns, as many as its width, piece by piece.
-fn put_columns<S: Sink, A: Allocator + Copy>(
-    sink: &mut S,
-    genome: &Genome<A>,
-    feature: &RecordRef<'_>,
-) -> Result<(), WriteFault>
-    ensures { Puts (S.state sink.old) (S.state sink.new) result (record_text genome.now feature.now) }
-{
-    put_interval_of(sink, genome, feature)?;
-    put_rest(sink, feature)
-}
-
-/// Lays a record's columns after the third, each with a TAB in front of it.
-fn prepend_rest(tail: &mut RowBuffer, feature: &RecordRef<'_>)
-    requires short { (length feature.now.name ≤ 64) × (length feature.now.score ≤ 24) }
-    requires room { length tail.old ≤ 32 }
-    ensures laid { tail.new ≡ rest_text feature.now ++ tail.old }
-    ensures len { length tail.new ≤ length tail.old + 92 }
-{
-    if feature.width() >= 6 {
-        tail.prepend(strand_bytes(feature.strand()));
-        tail.prepend_byte(b'\t');
-    }
-    if feature.width() >= 5 {
-        tail.prepend(feature.score());
-        tail.prepend_byte(b'\t');
-    }
-    if feature.width() >= 4 {
-        tail.prepend(feature.name());
-        tail.prepend_byte(b'\t');
-    }
-}
-
-/// Puts a record whose columns after the third are each by itself, and what is laid after its columns.
-fn put_cut<S: Sink, A: Allocator + Copy>(
+/// Puts a record of three columns, and what is laid after them.
+fn put_alone<S: Sink, A: Allocator + Copy>(
     sink: &mut S,
     genome: &Genome<A>,
     feature: &RecordRef<'_>,
     tail: &mut RowBuffer,
 ) -> Result<(), WriteFault>
+    requires { rest_text feature.now ≡ [] }
     ensures { Puts (S.state sink.old) (S.state sink.new) result (record_text genome.now feature.now ++ tail.old) }
 {
-    if tail.len() > 32 || feature.name().len() > 64 || feature.score().len() > 24 {
-        put_columns(sink, genome, feature)?;
-        return put_all(sink, tail.as_slice());
+    // Both numbers still have room.
+    if tail.len() > 150 {
+        return put_long(sink, genome, feature, &mut RowBuffer::new(), &[], tail);
     }
-    prepend_rest(tail, feature);
     let name = genome.name_or_empty(feature.seq());
     tail.put_after_numbers(name, feature.start(), feature.stop(), sink)
 }
 
-/// Puts a record whose columns after the third are one text, and what is laid after its columns.
-fn put_joined<S: Sink, A: Allocator + Copy>(
+/// Puts a record that has columns after the third, and what is laid after its columns.
+fn put_with_rest<S: Sink, A: Allocator + Copy>(
     sink: &mut S,
     genome: &Genome<A>,
     feature: &RecordRef<'_>,
-    joined: &[u8],
+    rest: &[u8],
     tail: &mut RowBuffer,
 ) -> Result<(), WriteFault>
-    requires { codes "\t" ++ joined.now ≡ rest_text feature.now }
+    requires { codes "\t" ++ rest.now ≡ rest_text feature.now }
     ensures { Puts (S.state sink.old) (S.state sink.new) result (record_text genome.now feature.now ++ tail.old) }
 {
     // A TAB and both numbers still have room.
-    if tail.len() > 32 || joined.len() > 117 {
-        return put_long(sink, genome, feature, joined, tail);
+    if tail.len() > 32 || rest.len() > 117 {
+        let mut front = RowBuffer::new();
+        front.prepend_byte(b'\t');
+        return put_long(sink, genome, feature, &mut front, rest, tail);
     }
-    tail.prepend(joined);
+    tail.prepend(rest);
     tail.prepend_byte(b'\t');
     let name = genome.name_or_empty(feature.seq());
     tail.put_after_numbers(name, feature.start(), feature.stop(), sink)
 }
 
-/// Puts what [`put_joined`] does, whatever its length.
+/// Puts a record, and what is laid after its columns, whatever their length. What is laid in front of the rest of its line comes
+/// between its interval and that.
 fn put_long<S: Sink, A: Allocator + Copy>(
     sink: &mut S,
     genome: &Genome<A>,
     feature: &RecordRef<'_>,
-    joined: &[u8],
+    front: &mut RowBuffer,
+    rest: &[u8],
     tail: &mut RowBuffer,
 ) -> Result<(), WriteFault>
-    requires { codes "\t" ++ joined.now ≡ rest_text feature.now }
+    requires short { length front.old ≤ 1 }
+    requires whole { front.old ++ rest.now ≡ rest_text feature.now }
     ensures { Puts (S.state sink.old) (S.state sink.new) result (record_text genome.now feature.now ++ tail.old) }
 {
     let name = genome.name_or_empty(feature.seq());
-    let mut front = RowBuffer::new();
-    front.prepend_byte(b'\t');
     front.put_after_numbers(name, feature.start(), feature.stop(), sink)?;
-    tail.put_after(joined, sink)
+    tail.put_after(rest, sink)
 }
 
 /// Puts a record's columns, as many as its width, with a TAB between two of them, and what is laid after them.
@@ -151,9 +93,9 @@ pub fn put_row<S: Sink, A: Allocator + Copy>(
 ) -> Result<(), WriteFault>
     ensures { Puts (S.state sink.old) (S.state sink.new) result (record_text genome.now feature.now ++ tail.old) }
 {
-    match feature.joined() {
-        Some(joined) => put_joined(sink, genome, feature, joined, tail),
-        None => put_cut(sink, genome, feature, tail),
+    match feature.rest_beyond() {
+        Some(rest) => put_with_rest(sink, genome, feature, rest, tail),
+        None => put_alone(sink, genome, feature, tail),
     }
 }
 

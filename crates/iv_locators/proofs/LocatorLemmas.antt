@@ -1,5 +1,5 @@
 -- The line at a byte of a text, and the columns of its record.
-use Rattle.std.proofs.Common.{◌≡◌, ℕ, ◌+◌, ◌-◌, ◌<◌, ◌≤◌, ◌⊎◌, inl, inr, Bool, false, nat_le, cond, List, [], ◌∷◌, ◌++◌, None, codes, length, take, drop, refl, sym, ap, ◌∙◌, arith, All}
+use Rattle.std.proofs.Common.{◌≡◌, ℕ, zero, suc, ◌+◌, ◌-◌, ◌<◌, ◌≤◌, ◌⊎◌, inl, inr, Bool, false, nat_le, cond, List, [], ◌∷◌, ◌++◌, None, codes, length, take, drop, refl, sym, ap, ◌∙◌, arith, All}
 use Rattle.std.specs.Prelude.{IsSome}
 use Rattle.std.proofs.lemmas.Bool.Decides.{nat_tests}
 use Rattle.std.proofs.lemmas.List.{drop_all, drop-drop}
@@ -10,7 +10,7 @@ use Rattle.iv_lines.proofs.JoinedLemmas.{tabs-columns, whole-printed, with_tabs}
 use Rattle.iv_lines.specs.Fields.{columns}
 use Rattle.iv_lines.specs.Lines.{lines}
 use Rattle.iv_lines.specs.Read.{column}
-use Rattle.iv_lines.specs.RecordText.{joined_record, rest_text}
+use Rattle.iv_lines.specs.RecordText.{joined_record, rest_text, strand_text}
 use Rattle.iv_lines.specs.RecordValue.{RecordValue, strand_of}
 use Rattle.iv_locators.specs.Inside.Locators.{HasAllColumns, line_at, record_at}
 use Rattle.iv_locators.specs.declared.locator.Locator.{Locator}
@@ -91,7 +91,7 @@ untested w p a b c = λ i. record { seq = p.interval.seq; start = p.interval.sta
     same t x = cond_both t x x (λ y. x ≡ y) (λ _. refl) (λ _. refl)
 
 -- at width 3, or on a line without a fourth column, the record has no column after the third
-pub none-after-third : (w : ℕ) (text : List ℕ) (p : Locator) → (w < 4) ⊎ (drop 3 (columns (line_at text p.line_start)) ≡ []) → none_after w p ≡ record_at w text p
+none-after-third : (w : ℕ) (text : List ℕ) (p : Locator) → (w < 4) ⊎ (drop 3 (columns (line_at text p.line_start)) ≡ []) → none_after w p ≡ record_at w text p
 none-after-third w text p (inr none) =
     untested w p (nat_le 4 w) (nat_le 5 w) (nat_le 6 w) ∙ ap (record_with w p) (sym none) ∙ after-third w p (columns (line_at text p.line_start))
 none-after-third w text p (inl low) =
@@ -108,3 +108,18 @@ none-after-third w text p (inl low) =
       strand = cond (sym six i) (strand_of (column cs 5)) None;
       width = w;
     }
+
+-- so it is that of no rest
+pub none-joined : (w : ℕ) (text : List ℕ) (p : Locator) → (w < 4) ⊎ (drop 3 (columns (line_at text p.line_start)) ≡ []) → joined_record p.interval.seq p.interval.start p.interval.stop [] w ≡ record_at w text p
+none-joined w text p none = sym (untested w p (nat_le 4 w) (nat_le 5 w) (nat_le 6 w)) ∙ none-after-third w text p none
+
+-- beyond width 3 a line has a fourth column
+pub none-wide : (w : ℕ) (text : List ℕ) (p : Locator) → HasAllColumns w text p → (w < 4) ⊎ (drop 3 (columns (line_at text p.line_start)) ≡ []) → 4 ≤ w → ⊥
+none-wide w text p whole (inl low) wide = omega (arith, low, wide)
+none-wide w text p whole (inr none) wide =
+    let r : RecordValue = record_at w text p in
+    by (w - 3) r.name (r.score ∷ strand_text r.strand ∷ []) (omega (arith, wide)) (whole.all wide ∙ ap with_tabs none)
+  where
+    by : (n : ℕ) (c : List ℕ) (cs : List (List ℕ)) → 0 < n → with_tabs (take n (c ∷ cs)) ≡ [] → ⊥
+    by zero c cs some is = omega (arith, some)
+    by (suc n) c cs some is = cc

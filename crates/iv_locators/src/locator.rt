@@ -45,17 +45,6 @@ impl<A: Allocator + Copy> FromRecord<A> for Locator {
     fn most_in_batch() -> usize {
         usize::MAX
     }
-
-    fn is_interval_alone(_width: u8) -> bool {
-        true
-    }
-
-    fn from_interval(_alloc: A, _width: u8, interval: Interval, at: u32) -> Option<Locator> {
-        Some(Locator {
-            interval,
-            line_start: at,
-        })
-    }
 }
 
 /// The columns of a record after the third, as records are compared by them. Those beyond the width are empty.

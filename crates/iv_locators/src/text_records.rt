@@ -81,8 +81,8 @@ impl<'t> TextRecord<'t> {
     {
         let interval = self.locator.interval;
         match joined_columns_of(self.text, self.locator, self.width) {
-            Some(joined) => RecordRef::of_joined(interval, joined, self.width),
-            None => RecordRef::of_columns(interval, b"", b"", None, self.width),
+            Some(joined) => RecordRef::of_rest(interval, joined, self.width),
+            None => RecordRef::of_rest(interval, &[], self.width),
         }
     }
 }

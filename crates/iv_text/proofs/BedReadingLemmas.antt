@@ -17,10 +17,8 @@ use Rattle.iv_lines.specs.declared.fault.Fault.{Fault}
 use Rattle.iv_lines.specs.declared.fault.LoadCause.{LoadCause}
 use Rattle.iv_lines.specs.declared.fault.LoadCause.TheVariants as cause
 use Rattle.iv_lines.specs.declared.fault.LoadFault.{LoadFault}
-use Rattle.iv_text.specs.FastLine.{IsFastLine}
-use Rattle.iv_text.specs.Inside.OnePass.{IsFirstLine}
-use Rattle.iv_lines.specs.declared.interval.Interval.{Interval}
-use Rattle.iv_text.specs.BedReading.{LinesRead, known, projected_draft, after, IsReadAt, IsProjected, AreSoundLines, Held, shown, byte_after, BeginsAfter, Shows, TakesLines, RefusesLines, Reading, begun, read_on, projected_or_fault, projected_bed_of, after_records, finished}
+use Rattle.iv_text.specs.Inside.FastLine.{IsFastLine}
+use Rattle.iv_text.specs.BedReading.{LinesRead, known, projected_draft, after, IsProjected, AreSoundLines, Held, shown, byte_after, BeginsAfter, Shows, TakesLines, RefusesLines, Reading, begun, read_on, projected_or_fault, projected_bed_of, after_records, finished}
 use Rattle.iv_text.specs.Inside.BedReading.{Takes, Refuses, TakesLine, RefusesLine}
 use Rattle.iv_lines.specs.Inside.Pieces.{EndsAtFeed, IsEnded}
 use Rattle.iv_text.proofs.BedLemmas.{row-unread, row-columns, row-taken}
@@ -258,10 +256,6 @@ begins-next at now size next same is skipped =
 known-at : (width : Option ℕ) (w : ℕ) (line : List ℕ) → width ≡ Some w → w ≡ unwrap_or width (length (columns line))
 known-at width w line is = sym (ap (λ (o : Option ℕ). unwrap_or o (length (columns line))) is)
 
--- the record of a line in one pass has the line's interval
-pub short-read : (g : Sequences) (w : ℕ) (text : List ℕ) (at : Interval) (size : ℕ) (short : IsFastLine g w text at size) → IsReadAt w at short.feature
-short-read g w text at size short = record { genome = g; line = short.line; reads = short.reads; interval_is = short.interval_is }
-
 module _ {K : Type 0} (held_of : RecordValue → ℕ → K) (g : Sequences) (limit : ℕ) where
   -- what is left of a text is shown as the text is
   pub shows-left : (projected : RecordValue → RecordValue) (row_of : K → RecordValue) (at : ℕ) (text : List ℕ) (size : ℕ) → Shows held_of g projected row_of at text → Shows held_of g projected row_of (byte_after at size) (drop size text)
@@ -299,28 +293,20 @@ module _ {K : Type 0} (held_of : RecordValue → ℕ → K) (g : Sequences) (lim
       full-refused projected g limit (shown row_of old) (lines text) (lines (drop size text)) line w r are unread wide low high says (omega (arith, full, length-map old.held row_of))
 
   -- the record of a line that is read in one pass was taken, and the width is as it was
-  pub short-taken : (old new : Held K) (w : ℕ) (text : List ℕ) (at : Interval) (size : ℕ) (one : K) (short : IsFastLine g w text at size) → (3 ≤ w) × (w ≤ 6) → old.width ≡ Some w
-      → one ≡ held_of short.feature old.at → old.at < 2 ^ 32 → length old.held < limit → new ≡ record old { width = Some w; held = old.held ++ one ∷ [] }
-      → TakesLine held_of g limit old new text size
-  short-taken old new w text at size one short wide is one_is small free new_is =
-      held-taken old new text short.line size w short.feature one short.lines_are short.unread (known-at old.width w short.line is) wide.0 wide.1 short.reads short.fits one_is small free new_is
-
-  -- the same, if all its columns were read
-  pub first-taken : (old new : Held K) (w : ℕ) (text : List ℕ) (r : RecordValue) (size : ℕ) (one : K) → IsFirstLine g w text r size → (3 ≤ w) × (w ≤ 6) → old.width ≡ Some w
+  pub fast-taken : (old new : Held K) (w : ℕ) (text : List ℕ) (r : RecordValue) (size : ℕ) (one : K) → IsFastLine g w text r size → (3 ≤ w) × (w ≤ 6) → old.width ≡ Some w
       → one ≡ held_of r old.at → old.at < 2 ^ 32 → length old.held < limit → new ≡ record old { width = Some w; held = old.held ++ one ∷ [] }
       → (0 < size) × (size ≤ length text) × TakesLine held_of g limit old new text size
-  first-taken old new w text r size one first wide is one_is small free new_is =
-      let short = first.1 in (
-        short.some,
-        short.within,
-        short-taken old new w text first.0 size one short wide is (one_is ∙ ap (λ (feature : RecordValue). held_of feature old.at) (sym first.2)) small free new_is,
-      )
+  fast-taken old new w text r size one fast wide is one_is small free new_is = (
+    fast.some,
+    fast.within,
+    held-taken old new text fast.line size w r one fast.lines_are fast.unread (known-at old.width w fast.line is) wide.0 wide.1 fast.reads fast.fits one_is small free new_is,
+  )
 
   -- it is one too many
-  pub short-full : (old : Held K) (w : ℕ) (text : List ℕ) (at : Interval) (size : ℕ) → IsFastLine g w text at size → (3 ≤ w) × (w ≤ 6) → old.width ≡ Some w → limit ≤ length old.held
+  pub fast-full : (old : Held K) (w : ℕ) (text : List ℕ) (r : RecordValue) (size : ℕ) → IsFastLine g w text r size → (3 ≤ w) × (w ≤ 6) → old.width ≡ Some w → limit ≤ length old.held
       → RefusesLine held_of g limit old text cause.TooMany
-  short-full old w text at size short wide is full =
-      held-full old text short.line size w short.feature short.lines_are short.unread (known-at old.width w short.line is) wide.0 wide.1 short.reads full
+  fast-full old w text r size fast wide is full =
+      held-full old text fast.line size w r fast.lines_are fast.unread (known-at old.width w fast.line is) wide.0 wide.1 fast.reads full
 
   -- ---- line after line
 

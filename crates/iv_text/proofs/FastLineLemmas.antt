@@ -6,7 +6,8 @@ use Rattle.std.proofs.lemmas.Grind.{common_steps}
 use Rattle.std.proofs.lemmas.Option.{slice_get_within}
 use Rattle.std.proofs.lemmas.List.Elements.{All-nil, All-cons, All-append, All-head, All-tail}
 use Rattle.std.proofs.lemmas.Slice.Eq.{bytes_eq-Decides}
-use Rattle.std.specs.Prelude.{All, IsSome}
+use Rattle.std.specs.Borrow.{Bor}
+use Rattle.std.specs.Prelude.{All, IfSome, IsSome}
 use Rattle.std.specs.List.{list_any}
 use Rattle.std.specs.Char.{is_ascii_digit}
 use Rattle.std.specs.Io.BufRead.{strip_last}
@@ -15,16 +16,20 @@ use Rattle.std.specs.Str.{all_ascii_digits, bytes_eq}
 use Rattle.iv_lines.proofs.LineLemmas.{strip-is, lines-line, strip-front, strip-kept}
 use Rattle.iv_lines.proofs.NumberLemmas.{number-digits}
 use Rattle.iv_lines.proofs.FieldLemmas.{column-last, column-more}
-use Rattle.iv_text.proofs.OnePassLemmas.{line-read, record_of, row-of}
+use Rattle.iv_text.proofs.OnePassLemmas.{line-read}
+use Rattle.iv_lines.proofs.JoinedLemmas.{cells-are}
+use Rattle.iv_lines.specs.Fields.{columns}
+use Rattle.iv_lines.specs.Inside.Rests.{record_with}
+use Rattle.iv_lines.specs.RecordText.{joined_record, rest_text}
 use Rattle.iv_text.specs.BedFile.{is_skipped_line, is_headed}
 use Rattle.iv_lines.specs.Inside.Fields.{HasNoTab, is_separator, ArePassed}
 use Rattle.iv_lines.specs.Genome.{Sequences, length_at}
 use Rattle.iv_lines.specs.Lines.{lines, HasNoFeed, begins_with}
-use Rattle.iv_text.specs.Inside.OnePass.{BeginsWithInterval, BeginsWithCell, BeginsWithCells, IsCell, ends_cell, laid}
-use Rattle.iv_lines.specs.Read.{bad_text}
-use Rattle.iv_lines.specs.Inside.Read.{is_line_byte}
-use Rattle.iv_lines.specs.RecordValue.{IsRecord, strand_of}
-use Rattle.iv_text.specs.FastLine.{IsFastLine}
+use Rattle.iv_text.specs.Inside.OnePass.{BeginsWithInterval, BeginsWithCell, BeginsWithCells, BeginsWithRest, IsCell, ends_cell, laid}
+use Rattle.iv_lines.specs.Read.{AreSoundColumns, bad_text}
+use Rattle.iv_lines.specs.Inside.Read.{AreCells, is_line_byte}
+use Rattle.iv_lines.specs.RecordValue.{strand_of}
+use Rattle.iv_text.specs.Inside.FastLine.{IsFastLine}
 use Rattle.iv_lines.specs.declared.interval.Interval.{Interval}
 use Rattle.iv_lines.specs.declared.record_ref.Strand.{Strand}
 
@@ -196,76 +201,106 @@ laid-in-front : (text cell after rest : List ℕ) (cells : List (List ℕ)) → 
 laid-in-front text cell after rest cells first others =
     first ∙ ap (λ t. 9 ∷ (cell ++ t)) others ∙ ap (λ t. 9 ∷ t) (sym (append_assoc cell (laid cells) rest))
 
-pub three-columns : (w : ℕ) (text : List ℕ) → w ≡ 3 → BeginsWithCells w text [] [] [] text
+pub three-columns : (w : ℕ) (text : List ℕ) → w ≡ 3 → BeginsWithCells w text text
 three-columns w text is = record {
   cells = [];
   text_is = refl;
   plain = All-nil IsCell;
   count = sym is;
-  name_is = refl;
-  score_is = refl;
-  strand_is = refl;
   sound = record { name_good = λ wide. absurd (omega (arith, wide, is)); score_good = λ wide. absurd (omega (arith, wide, is)); strand_good = λ wide. absurd (omega (arith, wide, is)) };
 }
 
-pub four-columns : (w : ℕ) (text name rest : List ℕ) → w ≡ 4 → BeginsWithCell IsText text name rest → BeginsWithCells w text name [] [] rest
-four-columns w text name rest is one = record {
+-- a name or a score after a TAB, and what follows it; and so a strand
+abbrev pub IsAfterText : List ℕ → List ℕ → Type 0
+IsAfterText text rest = (cell : List ℕ) × BeginsWithCell IsText text cell rest
+
+abbrev pub IsAfterStrand : List ℕ → List ℕ → Type 0
+IsAfterStrand text rest = (cell : List ℕ) × BeginsWithCell IsStrand text cell rest
+
+pub four-columns : (w : ℕ) (text rest : List ℕ) → w ≡ 4 → IsAfterText text rest → BeginsWithCells w text rest
+four-columns w text rest is (name, one) = record {
   cells = name ∷ [];
   text_is = laid-in-front text name rest rest [] one.0 refl;
   plain = All-cons IsCell name [] one.1 (All-nil IsCell);
   count = sym is;
-  name_is = refl;
-  score_is = refl;
-  strand_is = refl;
   sound = record { name_good = λ wide. one.2; score_good = λ wide. absurd (omega (arith, wide, is)); strand_good = λ wide. absurd (omega (arith, wide, is)) };
 }
 
-pub five-columns : (w : ℕ) (text name after score rest : List ℕ) → w ≡ 5 → BeginsWithCell IsText text name after → BeginsWithCell IsText after score rest → BeginsWithCells w text name score [] rest
-five-columns w text name after score rest is one two = record {
+pub five-columns : (w : ℕ) (text after rest : List ℕ) → w ≡ 5 → IsAfterText text after → IsAfterText after rest → BeginsWithCells w text rest
+five-columns w text after rest is (name, one) (score, two) = record {
   cells = name ∷ score ∷ [];
   text_is = laid-in-front text name after rest (score ∷ []) one.0 (laid-in-front after score rest rest [] two.0 refl);
   plain = All-cons IsCell name (score ∷ []) one.1 (All-cons IsCell score [] two.1 (All-nil IsCell));
   count = sym is;
-  name_is = refl;
-  score_is = refl;
-  strand_is = refl;
   sound = record { name_good = λ wide. one.2; score_good = λ wide. two.2; strand_good = λ wide. absurd (omega (arith, wide, is)) };
 }
 
-pub six-columns : (w : ℕ) (text name after_name score after_score strand rest : List ℕ) → w ≡ 6 → BeginsWithCell IsText text name after_name → BeginsWithCell IsText after_name score after_score → BeginsWithCell IsStrand after_score strand rest
-    → BeginsWithCells w text name score strand rest
-six-columns w text name after_name score after_score strand rest is one two three = record {
+six-columns : (w : ℕ) (text after_name after_score rest : List ℕ) → w ≡ 6 → IsAfterText text after_name → IsAfterText after_name after_score → IsAfterStrand after_score rest → BeginsWithCells w text rest
+six-columns w text after_name after_score rest is (name, one) (score, two) (strand, three) = record {
   cells = name ∷ score ∷ strand ∷ [];
   text_is = laid-in-front text name after_name rest (score ∷ strand ∷ []) one.0
       (laid-in-front after_name score after_score rest (strand ∷ []) two.0 (laid-in-front after_score strand rest rest [] three.0 refl));
   plain = All-cons IsCell name (score ∷ strand ∷ []) one.1 (All-cons IsCell score (strand ∷ []) two.1 (All-cons IsCell strand [] three.1 (All-nil IsCell)));
   count = sym is;
-  name_is = refl;
-  score_is = refl;
-  strand_is = refl;
   sound = record { name_good = λ wide. one.2; score_good = λ wide. two.2; strand_good = λ wide. three.2 };
 }
 
--- the columns of such cells are those of a record
-pub cells-record : (w : ℕ) (at : Interval) (text name score strand rest : List ℕ) (s : Option Strand) → BeginsWithCells w text name score strand rest → s ≡ strand_of strand → at.start < at.stop
-    → IsRecord (record_of at name score s w)
-cells-record w at text name score strand rest s after is some =
-    row-of w ([] ∷ [] ∷ [] ∷ after.cells) [] [] [] name score strand at s
-    (record { count = omega (arith, after.count); seq_is = refl; start_is = refl; stop_is = refl; name_is = after.name_is; score_is = after.score_is; strand_is = after.strand_is }) is some
+pub six-columns-if : (w : ℕ) (text after_name after_score : List ℕ) (o : Option (Bor (List ℕ))) → w ≡ 6 → IsAfterText text after_name → IsAfterText after_name after_score
+    → IfSome o (λ rest. IsAfterStrand after_score rest.now) → IfSome o (λ rest. BeginsWithCells w text rest.now)
+six-columns-if w text after_name after_score None is one two three = tt
+six-columns-if w text after_name after_score (Some rest) is one two three = six-columns w text after_name after_score rest.now is one two three
+
+-- what is between the first TAB and the end of cells
+pub rest-laid : (w : ℕ) (text end : List ℕ) → w ≢ 3 → (begins : BeginsWithCells w text end) → 9 ∷ take (length text - length end - 1) (drop 1 text) ≡ laid begins.cells
+rest-laid w text end wide begins = by begins.cells (omega (arith, begins.count, wide)) begins.text_is
+  where
+    by : (cells : List (List ℕ)) → 0 < length cells → text ≡ laid cells ++ end → 9 ∷ take (length text - length end - 1) (drop 1 text) ≡ laid cells
+    by [] some is = absurd (omega (arith, some))
+    by (cell ∷ cells) some is =
+        let others : List ℕ = cell ++ laid cells in
+        let size : length text ≡ length others + length end + 1 = ap (length {A = ℕ}) is ∙ grind (arith, common_steps) in
+        ap (λ t. 9 ∷ t)
+        (ap (λ (t : List ℕ). take (length text - length end - 1) (drop 1 t)) is
+        ∙ grind (arith, common_steps, size))
+
+-- the columns of a rest are its cells
+rest-columns : (rest : List ℕ) (cells : List (List ℕ)) → 9 ∷ rest ≡ laid cells → All IsCell cells → columns rest ≡ cells
+rest-columns rest cells is plain =
+    ap (λ (cs : List (List ℕ)). drop 1 cs)
+    (sym (column-more [] rest (All-nil (λ b. is_separator 9 b ≡ false))) ∙ ap columns is ∙ laid-after cells plain [] (All-nil (λ b. is_separator 9 b ≡ false)))
+
+-- a rest that was cut from a line has the columns of a record
+rest-cells : (w : ℕ) (text rest end a b c : List ℕ) → w ≤ 6 → (begins : BeginsWithRest w text rest end) → AreCells w (a ∷ b ∷ c ∷ begins.0.cells) a b c rest
+rest-cells w text rest end a b c few begins =
+    cells-are w a b c rest begins.0.cells begins.0.count few begins.1 (λ wide. rest-columns rest begins.0.cells (begins.2 wide) begins.0.plain)
+
+-- they may be those of a record
+rest-sound : (w : ℕ) (text rest end : List ℕ) → w ≤ 6 → BeginsWithRest w text rest end → AreSoundColumns w (joined_record 0 0 0 rest w).name (joined_record 0 0 0 rest w).score (joined_record 0 0 0 rest w).strand
+rest-sound w text rest end few begins =
+    let cells = rest-cells w text rest end [] [] [] few begins in
+    let sound = begins.0.sound in
+    record {
+      name_good = λ wide. ap bad_text (sym cells.name_is) ∙ sound.name_good wide;
+      score_good = λ wide. ap bad_text (sym cells.score_is) ∙ sound.score_good wide;
+      strand_good = λ wide. subst (λ (s : Option Strand). IsSome s) cells.strand_is (sound.strand_good wide);
+    }
+
+-- and the rest is all that its record prints after the third column
+pub rest-whole : (w : ℕ) (text rest end : List ℕ) → w ≤ 6 → BeginsWithRest w text rest end → 4 ≤ w → codes "\t" ++ rest ≡ rest_text (joined_record 0 0 0 rest w)
+rest-whole w text rest end few begins = (rest-cells w text rest end [] [] [] few begins).whole (rest-sound w text rest end few begins).strand_good
 
 -- a text of at least one byte
 pub first-byte : (text : List ℕ) → 1 ≤ length text → text ≡ get_or text 0 0 ∷ take (length text - 1) (drop 1 text)
 first-byte text some = grind (arith, common_steps)
 
-pub first-alone : (text : List ℕ) → 1 ≤ length text → take 1 text ≡ get_or text 0 0 ∷ []
-first-alone text some = grind (arith, common_steps)
-
 -- ---- a line of a record
 
-pub short-line : (g : Sequences) (w : ℕ) (text next : List ℕ) (at : Interval) (size : ℕ) (rest name score strand end : List ℕ) → BeginsWithInterval g text at rest → BeginsWithCells w rest name score strand end
+pub fast-line : (g : Sequences) (w : ℕ) (text next : List ℕ) (at : Interval) (size : ℕ) (left rest end : List ℕ) → w ≤ 6 → BeginsWithInterval g text at left → BeginsWithRest w left rest end
     → (end ≡ 10 ∷ next) ⊎ (end ≡ 13 ∷ 10 ∷ next) → size ≡ length text - length next
-    → (short : IsFastLine g w text at size) × (short.feature ≡ record_of at name score (strand_of strand) w)
-short-line g w text next at size rest name score strand end place after feed size_is =
+    → IsFastLine g w text (record_with at rest w) size
+fast-line g w text next at size left rest end few place begins feed size_is =
+    let after = begins.0 in
+    let sound = rest-sound w left rest end few begins in
     let cells : List (List ℕ) = after.cells in
     let tail : List ℕ = place.stops ++ laid cells in
     let line : List ℕ = place_line place.name place.starts tail in
@@ -291,20 +326,15 @@ short-line g w text next at size rest name score strand end place after feed siz
       some = place.some;
       within = place.within;
     } in
-    let short : IsFastLine g w text at size = record {
+    record {
       line = line;
-      feature = record_of at name score (strand_of strand) w;
       lines_are = ap lines text_is ∙ ends.3 ∙ ap (λ (t : List ℕ). line ∷ lines t) (sym (ap (drop size) (text_is ∙ ends.2) ∙ sized.1));
       some = omega (arith, ends.1, sized.0);
       within = omega arith;
       unread = unread-after place.name (place.starts ++ 9 ∷ tail) place.named.unread;
-      reads = line-read g w line (laid cells) name score strand cells at (strand_of strand) alone (laid-after cells after.plain)
-          (λ a b c. record { count = omega (arith, after.count); seq_is = refl; start_is = refl; stop_is = refl; name_is = after.name_is; score_is = after.score_is; strand_is = after.strand_is })
-          refl after.sound;
-      interval_is = refl;
-      fits = record { width_is = refl; is_placed = record { some = place.some; within = (ranked g at.seq place.len place.named.length_is, subst (λ n. at.stop ≤ n) (sym (ap (λ (o : Option ℕ). unwrap_or o 0) place.named.length_is)) place.within) }; beside = after.sound };
-    } in
-    (short, refl)
+      reads = line-read g w line (laid cells) rest cells at alone (laid-after cells after.plain) (λ a b c. rest-cells w left rest end a b c few begins) sound;
+      fits = record { width_is = refl; is_placed = record { some = place.some; within = (ranked g at.seq place.len place.named.length_is, subst (λ n. at.stop ≤ n) (sym (ap (λ (o : Option ℕ). unwrap_or o 0) place.named.length_is)) place.within) }; beside = sound };
+    }
   where
     ranked : (h : Sequences) (rank len : ℕ) → length_at h rank ≡ Some len → rank < length h
     ranked h rank len is = by (slice_get h rank) refl is

@@ -1,5 +1,5 @@
 -- A line read in one pass from its front.
-use Rattle.std.proofs.Common.{◌≡◌, ℕ, ◌+◌, ◌-◌, ◌<◌, ◌≤◌, Bool, true, false, ◌&&◌, not, nat_le, List, [], ◌∷◌, ◌++◌, Option, Some, None, Ok, length, find, refl, sym, ap, subst, ◌∙◌, arith, unwrap_or, take, drop, nat_eq}
+use Rattle.std.proofs.Common.{◌≡◌, ℕ, ◌+◌, ◌-◌, ◌<◌, ◌≤◌, Bool, true, false, ◌&&◌, not, nat_le, List, ◌∷◌, ◌++◌, Option, Some, None, Ok, length, find, refl, sym, ap, subst, ◌∙◌, arith, unwrap_or, take, drop, nat_eq}
 use Rattle.std.proofs.lemmas.Bool.{eq-eqb, le-ltb, lt-leb, true≢false}
 use Rattle.std.proofs.lemmas.Bool.Decides.{nat_tests}
 use Rattle.iv_lines.specs.Fields.{columns}
@@ -7,7 +7,6 @@ use Rattle.iv_lines.specs.Number.{number}
 use Rattle.iv_lines.specs.Inside.Fields.{HasNoTab, ArePassed}
 use Rattle.iv_text.specs.Inside.OnePass.{BeginsWithName, BeginsWithNumber, BeginsWithInterval}
 use Rattle.iv_lines.specs.declared.interval.Interval.{Interval}
-use Rattle.iv_lines.specs.declared.record_ref.Strand.{Strand}
 use Rattle.std.specs.Borrow.{Bor}
 use Rattle.std.specs.Prelude.{MatchOption, IfSome, IsSome}
 use Rattle.std.specs.Option.{is_none}
@@ -19,9 +18,10 @@ use Rattle.iv_lines.specs.Genome.{Sequences, length_at}
 use Rattle.iv_lines.specs.Named.{name_index}
 use Rattle.iv_lines.specs.Read.{read, feature, column, has_fault, faults, bad_text, number_in, length_of, AreSoundColumns}
 use Rattle.iv_lines.specs.Chains.{unless_fault}
-use Rattle.iv_lines.specs.Inside.Read.{AreColumns}
-use Rattle.iv_lines.specs.RecordValue.{RecordValue, IsRecord, strand_of}
-use Rattle.std.proofs.lemmas.List.{take-append-drop, get_or_past}
+use Rattle.iv_lines.specs.Inside.Read.{AreCells}
+use Rattle.iv_lines.specs.Inside.Rests.{record_with}
+use Rattle.iv_lines.specs.RecordValue.{RecordValue, strand_of}
+use Rattle.std.proofs.lemmas.List.{take-append-drop}
 use Rattle.iv_lines.proofs.NumberLemmas.{number-plain}
 use Rattle.iv_lines.proofs.FieldLemmas.{column-more}
 use Rattle.iv_lines.proofs.PieceLemmas.{rest-whole}
@@ -80,21 +80,16 @@ none-found : (t : Fault → Bool) → t fault.Columns ≡ false → t fault.Unkn
     → t fault.Name ≡ false → t fault.Score ≡ false → t fault.Strand ≡ false → find t faults ≡ None
 none-found t h1 h2 h3 h4 h5 h6 h7 h8 h9 = simp (h1, h2, h3, h4, h5, h6, h7, h8, h9)
 
--- the record of this interval and these columns
-abbrev pub record_of : Interval → List ℕ → List ℕ → Option Strand → ℕ → RecordValue
-record_of at name score strand w = record { seq = at.seq; start = at.start; stop = at.stop; name = name; score = score; strand = strand; width = w }
-
-sound-line : (g : Sequences) (w : ℕ) (line seq start stop name score sixth : List ℕ) (at : Interval) (len : ℕ) (strand : Option Strand)
-    → AreColumns w (columns line) seq start stop name score sixth → name_index g seq ≡ Some at.seq → length_at g at.seq ≡ Some len → number start ≡ Some at.start → number stop ≡ Some at.stop
-    → strand ≡ strand_of sixth → at.start < at.stop → at.stop ≤ len → AreSoundColumns w name score strand
-    → read g w line ≡ Ok (record_of at name score strand w)
-sound-line g w line seq start stop name score sixth at len strand cols rank_is length_is start_is stop_is strand_is some within sound =
+sound-line : (g : Sequences) (w : ℕ) (line seq start stop rest : List ℕ) (at : Interval) (len : ℕ)
+    → AreCells w (columns line) seq start stop rest → name_index g seq ≡ Some at.seq → length_at g at.seq ≡ Some len → number start ≡ Some at.start → number stop ≡ Some at.stop
+    → at.start < at.stop → at.stop ≤ len → AreSoundColumns w (record_with at rest w).name (record_with at rest w).score (record_with at rest w).strand
+    → read g w line ≡ Ok (record_with at rest w)
+sound-line g w line seq start stop rest at len cols rank_is length_is start_is stop_is some within sound =
     let cs = columns line in
     let r : RecordValue = feature g w cs in
     let ranked : name_index g (column cs 0) ≡ Some at.seq = ap (name_index g) cols.seq_is ∙ rank_is in
     let starts : number (column cs 1) ≡ Some at.start = ap number cols.start_is ∙ start_is in
     let stops : number (column cs 2) ≡ Some at.stop = ap number cols.stop_is ∙ stop_is in
-    let stranded : strand_of (column cs 5) ≡ strand = ap strand_of cols.strand_is ∙ sym strand_is in
     let at_rank : r.seq ≡ at.seq = ap (λ (o : Option ℕ). unwrap_or o 0) ranked in
     let at_start : number_in (column cs 1) ≡ at.start = ap (λ (o : Option ℕ). unwrap_or o 0) starts in
     let at_stop : number_in (column cs 2) ≡ at.stop = ap (λ (o : Option ℕ). unwrap_or o 0) stops in
@@ -108,33 +103,22 @@ sound-line g w line seq start stop name score sixth at len strand cols rank_is l
     (le-ltb (length_of g (column cs 0)) (number_in (column cs 2)) (omega arith))
     (guarded 4 w (bad_text (column cs 3)) (λ h. ap bad_text cols.name_is ∙ sound.name_good h))
     (guarded 5 w (bad_text (column cs 4)) (λ h. ap bad_text cols.score_is ∙ sound.score_good h))
-    (guarded 6 w (is_none (strand_of (column cs 5))) (λ h. ap is_none stranded ∙ is_there strand (sound.strand_good h))) in
-    let same : r ≡ record_of at name score strand w =
-    λ i. record { seq = at_rank i; start = at_start i; stop = at_stop i; name = cols.name_is i; score = cols.score_is i; strand = stranded i; width = w } in
+    (guarded 6 w (is_none (strand_of (column cs 5))) (λ h. ap is_none cols.strand_is ∙ is_there (record_with at rest w).strand (sound.strand_good h))) in
+    let same : r ≡ record_with at rest w =
+    λ i. record { seq = at_rank i; start = at_start i; stop = at_stop i; name = cols.name_is i; score = cols.score_is i; strand = cols.strand_is i; width = w } in
     ap (λ o. unless_fault o (Ok r)) none ∙ ap Ok same
 
--- the columns beyond the width are empty
-pub row-of : (w : ℕ) (cs : List (List ℕ)) (seq start stop name score sixth : List ℕ) (at : Interval) (strand : Option Strand)
-    → AreColumns w cs seq start stop name score sixth → strand ≡ strand_of sixth → at.start < at.stop → IsRecord (record_of at name score strand w)
-row-of w cs seq start stop name score sixth at strand cols strand_is some = record {
-  some = some;
-  no_name = λ h. sym cols.name_is ∙ get_or_past cs 3 [] (omega (arith, cols.count));
-  no_score = λ h. sym cols.score_is ∙ get_or_past cs 4 [] (omega (arith, cols.count));
-  no_strand = λ h. strand_is ∙ ap strand_of (sym cols.strand_is ∙ get_or_past cs 5 [] (omega (arith, cols.count)));
-}
-
 -- a line that was cut from its front
-pub line-read : (g : Sequences) (w : ℕ) (line rest name score sixth : List ℕ) (others : List (List ℕ)) (at : Interval) (strand : Option Strand)
-    → BeginsWithInterval g line at rest → ArePassed rest others → ((a b c : List ℕ) → AreColumns w (a ∷ b ∷ c ∷ others) a b c name score sixth)
-    → strand ≡ strand_of sixth → AreSoundColumns w name score strand
-    → read g w line ≡ Ok (record_of at name score strand w)
-line-read g w line rest name score sixth others at strand place after are strand_is sound =
-    let cols = place-columns line place.name place.starts place.stops rest others place.text_is
+pub line-read : (g : Sequences) (w : ℕ) (line left rest : List ℕ) (others : List (List ℕ)) (at : Interval)
+    → BeginsWithInterval g line at left → ArePassed left others → ((a b c : List ℕ) → AreCells w (a ∷ b ∷ c ∷ others) a b c rest)
+    → AreSoundColumns w (record_with at rest w).name (record_with at rest w).score (record_with at rest w).strand
+    → read g w line ≡ Ok (record_with at rest w)
+line-read g w line left rest others at place after are sound =
+    let cols = place-columns line place.name place.starts place.stops left others place.text_is
     place.named.plain (number-plain place.starts at.start place.start_is) (number-plain place.stops at.stop place.stop_is) after in
-    let all : AreColumns w (columns line) place.name place.starts place.stops name score sixth =
-    subst (λ (cs : List (List ℕ)). AreColumns w cs place.name place.starts place.stops name score sixth) (sym cols) (are place.name place.starts place.stops) in
-    sound-line g w line place.name place.starts place.stops name score sixth at place.len strand all place.named.rank_is place.named.length_is place.start_is place.stop_is
-    strand_is place.some place.within sound
+    let all : AreCells w (columns line) place.name place.starts place.stops rest =
+    subst (λ (cs : List (List ℕ)). AreCells w cs place.name place.starts place.stops rest) (sym cols) (are place.name place.starts place.stops) in
+    sound-line g w line place.name place.starts place.stops rest at place.len all place.named.rank_is place.named.length_is place.start_is place.stop_is place.some place.within sound
 
 -- ---- a line that was read names its record's sequence
 

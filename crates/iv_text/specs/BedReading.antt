@@ -4,12 +4,10 @@ use Rattle.std.specs.Option.{unwrap_or}
 use Rattle.iv_text.specs.BedFile.{Bed, Draft, after_record, bed_of}
 use Rattle.iv_lines.specs.Chains.{if_ok, after_all}
 use Rattle.iv_lines.specs.Genome.{Sequences}
-use Rattle.iv_lines.specs.Intervals.{interval_of}
 use Rattle.iv_lines.specs.Lines.{lines}
 use Rattle.iv_lines.specs.Read.{read, Fits}
 use Rattle.iv_lines.specs.RecordValue.{RecordValue}
 use Rattle.iv_lines.specs.declared.fault.LoadFault.{LoadFault}
-use Rattle.iv_lines.specs.declared.interval.Interval.{Interval}
 
 -- what is known of a file after lines of which the first has the number n, or the first fault
 abbrev pub after_records : Sequences → ℕ → ℕ → Draft → List (List ℕ) → Result Draft LoadFault
@@ -18,13 +16,6 @@ after_records g limit n d lines = after_all (λ n. after_record g limit) n d lin
 -- the file that is known, or its fault: one without a record has the width that is handed in
 abbrev pub finished : ℕ → Result Draft LoadFault → Result Bed LoadFault
 finished empty known = if_ok known (λ d. Ok (record { width = unwrap_or d.width empty; records = d.records }))
-
--- the record is that of some line of this width, and has this interval
-pub record IsReadAt (width : ℕ) (i : Interval) (r : RecordValue) : Type 0 where
-  pub genome : Sequences
-  pub line : List ℕ
-  pub reads : read genome width line ≡ Ok r
-  pub interval_is : i ≡ interval_of r
 
 -- a file with its records projected
 abbrev pub projected_bed : (RecordValue → RecordValue) → Bed → Bed

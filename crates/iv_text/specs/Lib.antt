@@ -1,5 +1,4 @@
 pub mod BedFile
-pub mod FastLine
 pub mod BedReading
 pub mod BedMeaning
 pub mod Inside

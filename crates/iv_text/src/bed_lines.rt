@@ -1,6 +1,6 @@
 //! Lines of a BED file, and what is held of their records.
 ghost use Rattle.std.specs.Prelude.{◌≡◌, ◌<◌, ℕ, IfOk, IfSome, refl, ◌≤◌, ◌+◌, ◌^◌, ◌⊎◌, ◌++◌, ◌∷◌, [], length, Some, IfErr, OnOk, MatchOption};
-ghost use Rattle.iv_text.specs.BedReading.{IsReadAt, AreSoundLines, BeginsAfter, RefusesLines, TakesLines, byte_after, none_held, shown};
+ghost use Rattle.iv_text.specs.BedReading.{AreSoundLines, BeginsAfter, RefusesLines, TakesLines, byte_after, none_held, shown};
 ghost use Rattle.iv_text.specs.Inside.BedReading.{RefusesLine, TakesLine};
 ghost use Rattle.iv_lines.specs.Intervals.{bare, interval_of, record_of_interval};
 ghost use Rattle.iv_lines.specs.RecordValue.{RecordValue};
@@ -35,14 +35,6 @@ pub trait FromRecord<A: Allocator + Copy>: Sized + Drop {
     /// How many of them are in one vector before the next one is begun.
     fn most_in_batch() -> usize;
 
-    /// Whether its interval is all that is held of a record of this width.
-    fn is_interval_alone(width: u8) -> bool;
-
-    /// What is held of the record of a line of this width that begins at this byte, from its interval. `None` leaves it open.
-    fn from_interval(alloc: A, width: u8, interval: Interval, at: u32) -> Option<Self>
-        requires { interval.start < interval.stop }
-        ensures { IfSome result (λ one. (r : RecordValue) → IsReadAt width interval r → one ≡ held_of r at) };
-
     /// A projected record is its own projection.
     ghost again: { (r : RecordValue) → projected (projected r) ≡ projected r };
     /// What is held of a record represents its projection.
@@ -71,17 +63,6 @@ impl<A: Allocator + Copy> FromRecord<A> for Record<A> {
     fn most_in_batch() -> usize {
         2_048
     }
-
-    fn is_interval_alone(width: u8) -> bool {
-        width == 3
-    }
-
-    fn from_interval(alloc: A, width: u8, interval: Interval, _at: u32) -> Option<Self> {
-        if width != 3 {
-            return None;
-        }
-        Some(Record::of_interval(alloc, interval))
-    }
 }
 
 impl<A: Allocator + Copy> FromRecord<A> for Interval {
@@ -103,14 +84,6 @@ impl<A: Allocator + Copy> FromRecord<A> for Interval {
 
     fn most_in_batch() -> usize {
         usize::MAX
-    }
-
-    fn is_interval_alone(_width: u8) -> bool {
-        true
-    }
-
-    fn from_interval(_alloc: A, _width: u8, interval: Interval, _at: u32) -> Option<Self> {
-        Some(interval)
     }
 }
 
@@ -218,38 +191,7 @@ impl<K: FromRecord<A>, A: Allocator + Copy> BedLines<K, A> {
         let Some(width) = self.width() else {
             return Ok(None);
         };
-        if !K::is_interval_alone(width) {
-            return self.take_first(alloc, reader, limit, width, text);
-        }
-        let Some((interval, size)) = reader.read_fast(width, text) else {
-            return Ok(None);
-        };
-        let at = self.at();
-        let Some(one) = K::from_interval(alloc, width, interval, at) else {
-            return Ok(None);
-        };
-        self.take_one(limit, width, one)?;
-        Ok(Some(size))
-    }
-
-    /// Takes the first line of a text if the reader reads all columns of its record in one pass. It answers the line's size.
-    fn take_first(
-        &mut self,
-        alloc: A,
-        reader: &RecordReader<'_, '_, A>,
-        limit: u32,
-        width: u8,
-        text: &[u8],
-    ) -> Result<Option<usize>, LoadCause>
-        requires sound { AreSoundLines K.projected reader.now limit (shown K.as_record self.old) }
-        requires known { self.old.width ≡ Some width }
-        ensures number { self.new.number ≡ self.old.number }
-        ensures at { OnOk result (self.new.at ≡ self.old.at) }
-        ensures ok { IfOk result (λ taken. MatchOption taken (self.new ≡ self.old)
-            (λ size. (0 < size) × (size ≤ length text.now) × TakesLine K.held_of reader.now limit self.old self.new text.now size)) }
-        ensures err { IfErr result (λ c. (c ≡ cause.Memory) ⊎ RefusesLine K.held_of reader.now limit self.old text.now c) }
-    {
-        let Some((record, size)) = reader.read_first(width, text) else {
+        let Some((record, size)) = reader.read_fast(width, text) else {
             return Ok(None);
         };
         let at = self.at();

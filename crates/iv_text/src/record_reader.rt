@@ -1,21 +1,20 @@
 //! Records read line after line.
-ghost use Rattle.std.specs.Prelude.{◌≡◌, ◌≤◌, false, [], ◌∷◌, IfSome, IsSome, length, take, ℕ, ◌+◌, ◌/◌, ◌%◌, ◌^◌, ◌<◌, ◌++◌, None, Some, Ok, IfOk, slice_index, ◌⊎◌};
+ghost use Rattle.std.specs.Prelude.{◌≡◌, ◌≤◌, false, [], ◌∷◌, IfSome, IsSome, length, take, ℕ, List, ◌+◌, ◌/◌, ◌%◌, ◌^◌, ◌<◌, ◌++◌, None, Some, Ok, IfOk, slice_index, ◌⊎◌};
 ghost use Rattle.std.specs.Option.{is_some};
-ghost use Rattle.iv_text.specs.Inside.OnePass.{BeginsWithName, ends_cell, BeginsWithCell, BeginsWithCells, IsCell, IsFirstLine, IsNamed, BeginsWithInterval};
+ghost use Rattle.iv_text.specs.Inside.OnePass.{BeginsWithName, ends_cell, BeginsWithCell, BeginsWithCells, BeginsWithRest, IsCell, IsNamed, BeginsWithInterval};
+ghost use Rattle.iv_text.specs.Inside.FastLine.{IsFastLine};
 ghost use Rattle.iv_lines.specs.Read.{bad_text, read, column, Fits};
 ghost use Rattle.iv_lines.specs.RecordValue.{strand_of};
 ghost use Rattle.iv_lines.specs.Fields.{columns as columns_of};
 ghost use Rattle.iv_lines.specs.Bytes.{tab, carriage_return, line_feed};
 ghost use Rattle.iv_lines.specs.Named.{name_index};
-ghost use Rattle.iv_text.specs.FastLine.{IsFastLine};
 ghost use Rattle.iv_lines.specs.Widths.{IsWidth};
 
 use crate::bed_widths::is_skipped_line;
 use crate::number_prefix::split_number;
 use bstr::ByteSlice;
 use iv_lines::{
-    Genome, Interval, OptionalColumns, RecordFault, RecordRef, after_byte, are_sound,
-    columns_after, cut_first_column, optional_columns_of, read_record, read_strand,
+    Genome, Interval, RecordFault, RecordRef, after_byte, cut_first_column, read_record,
 };
 use std::alloc::Allocator;
 use std::marker::Model;
@@ -70,17 +69,17 @@ fn count_cell(text: &[u8]) -> usize
     ends.trailing_zeros() as usize
 }
 
-/// A name or a score after a TAB, and what follows it, if a text begins with them.
+/// What follows a TAB and a name or a score, if a text begins with them.
 #[inline(always)]
-fn split_text(text: &[u8]) -> Option<(&[u8], &[u8])>
-    ensures { IfSome result (λ p. BeginsWithCell (λ cell. bad_text cell ≡ false) text.now p.0.now p.1.now) }
+fn after_text(text: &[u8]) -> Option<&[u8]>
+    ensures { IfSome result (λ rest. (cell : List ℕ) × BeginsWithCell (λ cell. bad_text cell ≡ false) text.now cell rest.now) }
 {
     let cell = after_byte(text, b'\t')?;
     let end = count_cell(cell);
     if end == 0 {
         return None;
     }
-    Some((&cell[..end], &cell[end..]))
+    Some(&cell[end..])
 }
 
 /// Whether the byte alone means a strand.
@@ -90,47 +89,52 @@ fn is_strand(byte: u8) -> bool
     byte == b'+' || byte == b'-' || byte == b'.'
 }
 
-/// The byte of a strand after a TAB, and what follows it, if a text begins with them.
+/// What follows a TAB and the byte of a strand, if a text begins with them.
 #[inline(always)]
-fn split_strand(text: &[u8]) -> Option<(&[u8], &[u8])>
-    ensures { IfSome result (λ p. BeginsWithCell (λ cell. IsSome (strand_of cell)) text.now p.0.now p.1.now) }
+fn after_strand(text: &[u8]) -> Option<&[u8]>
+    ensures { IfSome result (λ rest. (cell : List ℕ) × BeginsWithCell (λ cell. IsSome (strand_of cell)) text.now cell rest.now) }
 {
     let strand = after_byte(text, b'\t')?;
     match strand {
-        [byte, rest @ ..] if is_strand(*byte) => Some((&strand[..1], rest)),
+        [byte, rest @ ..] if is_strand(*byte) => Some(rest),
         _ => None,
     }
 }
 
-/// The columns of a record of this width after its interval, and what follows them, if a text begins with them.
+/// What follows the columns of a record of this width after its interval, if a text begins with them.
 ///
 /// It is a part of its callers, which read each line of a file: a call would hand the answer over in memory.
 #[inline(always)]
-fn split_cells(width: u8, text: &[u8]) -> Option<(OptionalColumns<'_>, &[u8])>
+fn after_cells(width: u8, text: &[u8]) -> Option<&[u8]>
     requires { IsWidth width }
-    ensures { IfSome result (λ p. BeginsWithCells width text.now p.0.name.now p.0.score.now p.0.strand.now p.1.now) }
+    ensures { IfSome result (λ end. BeginsWithCells width text.now end.now) }
 {
-    let mut columns = OptionalColumns {
-        name: b"",
-        score: b"",
-        strand: b"",
-    };
     if width == 3 {
-        return Some((columns, text));
+        return Some(text);
     }
-    let (name, after_name) = split_text(text)?;
-    columns.name = name;
+    let after_name = after_text(text)?;
     if width == 4 {
-        return Some((columns, after_name));
+        return Some(after_name);
     }
-    let (score, after_score) = split_text(after_name)?;
-    columns.score = score;
+    let after_score = after_text(after_name)?;
     if width == 5 {
-        return Some((columns, after_score));
+        return Some(after_score);
     }
-    let (strand, rest) = split_strand(after_score)?;
-    columns.strand = strand;
-    Some((columns, rest))
+    after_strand(after_score)
+}
+
+/// The columns of a record of this width after its interval, without the TAB before them, and what follows them, if a text begins with
+/// them.
+#[inline(always)]
+fn split_rest(width: u8, text: &[u8]) -> Option<(&[u8], &[u8])>
+    requires { IsWidth width }
+    ensures { IfSome result (λ p. BeginsWithRest width text.now p.0.now p.1.now) }
+{
+    let end = after_cells(width, text)?;
+    if width == 3 {
+        return Some((&[], end));
+    }
+    Some((&text[1..text.len() - end.len()], end))
 }
 
 /// A sequence as a line names it, with its rank and its length.
@@ -321,65 +325,30 @@ impl<'g, 't, A: Allocator + Copy> RecordReader<'g, 't, A> {
         Some((interval, rest))
     }
 
-    /// The interval of the first line of a text, and how many bytes the line has, its LF with them, if it names a sequence that a
-    /// line before named and means a record of this width that ends at a LF: read in one pass, which finds the line's end too.
+    /// The record of the first line of a text, and how many bytes the line has, its LF with them, if it names a sequence that a line
+    /// before named and means a record of this width that ends at a LF: read in one pass, which finds the line's end too.
     ///
     /// `None` leaves it open: [`read`](Self::read) answers for every line.
     #[inline(always)]
-    pub fn read_fast(&self, width: u8, text: &[u8]) -> Option<(Interval, usize)>
+    pub(crate) fn read_fast<'a>(&self, width: u8, text: &'a [u8]) -> Option<(RecordRef<'a>, usize)>
         requires { IsWidth width }
         ensures { IfSome result (λ p. IsFastLine self.now width text.now p.0 p.1) }
     {
-        let (interval, rest) = self.split_interval(text)?;
-        let (_, end) = split_cells(width, rest)?;
+        let (interval, after) = self.split_interval(text)?;
+        let (rest, end) = split_rest(width, after)?;
         let next = after_line_end(end)?;
-        Some((interval, text.len() - next.len()))
-    }
-
-    /// The record of the first line of a text, and how long the line is, under the conditions of [`read_fast`](Self::read_fast).
-    #[inline(always)]
-    pub(crate) fn read_first<'a>(&self, width: u8, text: &'a [u8]) -> Option<(RecordRef<'a>, usize)>
-        requires { IsWidth width }
-        ensures { IfSome result (λ p. IsFirstLine self.now width text.now p.0 p.1) }
-    {
-        let (interval, rest) = self.split_interval(text)?;
-        let (columns, end) = split_cells(width, rest)?;
-        let next = after_line_end(end)?;
-        let strand = read_strand(columns.strand);
-        let record = RecordRef::of_columns(interval, columns.name, columns.score, strand, width);
+        let record = RecordRef::of_rest(interval, rest, width);
         Some((record, text.len() - next.len()))
     }
 
-    /// The record of a line that names a sequence that a line before named, read in one pass from its front.
-    ///
-    /// `None` leaves it open: the line begins with another name, or means no record.
-    fn read_again(&self, width: u8, line: &'t [u8]) -> Option<RecordRef<'t>>
-        requires { IsWidth width }
-        ensures value { IfSome result (λ r. read self.now width line.now ≡ Ok r) }
-        ensures fits { IfSome result (λ r. Fits self.now width r) }
-    {
-        let (interval, rest) = self.split_interval(line)?;
-        let columns = columns_after(rest)?;
-        let others = optional_columns_of(columns, width)?;
-        let strand = read_strand(others.strand);
-        let sound = are_sound(width, others.name, others.score, strand);
-        if !sound {
-            return None;
-        }
-        Some(RecordRef::of_columns(interval, others.name, others.score, strand, width))
-    }
-
-    /// The record that the next line means at a width, or its first fault, as
-    /// [`read_record`](crate::read_record) answers it. A line that names a known sequence is read in one pass.
+    /// The record that the next line means at a width, or its first fault, as [`read_record`](crate::read_record) answers it. The
+    /// sequence that it names is known from then on.
     pub fn read(&mut self, width: u8, line: &'t [u8]) -> Result<RecordRef<'t>, RecordFault>
         requires { IsWidth width }
         ensures same { self.new ≡ self.old }
         ensures value { result ≡ read self.old width line.now }
         ensures fits { IfOk result (λ r. Fits self.old width r) }
     {
-        if let Some(feature) = self.read_again(width, line) {
-            return Ok(feature);
-        }
         let feature = read_record(self.genome, width, line)?;
         self.last = named_by(self.genome, line, feature.seq());
         if let Some(named) = self.last {

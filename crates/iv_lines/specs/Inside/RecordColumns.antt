@@ -1,26 +1,27 @@
--- The record that stored columns are.
+-- What stored columns are.
 use Rattle.std.specs.Prelude.{ℕ, List, []}
-use Rattle.iv_lines.specs.RecordValue.{RecordValue}
 use Rattle.iv_lines.specs.declared.interval.Interval.{Interval}
-use Rattle.iv_lines.specs.declared.record_columns.StrandAndWidth.{StrandAndWidth}
 use Rattle.iv_lines.specs.declared.record_columns.RecordColumns.{RecordColumns}
 use Rattle.iv_lines.specs.declared.record_columns.RecordColumns.TheVariants.{Empty, Short, Medium, Long}
 
--- the record of these columns; its name and its score are a pair
-abbrev pub record_of : StrandAndWidth → Interval → List ℕ × List ℕ → RecordValue
-record_of beside interval texts = record {
-  seq = interval.seq;
-  start = interval.start;
-  stop = interval.stop;
-  name = texts.0;
-  score = texts.1;
-  strand = beside.strand;
-  width = beside.width;
-}
+module _ {A : Type 0} where
+  -- the interval
+  abbrev pub interval_held : RecordColumns A → Interval
+  interval_held (Empty width interval) = interval
+  interval_held (Short width interval rest) = interval
+  interval_held (Medium width interval rest) = interval
+  interval_held (Long width interval rest) = interval
 
--- the record of stored columns, wherever its name and its score are
-abbrev pub record_at : {A : Type 0} → RecordColumns A → RecordValue
-record_at (Empty beside interval) = record_of beside interval ([], [])
-record_at (Short beside interval texts) = record_of beside interval texts.value
-record_at (Medium beside interval texts) = record_of beside interval texts.value
-record_at (Long beside interval texts) = record_of beside interval texts.value
+  -- the rest, wherever it is
+  abbrev pub rest_held : RecordColumns A → List ℕ
+  rest_held (Empty width interval) = []
+  rest_held (Short width interval rest) = rest.value
+  rest_held (Medium width interval rest) = rest.value
+  rest_held (Long width interval rest) = rest.value.items
+
+  -- the width
+  abbrev pub width_held : RecordColumns A → ℕ
+  width_held (Empty width interval) = width
+  width_held (Short width interval rest) = width
+  width_held (Medium width interval rest) = width
+  width_held (Long width interval rest) = width

@@ -2,7 +2,6 @@
 use Rattle.std.specs.Prelude.{◌≡◌, ◌<◌, ◌≤◌, All, ℕ, ◌+◌, ◌||◌, Bool, false, List, [], ◌∷◌, ◌++◌, Some, length}
 use Rattle.iv_text.specs.BedFile.{is_skipped_line}
 use Rattle.iv_lines.specs.Bytes.{tab}
-use Rattle.iv_text.specs.FastLine.{IsFastLine}
 use Rattle.iv_lines.specs.Inside.Fields.{HasNoTab, is_separator}
 use Rattle.iv_lines.specs.Lines.{HasNoFeed}
 use Rattle.iv_lines.specs.Number.{number}
@@ -10,7 +9,7 @@ use Rattle.iv_lines.specs.Genome.{Sequences, length_at}
 use Rattle.iv_lines.specs.Named.{name_index}
 use Rattle.iv_lines.specs.Read.{column, AreSoundColumns}
 use Rattle.iv_lines.specs.Inside.Read.{is_line_byte}
-use Rattle.iv_lines.specs.RecordValue.{RecordValue, strand_of}
+use Rattle.iv_lines.specs.RecordValue.{strand_of}
 use Rattle.iv_lines.specs.declared.interval.Interval.{Interval}
 
 -- the name is that of a sequence of the genome, with its rank and its length; it holds no TAB and no LF, and as a line it would be no header
@@ -59,18 +58,15 @@ abbrev pub laid : List (List ℕ) → List ℕ
 laid [] = []
 laid (cell ∷ cells) = tab ∷ (cell ++ laid cells)
 
--- the text begins with the cells of a record of this width after its interval, each after its TAB, and the rest is after them; its
--- columns are these, and those beyond the width are empty
-pub record BeginsWithCells (width : ℕ) (text name score strand rest : List ℕ) : Type 0 where
+-- the text begins with the cells of a record of this width after its interval, each after its TAB, and the end is after them; the record
+-- may have them
+pub record BeginsWithCells (width : ℕ) (text end : List ℕ) : Type 0 where
   pub cells : List (List ℕ)
-  pub text_is : text ≡ laid cells ++ rest
+  pub text_is : text ≡ laid cells ++ end
   pub plain : All IsCell cells
   pub count : 3 + length cells ≡ width
-  pub name_is : column cells 0 ≡ name
-  pub score_is : column cells 1 ≡ score
-  pub strand_is : column cells 2 ≡ strand
-  pub sound : AreSoundColumns width name score (strand_of strand)
+  pub sound : AreSoundColumns width (column cells 0) (column cells 1) (strand_of (column cells 2))
 
--- the text begins with a line of this record that has so many bytes and is read in one pass
-abbrev pub IsFirstLine : Sequences → ℕ → List ℕ → RecordValue → ℕ → Type 0
-IsFirstLine g width text feature size = (i : Interval) × (fast : IsFastLine g width text i size) × (fast.feature ≡ feature)
+-- so it does, and the rest is what is between the first TAB and the end, or empty at width 3
+abbrev pub BeginsWithRest : ℕ → List ℕ → List ℕ → List ℕ → Type 0
+BeginsWithRest width text rest end = (begins : BeginsWithCells width text end) × (width < 4 → rest ≡ []) × (4 ≤ width → tab ∷ rest ≡ laid begins.cells)

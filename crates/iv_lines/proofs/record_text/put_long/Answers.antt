@@ -1,4 +1,3 @@
-use Rattle.std.proofs.Common.{List, ℕ, ◌∷◌, ap, ◌∙◌}
 use Rattle.iv_bytes.proofs.PutLemmas.{Puts-err}
 use Rattle.iv_lines.proofs.JoinedLemmas.{front-is, long-fails, long-put}
 use Rattle.iv_lines.proofs.record_text.put_long.Goals as goal
@@ -8,12 +7,10 @@ returns-in_err-put_after_numbers g c =
     let begins = front-is c.args.genome.now c.args.feature.now c.seq.result c.start.result c.stop.result c.name_or_empty-name.result.now
     c.name_or_empty-name.ensures c.seq.ensures c.start.ensures c.stop.ensures.value in
     Puts-err _ _ c.from_residual.result _ c.from_residual.ensures.0
-    (long-fails _ _ _ _ c.prepend_byte.new.self c.args.joined.now _ c.args.tail.now begins
-    (c.prepend_byte.ensures ∙ ap (λ (l : List ℕ). 9 ∷ l) c.new-front.ensures) c.requires (c.in_err-put_after_numbers.ensures))
+    (long-fails _ _ _ _ c.args.front.now c.args.rest.now _ c.args.tail.now begins c.requires.whole (c.in_err-put_after_numbers.ensures))
 
 pub returns : goal.returns
 returns g c =
     let begins = front-is c.args.genome.now c.args.feature.now c.seq.result c.start.result c.stop.result c.name_or_empty-name.result.now
     c.name_or_empty-name.ensures c.seq.ensures c.start.ensures c.stop.ensures.value in
-    long-put _ _ _ _ _ _ c.prepend_byte.new.self c.args.joined.now _ c.args.tail.now begins
-    (c.prepend_byte.ensures ∙ ap (λ (l : List ℕ). 9 ∷ l) c.new-front.ensures) c.requires (c.in_ok-put_after_numbers.ensures) c.put_after.ensures
+    long-put _ _ _ _ _ _ c.args.front.now c.args.rest.now _ c.args.tail.now begins c.requires.whole (c.in_ok-put_after_numbers.ensures) c.put_after.ensures
