@@ -38,7 +38,7 @@ help:
 	@echo 'make install     put the built program, the man pages, its completions and the Python package below PREFIX (/usr/local)'
 	@echo 'make uninstall   take them away again'
 	@echo 'make dist    build it, then leave an archive, a Debian package and a wheel of a release in build/'
-	@echo 'make test    all proofs from nothing, the mutants of must-fail/, and all tests; about an hour'
+	@echo 'make test    all proofs from nothing, the mutants of must-fail/, and all tests; one to two hours'
 	@echo 'make mutants   the mutants that make test leaves out, an hour or more'
 	@echo 'make clean   remove all that builds and proofs left behind'
 	@echo 'make help    this list'
