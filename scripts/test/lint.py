@@ -6,7 +6,7 @@ block `impl From<..> for FAULT`; all other code hands it on by `?`, or by an arm
 contract cannot tell a call in which an allocation failed from one that gave up, since failures have no place in the logic.
 So the names NoMemory, Memory and AllocError may be in patterns, comparisons, types, declarations and `use` lines, and as
 values in those blocks and arms alone. AllocError itself is made in `test_faults` alone, the allocator that refuses on
-purpose, and where FULL_COUNTS says that a count of items would leave its number, which no memory is large enough for.
+purpose, and where FULL_COUNTS says that a count would leave its number.
 
 Meter: steps are counted by the meter that is handed in; a call that made a meter of its own would hide its steps.
 So a meter is made only in the functions that MAKES_A_METER names, file by file, once in each and in no loop: in the calls of a
@@ -37,9 +37,11 @@ MAKES_A_METER = {
     "iv_workspace/src/session/lengths.rt": {"has_record_past"},
     "iv_workspace/src/session/open_views.rt": {"open_view", "print_view", "show_view", "print_all", "show_all"},
 }
-# A list of items in several vectors may be longer than any one of them, so their number is looked at before it grows.
+# A list of items in several vectors may be longer than any one of them, so their number is looked at before it grows. A place of a
+# record says in 32 bits where its rest begins: the program reads no file of 2^32 bytes, so it never comes to that.
 FULL_COUNTS = {
     "iv_lines/src/batches.rt": (r"let Some\(len\) = self\.len\.checked_add\(1\) else \{", ""),
+    "iv_locators/src/places.rt": (r"let Ok\(from\) = u32::try_from\(self\.rests\.len\(\)\) else \{", ""),
     "iv_ledger/src/ledger.rt": (r"if (?:self\.)?len == MOST_ENTRIES \{", "const MOST_ENTRIES: usize = 9_223_372_036_854_775_807;"),
 }
 # Under its own name it is found wherever it is made: `C::Meter::new()` too.

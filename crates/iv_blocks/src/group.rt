@@ -10,7 +10,6 @@ ghost use Rattle.iv_blocks.specs.Inside.Insertion.{key_of};
 
 use iv_ledger::Meter;
 use iv_lines::{RecordRef, Strand};
-use iv_locators::TextRecord;
 use iv_track::{Track, TrackRecord, TrackRecords};
 use std::alloc::Allocator;
 use std::marker::Model;
@@ -51,7 +50,7 @@ impl Side {
     }
 
     /// Whether the record is on this side. If both are one, its line isn't looked at.
-    pub(crate) fn has(self, feature: &TextRecord<'_>) -> bool
+    pub(crate) fn has(self, feature: &RecordRef<'_>) -> bool
         ensures { result ≡ is_on self feature.now }
     {
         match self {

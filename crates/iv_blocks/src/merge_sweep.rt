@@ -1,4 +1,4 @@
-//! A merge of the records of a text.
+//! A merge of the records of a file.
 ghost use Rattle.std.specs.Prelude.{◌≡◌, ◌≤◌, All, IfOk, length, filter, vec_capacity};
 ghost use Rattle.iv_bytes.specs.Sinks.{Puts};
 ghost use Rattle.iv_lines.specs.Ordered.{AreInOrder};
@@ -15,15 +15,15 @@ use crate::side_blocks::{SideBlock, SideBlocks};
 use iv_bytes::{Sink, WriteFault, put_all};
 use iv_cover::{ColumnSummary, Value, asks_distinct, put_results};
 use iv_lines::{Genome, RowBuffer};
-use iv_locators::TextRecords;
+use iv_locators::PlacedRecords;
 use std::alloc::{AllocError, Allocator, Global};
 use std::marker::Model;
 
-/// The options of a merge, the records of a text, and if a summary is `distinct`, room for a value of each.
+/// The options of a merge, the records of a file, and if a summary is `distinct`, room for a value of each.
 #[derive(Drop)]
 pub struct MergeSweep<'t, A: Allocator = Global> {
     options: BlockOptions,
-    records: TextRecords<'t>,
+    records: PlacedRecords<'t>,
     // The values of one block, while its row is printed.
     values: Vec<Value<'t>, A>,
 }
@@ -47,7 +47,7 @@ impl<'t, A: Allocator + Copy> MergeSweep<'t, A> {
     pub fn new(
         alloc: A,
         options: BlockOptions,
-        records: TextRecords<'t>,
+        records: PlacedRecords<'t>,
     ) -> Result<Self, AllocError>
         ensures { IfOk result (λ s. s ≡ (options, records.entry)) }
     {
@@ -90,7 +90,7 @@ impl<'t, A: Allocator + Copy> MergeSweep<'t, A> {
 pub(crate) fn put_sequence<'t, A: Allocator, S: Sink>(
     options: &BlockOptions,
     name: &'t [u8],
-    records: &TextRecords<'t>,
+    records: &PlacedRecords<'t>,
     values: &mut Vec<Value<'t>, A>,
     sink: &mut S,
 ) -> Result<(), WriteFault>
@@ -110,7 +110,7 @@ fn put_side<'t, A: Allocator, S: Sink>(
     options: &BlockOptions,
     name: &'t [u8],
     side: Side,
-    records: &TextRecords<'t>,
+    records: &PlacedRecords<'t>,
     values: &mut Vec<Value<'t>, A>,
     sink: &mut S,
 ) -> Result<(), WriteFault>

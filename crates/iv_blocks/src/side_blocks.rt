@@ -1,4 +1,4 @@
-//! The records of a text on one side, and their blocks, one after another.
+//! The records of a file on one side, and their blocks, one after another.
 ghost use Rattle.std.specs.Prelude.{◌≡◌, ◌∷◌, ◌+◌, ◌^◌, ◌<◌, ◌≤◌, length, take, drop, filter, map, None, true, List, All};
 ghost use Rattle.std.specs.Iterator.{YieldsFirst, item_count};
 ghost use Rattle.iv_lines.specs.Genome.{Sequences};
@@ -12,8 +12,8 @@ ghost use Rattle.iv_blocks.specs.Inside.Groups.{is_on};
 
 use crate::group::Side;
 use iv_cover::{Column, ParsedNumber, Value, Values};
-use iv_lines::Interval;
-use iv_locators::{TextRecord, TextRecords};
+use iv_lines::{Interval, RecordRef};
+use iv_locators::PlacedRecords;
 use std::marker::Model;
 
 /// A block, and the records that are in it, in their order.
@@ -31,14 +31,14 @@ impl<'t> Model for SideBlock<'t> {
     ghost view = { λ b. with_members b.block b.members };
 }
 
-/// The blocks that remain of a sweep over records of a text, of those on one side: an iterator.
+/// The blocks that remain of a sweep over records of a file, of those on one side: an iterator.
 ///
 /// Records of one sequence that overlap, are book-ended or are at most `distance` bases apart are in one
 /// block. Blocks come by the sequence's rank, and then by start. The model is the list of those that are left, each with its
 /// members. No call takes memory.
 #[derive(Drop)]
 pub(crate) struct SideBlocks<'t> {
-    rest: TextRecords<'t>,
+    rest: PlacedRecords<'t>,
     side: Side,
     distance: u32,
 }
@@ -56,7 +56,7 @@ impl<'t> Model for SideBlocks<'t> {
 
 impl<'t> SideBlocks<'t> {
     /// The blocks of those of the records that are on the side.
-    pub(crate) fn of(records: &TextRecords<'t>, side: Side, distance: u32) -> Self
+    pub(crate) fn of(records: &PlacedRecords<'t>, side: Side, distance: u32) -> Self
         ensures { result ≡ remaining_blocks distance None (filter (is_on side) records.now) }
     {
         SideBlocks {
@@ -69,7 +69,7 @@ impl<'t> SideBlocks<'t> {
     /// The blocks of all records, which are in the order of a track.
     ///
     /// They are the blocks of the definition for every genome that the records are on.
-    pub(crate) fn of_all(records: &TextRecords<'t>, distance: u32) -> Self
+    pub(crate) fn of_all(records: &PlacedRecords<'t>, distance: u32) -> Self
         requires { AreInOrder records.now }
         ensures { (g : Sequences) → All (IsOnGenome g) records.now → result ≡ blocks_of distance g records.now }
     {
@@ -101,7 +101,7 @@ impl<'t> Iterator for SideBlocks<'t> {
 }
 
 /// The records from the first on the side on.
-fn ahead_on<'t>(side: Side, records: &TextRecords<'t>) -> TextRecords<'t>
+fn ahead_on<'t>(side: Side, records: &PlacedRecords<'t>) -> PlacedRecords<'t>
     ensures same { filter (is_on side) result ≡ filter (is_on side) records.now }
     ensures first { (r : RecordValue) (rs : List RecordValue) → result ≡ r ∷ rs → is_on side r ≡ true }
 {
@@ -118,8 +118,8 @@ fn ahead_on<'t>(side: Side, records: &TextRecords<'t>) -> TextRecords<'t>
 /// The block that a record on the side begins, with those of the others that join it, and how many there are up to its end,
 /// with those of the other side.
 fn block_from(
-    first: &TextRecord<'_>,
-    others: TextRecords<'_>,
+    first: &RecordRef<'_>,
+    others: PlacedRecords<'_>,
     side: Side,
     distance: u32,
 ) -> (Interval, usize)
@@ -145,12 +145,12 @@ fn block_from(
     (block, count)
 }
 
-/// Records of a text on one side, in their order: an iterator. Its model is the list of those that are left.
+/// Records of a file on one side, in their order: an iterator. Its model is the list of those that are left.
 ///
 /// Those of the other side are between them and are passed over. No call takes memory.
 #[derive(Drop)]
 pub(crate) struct SideRecords<'t> {
-    records: TextRecords<'t>,
+    records: PlacedRecords<'t>,
     side: Side,
 }
 
@@ -166,7 +166,7 @@ impl<'t> Model for SideRecords<'t> {
 
 impl<'t> SideRecords<'t> {
     /// Those of the records that are on the side.
-    pub(crate) fn of(records: TextRecords<'t>, side: Side) -> SideRecords<'t>
+    pub(crate) fn of(records: PlacedRecords<'t>, side: Side) -> SideRecords<'t>
         ensures { result ≡ filter (is_on side) records.entry }
     {
         SideRecords { records, side }
@@ -174,14 +174,14 @@ impl<'t> SideRecords<'t> {
 }
 
 impl<'t> Iterator for SideRecords<'t> {
-    type Item = TextRecord<'t>;
+    type Item = RecordRef<'t>;
 
     ghost next_gives = { YieldsFirst (λ members. members) };
 
     ghost remaining = { item_count (λ members. members) };
 
     /// The next record on the side, `None` after the last.
-    fn next(&mut self) -> Option<TextRecord<'t>> {
+    fn next(&mut self) -> Option<RecordRef<'t>> {
         while let Some((record, others)) = self.records.split_first() {
             self.records = others;
             if self.side.has(&record) {
@@ -215,12 +215,12 @@ impl<'t> Values<'t> for SideRecords<'t> {
 
     fn next_value(&mut self, name: &'t [u8], column: Column) -> Option<Value<'t>> {
         let member = self.next()?;
-        Some(Value::of(column, name, &member.to_ref()))
+        Some(Value::of(column, name, &member))
     }
 
     fn next_number(&mut self, name: &'t [u8], column: Column) -> Option<ParsedNumber> {
         let member = self.next()?;
-        Some(ParsedNumber::of_column(column, name, &member.to_ref()))
+        Some(ParsedNumber::of_column(column, name, &member))
     }
 
     fn lemma_of_size(&self) {

@@ -1,4 +1,4 @@
-//! The rows of a merge and a complement in one sweep over sorted intervals, and those of a cluster over sorted records of a text.
+//! The rows of a merge and a complement in one sweep over sorted intervals, and those of a cluster over sorted records of a file.
 ghost use Rattle.std.specs.Prelude.{◌≡◌, ◌∷◌, map, None, Some, List, All};
 ghost use Rattle.std.specs.Iterator.{YieldsFirst, item_count};
 ghost use Rattle.std.specs.List.{flat_map};
@@ -20,7 +20,7 @@ use crate::complement::put_gaps;
 use crate::side_blocks::{SideBlocks, SideRecords};
 use iv_bytes::{Sink, WriteFault};
 use iv_lines::{Genome, Interval, put_interval, put_numbered};
-use iv_locators::TextRecords;
+use iv_locators::PlacedRecords;
 use std::alloc::Allocator;
 use std::marker::Model;
 
@@ -62,7 +62,7 @@ fn put_block<A: Allocator + Copy, S: Sink>(
 /// fault the sink has taken a prefix of the text.
 pub fn put_cluster<A: Allocator + Copy, S: Sink>(
     distance: u32,
-    records: &TextRecords<'_>,
+    records: &PlacedRecords<'_>,
     genome: &Genome<A>,
     sink: &mut S,
 ) -> Result<(), WriteFault>
@@ -90,7 +90,7 @@ fn put_members<A: Allocator + Copy, S: Sink>(
     ensures { Puts (S.state sink.old) (S.state sink.new) result (flat_map (numbered_row genome.now number) members.entry) }
 {
     for member in members {
-        put_numbered(sink, genome, &member.to_ref(), number)?;
+        put_numbered(sink, genome, &member, number)?;
     }
     Ok(())
 }

@@ -1,36 +1,19 @@
 -- The session that files begin.
-use Rattle.std.proofs.Common.{◌≡◌, ◌≤◌, ℕ, List, [], ◌∷◌, length, IfSome, Option, None, Some, Result, Ok, Err, refl, sym, ap, ◌∙◌, ◌⊎◌, inl, inr, IfOk, IfErr}
-use Rattle.std.specs.Prelude.{All, map}
-use Rattle.std.specs.Option.{option_map}
+use Rattle.std.proofs.Common.{◌≡◌, ◌≤◌, ℕ, List, length, IfSome, Option, None, Some, Result, Ok, Err, sym, ap, ◌∙◌, ◌⊎◌, inl, inr, IfOk, IfErr}
+use Rattle.std.specs.Prelude.{All}
 use Rattle.iv_lines.specs.Genome.{Sequences}
 use Rattle.iv_text.specs.BedFile.{Bed}
 use Rattle.iv_lines.specs.Chains.{if_ok}
-use Rattle.iv_text.specs.BedReading.{projected_bed}
 use Rattle.iv_lines.specs.Read.{Fits}
-use Rattle.iv_lines.specs.RecordValue.{RecordValue}
 use Rattle.iv_text.proofs.BedReadingLemmas.{fit-all}
 use Rattle.iv_workspace.specs.States.{State, begun}
 use Rattle.iv_run.specs.declared.fault.CliFault.{CliFault}
 use Rattle.iv_run.specs.declared.fault.CliFault.TheVariants.{Memory}
 use Rattle.iv_run.specs.Loading.{IsReport, Parsed, parsed}
-use Rattle.iv_run.specs.RunFiles.{AreProjected}
-use Rattle.iv_run.specs.Inside.RunFiles.{ReportsProjected, projected_files}
+use Rattle.iv_run.specs.RunFiles.{AreAllWanted, AreProjected}
+use Rattle.iv_run.specs.Inside.RunFiles.{Reports, held_files}
+use Rattle.iv_run.proofs.WantedLemmas.{held-whole}
 use Rattle.iv_cli.specs.Loading.{loaded}
-
--- what is held of whole records is the records
-same-all : (records : List RecordValue) → map (λ (r : RecordValue). r) records ≡ records
-same-all [] = refl
-same-all (r ∷ records) = ap (λ (l : List RecordValue). r ∷ l) (same-all records)
-
-same-bed : (b : Bed) → projected_bed (λ r. r) b ≡ b
-same-bed b = ap (λ (l : List RecordValue). record { width = b.width; records = l }) (same-all b.records)
-
-same-beside : (o : Option Bed) → option_map (projected_bed (λ r. r)) o ≡ o
-same-beside None = refl
-same-beside (Some b) = ap Some (same-bed b)
-
-same-files : (files : Parsed) → projected_files (λ r. r) files ≡ files
-same-files files = λ i. record files { first = same-bed files.first i; second = same-beside files.second i }
 
 -- records that fit a genome
 pub fits-beside : (g : Sequences) (limit : ℕ) (o : Option Bed) → IfSome o (AreProjected (λ r. r) g limit) → IfSome o (λ file. All (Fits g file.width) file.records)
@@ -58,13 +41,13 @@ module _ (width : ℕ) (sizes text : List ℕ) (other bases : Option (List ℕ))
   begins_at files = Ok (begun files.genome files.first files.second files.bases files.limit)
 
   -- the files are sound, and all of their records is held
-  pub begins : (files : Parsed) (r : Result State CliFault) → ReportsProjected (λ r. r) (Ok files) (parsed width sizes text other bases limit)
+  pub begins : (files : Parsed) (r : Result State CliFault) → Reports (λ r. r) AreAllWanted (Ok files) (parsed width sizes text other bases limit)
       → IfOk r (λ s. s ≡ begun files.genome files.first files.second files.bases files.limit) → IfErr r (λ k. k ≡ Memory) → IsReport r (loaded width sizes text other bases limit)
   begins files (Ok s) all ok err =
-      ap (λ (read : Result Parsed CliFault). if_ok read begins_at) (all.1 ∙ ap Ok (sym (all.2 ∙ same-files all.0))) ∙ ap Ok (sym ok)
+      ap (λ (read : Result Parsed CliFault). if_ok read begins_at) (all.2 ∙ ap Ok (sym (all.4 ∙ ap (λ w. held_files (λ r. r) w all.0) all.3 ∙ held-whole all.0))) ∙ ap Ok (sym ok)
   begins files (Err k) all ok err = inl err
 
   -- a file is damaged
-  pub begins-not : (k : CliFault) → ReportsProjected (λ r. r) (Err k) (parsed width sizes text other bases limit) → IsReport {T = State} (Err k) (loaded width sizes text other bases limit)
+  pub begins-not : (k : CliFault) → Reports (λ r. r) AreAllWanted (Err k) (parsed width sizes text other bases limit) → IsReport {T = State} (Err k) (loaded width sizes text other bases limit)
   begins-not k (inl memory) = inl memory
   begins-not k (inr is) = inr (ap (λ (read : Result Parsed CliFault). if_ok read begins_at) is)

@@ -4,18 +4,20 @@ ghost use Rattle.std.specs.Option.{option_copied, option_map};
 ghost use Rattle.iv_track.specs.Tracked.{most_records};
 ghost use Rattle.iv_workspace.specs.States.{begun};
 ghost use Rattle.iv_run.specs.Loading.{IsReport};
-ghost use Rattle.iv_run.specs.RunFiles.{AreAllWanted, AreOf, IsParsed};
+ghost use Rattle.iv_run.specs.RunFiles.{AreAllWanted, AreOf};
 ghost use Rattle.iv_cli.specs.Loading.{loaded};
 
 use iv_args::Plan;
-use iv_lines::Record;
-use iv_run::{CliFault, HeldRecords, Inputs, ParsedFile, RunFiles, SoundFiles, sound_files};
+use iv_lines::RecordBatches;
+use iv_run::{CliFault, Inputs, ParsedFile, RunFiles, SoundFiles, sound_files};
 use iv_text::BedBatches;
 use iv_workspace::Session;
 use std::alloc::Allocator;
 
 /// The records of a file that may be left out.
-fn into_bed<A: Allocator + Copy>(file: Option<ParsedFile<Record<A>, A>>) -> Option<BedBatches<A>>
+fn into_bed<A: Allocator + Copy>(
+    file: Option<ParsedFile<RecordBatches<A>, A>>,
+) -> Option<BedBatches<A>>
     ensures { result ≡ file }
 {
     match file {
@@ -29,7 +31,9 @@ fn into_bed<A: Allocator + Copy>(file: Option<ParsedFile<Record<A>, A>>) -> Opti
 /// # Errors
 ///
 /// An allocation failed.
-fn session_of<A: Allocator + Copy>(files: SoundFiles<Record<A>, A>) -> Result<Session<A>, CliFault>
+fn session_of<A: Allocator + Copy>(
+    files: SoundFiles<RecordBatches<A>, A>,
+) -> Result<Session<A>, CliFault>
     requires { files.limit ≤ most_records }
     ensures ok { IfOk result (λ session. session ≡ begun files.genome files.first files.second files.bases files.limit) }
     ensures err { IfErr result (λ fault. fault ≡ CliFault.Memory) }
@@ -48,10 +52,10 @@ fn session_of<A: Allocator + Copy>(files: SoundFiles<Record<A>, A>) -> Result<Se
 
 /// The session that the files of a run begin, with no view open, or the fault of the first damaged file.
 pub fn begin_session<A: Allocator + Copy>(
-    files: RunFiles<HeldRecords<Record<A>, A>, A>,
+    files: RunFiles<RecordBatches<A>, A>,
 ) -> Result<Session<A>, CliFault>
     requires { files.run_genome.limit ≤ most_records }
-    ensures { (sizes first : List ℕ) (second fasta_text : Option (List ℕ)) → AreOf (IsParsed (λ r. r)) AreAllWanted sizes first second fasta_text files
+    ensures { (sizes first : List ℕ) (second fasta_text : Option (List ℕ)) → AreOf (λ r. r) AreAllWanted sizes first second fasta_text files
         → IsReport result (loaded files.run_genome.width sizes first second fasta_text files.run_genome.limit) }
 {
     let RunFiles {
@@ -81,7 +85,7 @@ pub fn load<A: Allocator + Copy>(
     ensures err { IfErr result (λ fault. (fault ≡ CliFault.Memory) ⊎
         (loaded plan.now.width inputs.now.sizes.now inputs.now.first.now (option_copied inputs.now.other) (option_map (λ text. text.items) bases) limit ≡ Err fault)) }
 {
-    let files: RunFiles<HeldRecords<Record<A>, A>, A> = RunFiles::of_inputs(
+    let files: RunFiles<RecordBatches<A>, A> = RunFiles::of_inputs(
         alloc, plan, inputs, bases, limit,
     );
     begin_session(files)

@@ -49,6 +49,26 @@ impl<A: Allocator> BedRecord for Record<A> {
     }
 }
 
+impl<'a> BedRecord for RecordRef<'a> {
+    ghost as_record = { λ r. r };
+
+    fn seq(&self) -> u32 {
+        RecordRef::seq(self)
+    }
+
+    fn start(&self) -> u64 {
+        RecordRef::start(self)
+    }
+
+    fn stop(&self) -> u64 {
+        RecordRef::stop(self)
+    }
+
+    fn to_ref(&self) -> RecordRef<'_> {
+        self.again()
+    }
+}
+
 impl<R: BedRecord> BedRecord for &R {
     ghost as_record = { λ r. R.as_record r.now };
 

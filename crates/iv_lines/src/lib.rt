@@ -36,6 +36,6 @@ pub use name_map::{ContentSeed, NameHasher, NameMap};
 pub use number::{read_digits, read_number};
 pub use record::Record;
 pub use record_batches::{HoldsRecords, RecordBatches};
-pub use record_ref::{RecordRef, Strand, read_record, read_strand};
+pub use record_ref::{RecordRef, Strand, compare_rests, name_of_rest, read_record, read_strand};
 pub use record_text::{put_line, put_numbered, put_record, put_row, strand_bytes};
 pub use row_buffer::{RowBuffer, put_interval};

@@ -151,10 +151,7 @@ impl<A: Allocator> Record<A> {
         ensures same { IfSome result (λ bed3. bed3 ≡ self.now) }
         ensures three { IsSome result ↔ (self.now.width ≡ 3) }
     {
-        if self.columns.width() != 3 {
-            return None;
-        }
-        Some(Bed3Record::new(self.columns.interval()))
+        self.as_ref().to_bed3()
     }
 
     /// Whether it is a record of this width on this genome.

@@ -1,32 +1,59 @@
 //! The records of a file in batches, each in as few bytes as it needs.
-ghost use Rattle.std.specs.Prelude.{◌≡◌, ◌<◌, ◌∷◌, ◌++◌, ◌↔◌, List, [], length, IsTrue, IfOk, IfErr, OnOk};
+ghost use Rattle.std.specs.Prelude.{◌≡◌, ◌<◌, ◌∷◌, ◌++◌, ◌↔◌, All, List, [], length, map, refl, IsTrue, IfOk, IfErr, OnOk};
+ghost use Rattle.iv_lines.specs.Intervals.{bare, record_of_interval};
+ghost use Rattle.iv_lines.specs.Read.{AreSoundColumns};
+ghost use Rattle.iv_lines.specs.RecordValue.{RecordValue};
+ghost use Rattle.iv_lines.specs.Widths.{IsWidth};
 
 use crate::batches::Batches;
 use crate::bed3_record::Bed3Record;
+use crate::interval::Interval;
 use crate::record::Record;
+use crate::record_ref::RecordRef;
 use std::alloc::{AllocError, Allocator, Global};
 use std::marker::Model;
 
-/// What is held of the records of a file, in their order, while they are read.
-pub trait HoldsRecords<K, A: Allocator>: Sized + Drop {
-    /// What is held, in order.
-    ghost items: { Self → List K };
+/// What is held of the records of a file, in their order, while they are read: all their columns, or fewer.
+pub trait HoldsRecords<A: Allocator>: Sized + Drop {
+    /// A record with only the columns that are held.
+    ghost projected: { RecordValue → RecordValue };
+    /// The records that are held, in order.
+    ghost records: { Self → List RecordValue };
 
     /// Nothing is held yet. It takes no memory.
     fn empty(alloc: A) -> Self
-        ensures { items result ≡ [] };
+        ensures { records result ≡ [] };
 
     /// Whether fewer are held than the limit.
     fn has_room(&self, limit: usize) -> bool
-        ensures { IsTrue result ↔ (length (items self.now) < limit) };
+        ensures { IsTrue result ↔ (length (records self.now) < limit) };
 
-    /// Holds one more. If it takes memory, that is for `most` of them.
-    fn hold(&mut self, most: usize, one: K) -> Result<(), AllocError>
-        ensures { OnOk result (items self.new ≡ items self.old ++ one ∷ []) };
+    /// Holds one more, which has as many columns as the others: 3 to 6, of which none is refused.
+    ///
+    /// # Errors
+    ///
+    /// An allocation failed. What is held is then unspecified.
+    fn hold(&mut self, feature: &RecordRef<'_>) -> Result<(), AllocError>
+        requires alike { All (λ r. r.width ≡ (projected feature.now).width) (records self.old) }
+        requires width { IsWidth feature.now.width }
+        requires sound { AreSoundColumns feature.now.width feature.now.name feature.now.score feature.now.strand }
+        ensures { OnOk result (records self.new ≡ records self.old ++ projected feature.now ∷ []) };
+
+    /// A projected record is its own projection.
+    ghost again: { (r : RecordValue) → projected (projected r) ≡ projected r };
+    /// Of two records that have as many columns, as many are held.
+    ghost alike: { (q r : RecordValue) → q.width ≡ r.width → (projected q).width ≡ (projected r).width };
 }
 
-impl<K: Drop, A: Allocator + Copy> HoldsRecords<K, A> for Batches<K, A> {
-    ghost items = { λ batches. batches };
+// Intervals alone, in one vector.
+impl<A: Allocator + Copy> HoldsRecords<A> for Batches<Interval, A> {
+    ghost projected = { bare };
+
+    ghost records = { λ batches. map record_of_interval batches };
+
+    ghost again = { λ r. refl };
+
+    ghost alike = { λ q r same. refl };
 
     fn empty(alloc: A) -> Self {
         Batches::new(alloc)
@@ -37,10 +64,14 @@ impl<K: Drop, A: Allocator + Copy> HoldsRecords<K, A> for Batches<K, A> {
     }
 
     #[inline(always)]
-    fn hold(&mut self, most: usize, one: K) -> Result<(), AllocError> {
-        self.push(most, one)
+    fn hold(&mut self, feature: &RecordRef<'_>) -> Result<(), AllocError> {
+        self.push(usize::MAX, feature.interval())
     }
 }
+
+/// How many records are in one vector before the next one is begun: 48 KiB, or 24 of records of three columns, less than what malloc
+/// takes from the system by itself.
+const MOST_IN_BATCH: usize = 2_048;
 
 /// Records, in order, in vectors of bounded length. As long as each has three columns, each takes 12 bytes.
 ///
@@ -62,8 +93,14 @@ impl<A: Allocator> Model for RecordBatches<A> {
     ghost view = { λ b. b.bed3 ++ b.others };
 }
 
-impl<A: Allocator + Copy> HoldsRecords<Record<A>, A> for RecordBatches<A> {
-    ghost items = { λ records. records };
+impl<A: Allocator + Copy> HoldsRecords<A> for RecordBatches<A> {
+    ghost projected = { λ r. r };
+
+    ghost records = { λ records. records };
+
+    ghost again = { λ r. refl };
+
+    ghost alike = { λ q r same. same };
 
     fn empty(alloc: A) -> Self {
         RecordBatches {
@@ -78,13 +115,14 @@ impl<A: Allocator + Copy> HoldsRecords<Record<A>, A> for RecordBatches<A> {
     }
 
     #[inline(always)]
-    fn hold(&mut self, most: usize, one: Record<A>) -> Result<(), AllocError> {
+    fn hold(&mut self, feature: &RecordRef<'_>) -> Result<(), AllocError> {
         if self.others.is_empty() {
-            if let Some(bed3) = one.to_bed3() {
-                return self.bed3.push(most, bed3);
+            if let Some(bed3) = feature.to_bed3() {
+                return self.bed3.push(MOST_IN_BATCH, bed3);
             }
         }
-        self.others.push(most, one)
+        let one = feature.to_record(self.others.allocator())?;
+        self.others.push(MOST_IN_BATCH, one)
     }
 }
 

@@ -1,5 +1,5 @@
 //! A record that lends the rest of its line, and how it is read from one.
-ghost use Rattle.std.specs.Prelude.{◌≡◌, ◌<◌, ◌≤◌, ◌↔◌, ◌≢◌, ◌++◌, [], None, IsTrue, MatchOption, IfOk, IsOk, codes, cond, drop, length, nat_le};
+ghost use Rattle.std.specs.Prelude.{◌≡◌, ◌<◌, ◌≤◌, ◌↔◌, ◌≢◌, ◌++◌, [], None, IsTrue, MatchOption, IfOk, IfSome, IsOk, IsSome, codes, cond, drop, length, nat_le};
 ghost use Rattle.iv_lines.specs.RecordText.{joined_record, rest_text};
 ghost use Rattle.iv_lines.specs.RecordValue.{strand_of, IsPlaced, IsRecord, part};
 ghost use Rattle.iv_lines.specs.Read.{Fits, read, bad_text, column, AreSoundColumns, IsWithin};
@@ -12,6 +12,7 @@ ghost use Rattle.iv_lines.specs.Intervals.{interval_of, record_of_interval};
 ghost use Rattle.iv_lines.specs.Fields.{columns as columns_of};
 ghost use Rattle.iv_lines.specs.Widths.{IsWidth};
 
+use crate::bed3_record::Bed3Record;
 use crate::fault::RecordFault;
 use crate::genome::Genome;
 use crate::interval::Interval;
@@ -99,13 +100,26 @@ impl<'a> RecordRef<'a> {
     }
 
     /// All columns after the third, with a TAB between two of them, `None` at width 3.
-    pub(crate) fn rest_beyond(&self) -> Option<&'a [u8]>
-        ensures { MatchOption result (rest_text self.now ≡ []) (λ rest. codes "\t" ++ rest.now ≡ rest_text self.now) }
+    pub fn rest(&self) -> Option<&'a [u8]>
+        ensures text { MatchOption result (rest_text self.now ≡ []) (λ rest. codes "\t" ++ rest.now ≡ rest_text self.now) }
+        ensures none { result ≡ None → self.now.width < 4 }
+        ensures some { IfSome result (λ rest. (4 ≤ self.now.width) × (joined_record self.now.seq self.now.start self.now.stop rest.now self.now.width ≡ self.now)) }
     {
         if self.width < 4 {
             return None;
         }
         Some(self.rest)
+    }
+
+    /// The same record once more.
+    pub fn again(&self) -> RecordRef<'a>
+        ensures { result ≡ self.now }
+    {
+        RecordRef {
+            interval: self.interval,
+            rest: self.rest,
+            width: self.width,
+        }
     }
 
     /// The columns after the third, each by itself. Those beyond the width are empty.
@@ -202,6 +216,18 @@ impl<'a> RecordRef<'a> {
         self.width
     }
 
+    /// The same record in 12 bytes, if it has three columns.
+    #[inline(always)]
+    pub fn to_bed3(&self) -> Option<Bed3Record>
+        ensures same { IfSome result (λ bed3. bed3 ≡ self.now) }
+        ensures three { IsSome result ↔ (self.now.width ≡ 3) }
+    {
+        if self.width != 3 {
+            return None;
+        }
+        Some(Bed3Record::new(self.interval))
+    }
+
     /// Whether it is a record of this width on this genome.
     pub fn fits<A: Allocator + Copy>(&self, genome: &Genome<A>, width: u8) -> bool
         ensures { IsTrue result ↔ Fits genome.now width self.now }
@@ -236,6 +262,22 @@ impl<'a> RecordRef<'a> {
     {
         Record::copy_of(self, alloc)
     }
+}
+
+/// The order of two records of this width and one interval, by their rests.
+pub fn compare_rests(width: u8, first: &[u8], second: &[u8]) -> Ordering
+    ensures { result ≡ beside_cmp (joined_record 0 0 0 first.now width) (joined_record 0 0 0 second.now width) }
+{
+    let first = cut_columns(first, width);
+    let second = cut_columns(second, width);
+    compare_columns(&first, width, &second, width)
+}
+
+/// The name of a record of this width with this rest.
+pub fn name_of_rest(width: u8, rest: &[u8]) -> &[u8]
+    ensures { result.now ≡ (joined_record 0 0 0 rest.now width).name }
+{
+    cut_columns(rest, width).name
 }
 
 /// The next column, or an empty one past the last.

@@ -93,7 +93,7 @@ pub fn put_row<S: Sink, A: Allocator + Copy>(
 ) -> Result<(), WriteFault>
     ensures { Puts (S.state sink.old) (S.state sink.new) result (record_text genome.now feature.now ++ tail.old) }
 {
-    match feature.rest_beyond() {
+    match feature.rest() {
         Some(rest) => put_with_rest(sink, genome, feature, rest, tail),
         None => put_alone(sink, genome, feature, tail),
     }

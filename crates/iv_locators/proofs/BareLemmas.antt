@@ -14,15 +14,15 @@ use Rattle.iv_lines.specs.RecordValue.{RecordValue, record_cmp}
 use Rattle.iv_lines.specs.Inside.RecordValue.{beside_cmp}
 use Rattle.iv_lines.proofs.OrderedLemmas.{ordered-in_order, rows-alone}
 use Rattle.iv_lines.specs.Intervals.{bare}
-use Rattle.iv_locators.specs.Inside.Locators.{record_at, records_at}
-use Rattle.iv_locators.specs.declared.locator.Locator.{Locator}
+use Rattle.iv_locators.specs.Inside.Places.{record_at, records_at}
+use Rattle.iv_locators.specs.declared.place.Place.{Place}
 
--- ---- records of locators
+-- ---- records of places
 
--- at width 3 the records of locators are bare
-pub rows-bare : (w : ℕ) (text : List ℕ) (locators : List Locator) → records_at 3 text locators ≡ map bare (records_at w text locators)
-rows-bare w text [] = refl
-rows-bare w text (p ∷ locators) = ap (λ (l : List RecordValue). record_at 3 text p ∷ l) (rows-bare w text locators)
+-- at width 3 the records of places are bare
+pub rows-bare : (w : ℕ) (rests : List ℕ) (places : List Place) → records_at 3 rests places ≡ map bare (records_at w rests places)
+rows-bare w rests [] = refl
+rows-bare w rests (p ∷ places) = ap (λ (l : List RecordValue). record_at 3 rests p ∷ l) (rows-bare w rests places)
 
 -- ---- on the genome
 

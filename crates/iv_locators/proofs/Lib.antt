@@ -1,5 +1,6 @@
-pub mod LocatorLemmas
-pub mod ReadingLemmas
+pub mod RestLemmas
+pub mod SoundLemmas
+pub mod PlaceLemmas
 pub mod OrderLemmas
 pub mod SortedLemmas
 pub mod BareLemmas

@@ -1,5 +1,5 @@
--- Locators in the order of their records.
-use Rattle.std.proofs.Common.{◌≡◌, ℕ, ◌+◌, ◌<◌, Bool, true, false, not, List, Option, length, map, refl, sym, ap, subst, ◌∙◌, arith}
+-- Places in the order of their records.
+use Rattle.std.proofs.Common.{◌≡◌, ℕ, ◌+◌, ◌<◌, Bool, true, false, not, List, length, map, refl, sym, ap, subst, ◌∙◌, arith}
 use Rattle.std.proofs.lemmas.List.{length-map, get_or-map}
 use Rattle.std.proofs.lemmas.List.Sorted.{IsPermutation-map}
 use Rattle.std.proofs.lemmas.List.MinMax.{ranks_by}
@@ -11,35 +11,15 @@ use Rattle.std.specs.Prelude.{IsTrue, ◌↔◌}
 use Rattle.std.specs.Borrow.{Bor}
 use Rattle.std.specs.Cmp.{IsStrictWeakOrder, nat_cmp_total, tied_itself}
 use Rattle.std.specs.List.Sorted.{IsPermutation, IsSorted, IsSortedBy}
-use Rattle.std.specs.Ordering.{nat_cmp, is_lt, ordering_then}
+use Rattle.std.specs.Ordering.{nat_cmp, is_lt}
 use Rattle.std.specs.declared.cmp.Ordering.{Ordering}
-use Rattle.std.specs.declared.cmp.Ordering.TheVariants.{Less, Equal, Greater}
-use Rattle.std.specs.Cmp.Lexicographic.{slice_cmp}
-use Rattle.std.specs.Option.{option_cmp}
+use Rattle.std.specs.declared.cmp.Ordering.TheVariants.{Equal}
 use Rattle.iv_lines.proofs.OrderedLemmas.{ordered-sorted}
 use Rattle.iv_lines.specs.Ordered.{ordered}
 use Rattle.iv_lines.specs.RecordValue.{RecordValue, record_cmp, records_total}
-use Rattle.iv_lines.specs.Inside.RecordValue.{strand_cmp, beside_cmp}
-use Rattle.iv_lines.specs.declared.record_ref.Strand.{Strand}
-
-pub then_equal : (o : Ordering) → ordering_then o Equal ≡ o
-then_equal Less = refl
-then_equal Equal = refl
-then_equal Greater = refl
 
 pub nat_tied : (x y : ℕ) → x ≡ y → nat_cmp x y ≡ Equal
 nat_tied x y e = subst (λ (z : ℕ). nat_cmp x z ≡ Equal) e (tied_itself nat_cmp_total x)
-
--- name, score and strand decide among records of one width
-pub columns-cmp : (a b : RecordValue) (name_a score_a : List ℕ) (strand_a : Option Strand) (name_b score_b : List ℕ) (strand_b : Option Strand) → a.width ≡ b.width
-    → name_a ≡ a.name → score_a ≡ a.score → strand_a ≡ a.strand → name_b ≡ b.name → score_b ≡ b.score → strand_b ≡ b.strand
-    → ordering_then (slice_cmp nat_cmp name_a name_b) (ordering_then (slice_cmp nat_cmp score_a score_b) (option_cmp strand_cmp strand_a strand_b)) ≡ beside_cmp a b
-columns-cmp a b name_a score_a strand_a name_b score_b strand_b width na sa ta nb sb tb =
-    let names : Ordering = slice_cmp nat_cmp a.name b.name in
-    let scores : Ordering = slice_cmp nat_cmp a.score b.score in
-    let strands : Ordering = option_cmp strand_cmp a.strand b.strand in
-    (λ i. ordering_then (slice_cmp nat_cmp (na i) (nb i)) (ordering_then (slice_cmp nat_cmp (sa i) (sb i)) (option_cmp strand_cmp (ta i) (tb i))))
-    ∙ ap (λ (o : Ordering). ordering_then names (ordering_then scores o)) (sym (ap (ordering_then strands) (nat_tied a.width b.width width) ∙ then_equal strands))
 
 sorted-map : {K X : Type 0} (cmp : K → K → Ordering) (key : X → K) (e : X) (xs : List X) → IsSortedBy (λ x y. is_lt (cmp (key x) (key y))) xs → IsSorted cmp (map key xs)
 sorted-map cmp key e xs up = λ k d from to.

@@ -14,57 +14,57 @@ use Rattle.iv_lines.proofs.PrecedesLemmas.{precedes-from}
 
 module _ {X : Type 0} (feature : X → RecordValue) (seq : ℕ) where
   -- each of these records is on this sequence or a later one
-  low-at : (r : RecordValue) (locators : List X) → AllByRecursion (λ y. is_le (record_cmp r y) ≡ true) (map feature locators)
-      → (j : ℕ) (d : X) → j < length locators → r.seq ≤ (feature (get_or locators j d)).seq
+  low-at : (r : RecordValue) (places : List X) → AllByRecursion (λ y. is_le (record_cmp r y) ≡ true) (map feature places)
+      → (j : ℕ) (d : X) → j < length places → r.seq ≤ (feature (get_or places j d)).seq
   low-at r [] all j d lt = absurd (omega arith)
-  low-at r (p ∷ locators) all zero d lt = elim (precedes-from r (feature p) all.0) [
+  low-at r (p ∷ places) all zero d lt = elim (precedes-from r (feature p) all.0) [
     | inl less ↦ omega arith
     | inr same ↦ omega (arith, same.0)
   ]
-  low-at r (p ∷ locators) all (suc j) d lt = low-at r locators all.1 j d (omega arith)
+  low-at r (p ∷ places) all (suc j) d lt = low-at r places all.1 j d (omega arith)
 
   -- those up to a rank come first
-  parted : (locators : List X) → AreInOrder (map feature locators) → IsPartitionedBy (λ locator. nat_le (feature locator).seq seq) locators
+  parted : (places : List X) → AreInOrder (map feature places) → IsPartitionedBy (λ place. nat_le (feature place).seq seq) places
   parted [] order i j d le lt e = absurd (omega arith)
-  parted (p ∷ locators) order zero zero d le lt e = e
-  parted (p ∷ locators) order zero (suc j) d le lt e =
-      let low : (feature p).seq ≤ (feature (get_or locators j d)).seq = low-at (feature p) locators order.0 j d (omega arith) in
-      le-leb (feature p).seq seq (omega (arith, leb-true (feature (get_or locators j d)).seq seq e))
-  parted (p ∷ locators) order (suc i) zero d le lt e = absurd (omega arith)
-  parted (p ∷ locators) order (suc i) (suc j) d le lt e = parted locators order.1 i j d (omega arith) (omega arith) e
+  parted (p ∷ places) order zero zero d le lt e = e
+  parted (p ∷ places) order zero (suc j) d le lt e =
+      let low : (feature p).seq ≤ (feature (get_or places j d)).seq = low-at (feature p) places order.0 j d (omega arith) in
+      le-leb (feature p).seq seq (omega (arith, leb-true (feature (get_or places j d)).seq seq e))
+  parted (p ∷ places) order (suc i) zero d le lt e = absurd (omega arith)
+  parted (p ∷ places) order (suc i) (suc j) d le lt e = parted places order.1 i j d (omega arith) (omega arith) e
 
   -- if none is below the rank, they are the records on it, and those after them are on later ones
-  split-here : (locators : List X) (n : ℕ) → n ≤ length locators
-      → IsPartitionPoint (λ locator. nat_le (feature locator).seq seq ≡ true) (λ locator. nat_le (feature locator).seq seq ≡ false) locators n
-      → All (λ r. seq ≤ r.seq) (map feature locators)
-      → (take n (map feature locators) ≡ on seq (map feature locators))
-      × (drop n (map feature locators) ≡ filter (λ r. nat_lt seq r.seq) (map feature locators))
+  split-here : (places : List X) (n : ℕ) → n ≤ length places
+      → IsPartitionPoint (λ place. nat_le (feature place).seq seq ≡ true) (λ place. nat_le (feature place).seq seq ≡ false) places n
+      → All (λ r. seq ≤ r.seq) (map feature places)
+      → (take n (map feature places) ≡ on seq (map feature places))
+      × (drop n (map feature places) ≡ filter (λ r. nat_lt seq r.seq) (map feature places))
   split-here [] zero within point from = (refl, refl)
   split-here [] (suc n) within point from = absurd (omega arith)
-  split-here (p ∷ locators) zero within point from =
-      let rest = split-here locators zero (omega arith) ((λ k d low high. absurd (omega arith)), (λ k d low high. point.1 (suc k) d (omega arith) (omega arith)))
-      (All-tail (λ (r : RecordValue). seq ≤ r.seq) (feature p) (map feature locators) from) in
+  split-here (p ∷ places) zero within point from =
+      let rest = split-here places zero (omega arith) ((λ k d low high. absurd (omega arith)), (λ k d low high. point.1 (suc k) d (omega arith) (omega arith)))
+      (All-tail (λ (r : RecordValue). seq ≤ r.seq) (feature p) (map feature places) from) in
       let past : seq < (feature p).seq = leb-false (feature p).seq seq (point.1 0 p (omega arith) (omega arith)) in
       let off : ((feature p).seq == seq) ≡ false = ne_eqb (feature p).seq seq (λ at. omega (arith, past, at)) in
       let later : nat_lt seq (feature p).seq ≡ true = lt-ltb seq (feature p).seq past in
       (rw off rest.0, rw later (ap (λ (l : List RecordValue). feature p ∷ l) rest.1))
-  split-here (p ∷ locators) (suc n) within point from =
-      let rest = split-here locators n (omega arith) ((λ k d low high. point.0 (suc k) d (omega arith) (omega arith)), (λ k d low high. point.1 (suc k) d (omega arith) (omega arith)))
-      (All-tail (λ (r : RecordValue). seq ≤ r.seq) (feature p) (map feature locators) from) in
-      let first : seq ≤ (feature p).seq = All-head (λ (r : RecordValue). seq ≤ r.seq) (feature p) (map feature locators) from in
+  split-here (p ∷ places) (suc n) within point from =
+      let rest = split-here places n (omega arith) ((λ k d low high. point.0 (suc k) d (omega arith) (omega arith)), (λ k d low high. point.1 (suc k) d (omega arith) (omega arith)))
+      (All-tail (λ (r : RecordValue). seq ≤ r.seq) (feature p) (map feature places) from) in
+      let first : seq ≤ (feature p).seq = All-head (λ (r : RecordValue). seq ≤ r.seq) (feature p) (map feature places) from in
       let low : (feature p).seq ≤ seq = leb-true (feature p).seq seq (point.0 0 p (omega arith) (omega arith)) in
       let on_it : ((feature p).seq == seq) ≡ true = eq-eqb (feature p).seq seq (omega (arith, first, low)) in
       let not_later : nat_lt seq (feature p).seq ≡ false = le-ltb seq (feature p).seq low in
       (rw on_it (ap (λ (l : List RecordValue). feature p ∷ l) rest.0), rw not_later rest.1)
 
   -- so a search among the intervals of records in order finds how many there are
-  pub split-rows : (locators : List X) (records : List RecordValue) (n : ℕ) → map feature locators ≡ records → AreInOrder records → All (λ r. seq ≤ r.seq) records
-      → n ≤ length locators
-      → (IsPartitionedBy (λ locator. nat_le (feature locator).seq seq) locators → IsPartitionPoint (λ locator. nat_le (feature locator).seq seq ≡ true) (λ locator. nat_le (feature locator).seq seq ≡ false) locators n)
+  pub split-rows : (places : List X) (records : List RecordValue) (n : ℕ) → map feature places ≡ records → AreInOrder records → All (λ r. seq ≤ r.seq) records
+      → n ≤ length places
+      → (IsPartitionedBy (λ place. nat_le (feature place).seq seq) places → IsPartitionPoint (λ place. nat_le (feature place).seq seq ≡ true) (λ place. nat_le (feature place).seq seq ≡ false) places n)
       → (take n records ≡ on seq records) × (drop n records ≡ filter (λ r. nat_lt seq r.seq) records)
-  split-rows locators records n is order from within found =
+  split-rows places records n is order from within found =
       subst (λ (l : List RecordValue). (take n l ≡ on seq l) × (drop n l ≡ filter (λ r. nat_lt seq r.seq) l)) is
-      (split-here locators n within (found (parted locators (subst AreInOrder (sym is) order))) (subst (All (λ (r : RecordValue). seq ≤ r.seq)) (sym is) from))
+      (split-here places n within (found (parted places (subst AreInOrder (sym is) order))) (subst (All (λ (r : RecordValue). seq ≤ r.seq)) (sym is) from))
 
 -- ---- the records from a sequence on
 

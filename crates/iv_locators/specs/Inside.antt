@@ -1,6 +1,5 @@
 -- Definitions that no contract of the program or of the six public crates reaches.
-pub mod Locators
-pub mod Drafts
+pub mod Places
 pub mod Cover
 pub mod Joins
 pub mod Ranks

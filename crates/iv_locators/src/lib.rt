@@ -1,15 +1,15 @@
-//! The records of a BED file as locators into its text, or as intervals alone.
+//! The records of a BED file as places and the rests of their lines, or as intervals alone.
 #![tactic(auto)]
 
-mod bed_text;
 mod intervals;
-mod locator;
 mod order;
+mod place;
+mod placed_records;
+mod places;
 mod ranks;
-mod text_records;
 
-pub use bed_text::BedText;
 pub use intervals::{sort_intervals, split_sequence};
-pub use locator::Locator;
 pub use order::order_neighbors;
-pub use text_records::{TextRecord, TextRecords};
+pub use place::Place;
+pub use placed_records::PlacedRecords;
+pub use places::Places;

@@ -1,155 +1,136 @@
-//! The order of a track among locators into a text, and the sorts by it.
+//! The order of a track among places, and the sorts by it.
 ghost use Rattle.std.specs.Prelude.{◌≡◌, ◌↔◌, IsTrue, IfOk, length, map, ◌<◌};
 ghost use Rattle.std.specs.List.Sorted.{IsPermutation};
-ghost use Rattle.std.specs.Cmp.Lexicographic.{slice_cmp};
-ghost use Rattle.std.specs.Option.{option_cmp};
-ghost use Rattle.std.specs.Ordering.{nat_cmp, ordering_then};
 ghost use Rattle.iv_lines.specs.RecordValue.{record_cmp};
-ghost use Rattle.iv_lines.specs.Inside.RecordValue.{strand_cmp, beside_cmp};
-ghost use Rattle.iv_locators.specs.Inside.Drafts.{AreInOrder, locator_of};
-ghost use Rattle.iv_locators.specs.Inside.Locators.{record_at};
+ghost use Rattle.iv_lines.specs.Inside.RecordValue.{beside_cmp};
+ghost use Rattle.iv_locators.specs.Inside.Places.{AreInOrder, place_of, record_at};
 
-use crate::locator::{ComparedColumns, Locator, compared_columns_of};
+use crate::place::{Place, rest_at};
+use iv_lines::{compare_rests, name_of_rest};
 use std::alloc::{AllocError, Allocator};
 use std::cmp::Ordering;
 
-/// Name, score and strand in the order of a track.
-fn compare_columns(first: &ComparedColumns<'_>, second: &ComparedColumns<'_>) -> Ordering
-    ensures { result ≡ ordering_then (slice_cmp nat_cmp first.now.name.now second.now.name.now) (ordering_then (slice_cmp nat_cmp first.now.score.now second.now.score.now) (option_cmp strand_cmp first.now.strand second.now.strand)) }
-{
-    let scores = first.score.cmp(second.score);
-    let strands = first.strand.cmp(&second.strand);
-    first.name.cmp(second.name).then(scores.then(strands))
-}
-
-/// Compares the records of two locators by their columns after the third. At width 3 no line is looked at.
-fn compare_beside(text: &[u8], width: u8, first: &Locator, second: &Locator) -> Ordering
-    ensures { result ≡ beside_cmp (record_at width text.now first.now) (record_at width text.now second.now) }
+/// Compares the records at two places by their columns after the third. At width 3 no rest is looked at.
+fn compare_beside(rests: &[u8], width: u8, first: &Place, second: &Place) -> Ordering
+    ensures { result ≡ beside_cmp (record_at width rests.now first.now) (record_at width rests.now second.now) }
 {
     if width < 4 {
         return Ordering::Equal;
     }
-    compare_columns(
-        &compared_columns_of(text, *first, width),
-        &compared_columns_of(text, *second, width),
-    )
+    compare_rests(width, rest_at(rests, *first), rest_at(rests, *second))
 }
 
-/// Compares the records of two locators in the order of a track.
-pub(crate) fn compare(text: &[u8], width: u8, first: &Locator, second: &Locator) -> Ordering
-    ensures { result ≡ record_cmp (record_at width text.now first.now) (record_at width text.now second.now) }
+/// Compares the records of two places in the order of a track.
+pub(crate) fn compare(rests: &[u8], width: u8, first: &Place, second: &Place) -> Ordering
+    ensures { result ≡ record_cmp (record_at width rests.now first.now) (record_at width rests.now second.now) }
 {
     let intervals = first.interval.cmp(&second.interval);
-    intervals.then_with(|| compare_beside(text, width, first, second))
+    intervals.then_with(|| compare_beside(rests, width, first, second))
 }
 
-/// Whether locators are in the order of a track.
-pub(crate) fn are_in_order(text: &[u8], width: u8, locators: &[Locator]) -> bool
-    ensures { IsTrue result ↔ AreInOrder width text.now locators.now }
+/// Whether places are in the order of a track.
+pub(crate) fn are_in_order(rests: &[u8], width: u8, places: &[Place]) -> bool
+    ensures { IsTrue result ↔ AreInOrder width rests.now places.now }
 {
-    locators.is_sorted_by(|first, second| !compare(text, width, second, first).is_lt())
+    places.is_sorted_by(|first, second| !compare(rests, width, second, first).is_lt())
 }
 
-/// Brings locators into the order of a track, or near to it: a sort after it mostly only sees that they are in order.
+/// Brings places into the order of a track, or near to it: a sort after it mostly only sees that they are in order.
 ///
-/// Records of one interval are the slow part of a sort, since each comparison cuts two lines. A few of them are moved past each
+/// Records of one interval are the slow part of a sort, since each comparison cuts two rests. A few of them are moved past each
 /// other. If there are many of one interval, they are sorted by a few bytes of their names, which takes memory.
-pub(crate) fn order_locators<A: Allocator + Copy>(
+pub(crate) fn order_places<A: Allocator + Copy>(
     alloc: A,
-    text: &[u8],
+    rests: &[u8],
     width: u8,
-    locators: &mut Vec<Locator, A>,
+    places: &mut Vec<Place, A>,
 ) -> Result<(), AllocError>
-    ensures { IsPermutation locators.old.items locators.new.items }
+    ensures { IsPermutation places.old.items places.new.items }
 {
-    order_ties(text, width, locators);
-    if are_in_order(text, width, locators) {
+    order_ties(rests, width, places);
+    if are_in_order(rests, width, places) {
         return Ok(());
     }
-    locators.sort_unstable_by(|first, second| first.interval.cmp(&second.interval));
-    if order_ties(text, width, locators) {
+    places.sort_unstable_by(|first, second| first.interval.cmp(&second.interval));
+    if order_ties(rests, width, places) {
         return Ok(());
     }
-    sort_by_prefix_keys(alloc, text, width, locators)
+    sort_by_prefix_keys(alloc, rests, width, places)
 }
 
-/// Moves each locator past a few others of its start that belong after it. So files that are in order except for records of
+/// Moves each place past a few others of its start that belong after it. So files that are in order except for records of
 /// one start, as most tools leave them, are then in the order of a track. It stops if there are more than a few, and answers
 /// whether it came to the end.
-fn order_ties<A: Allocator>(text: &[u8], width: u8, locators: &mut Vec<Locator, A>) -> bool
-    ensures { IsPermutation locators.old.items locators.new.items }
+fn order_ties<A: Allocator>(rests: &[u8], width: u8, places: &mut Vec<Place, A>) -> bool
+    ensures { IsPermutation places.old.items places.new.items }
 {
     order_neighbors(
-        locators.as_mut_slice(),
-        |before: &Locator, here: &Locator| -> bool {
+        places.as_mut_slice(),
+        |before: &Place, here: &Place| -> bool {
             before.interval.seq == here.interval.seq
                 && before.interval.start == here.interval.start
-                && compare(text, width, before, here).is_gt()
+                && compare(rests, width, before, here).is_gt()
         },
     )
 }
 
-/// A locator with its prefix key, a few bytes of its record's name as a number: of two names, the one with the lesser key is first.
+/// A place with its prefix key, a few bytes of its record's name as a number: of two names, the one with the lesser key is first.
 #[derive(Clone, Copy)]
 pub(crate) struct PrefixKeyed {
     head: u64,
-    locator: Locator,
+    place: Place,
 }
 
-/// Sorts locators by interval, and then by a few bytes of their names, so that hardly any comparison looks at two lines.
+/// Sorts places by interval, and then by a few bytes of their names, so that hardly any comparison looks at two rests.
 ///
-/// It takes 24 bytes for each locator while it sorts.
+/// It takes 24 bytes for each place while it sorts.
 ///
 /// # Errors
 ///
-/// An allocation failed. The locators are as they were.
+/// An allocation failed. The places are as they were.
 pub(crate) fn sort_by_prefix_keys<A: Allocator + Copy>(
     alloc: A,
-    text: &[u8],
+    rests: &[u8],
     width: u8,
-    locators: &mut Vec<Locator, A>,
+    places: &mut Vec<Place, A>,
 ) -> Result<(), AllocError>
-    ensures { IsPermutation locators.old.items locators.new.items }
+    ensures { IsPermutation places.old.items places.new.items }
 {
-    let mut keyed = with_prefix_keys(alloc, text, width, locators)?;
-    keyed.sort_unstable_by(|first, second| compare_keyed(text, width, first, second));
-    write_locators(locators, &keyed);
+    let mut keyed = with_prefix_keys(alloc, rests, width, places)?;
+    keyed.sort_unstable_by(|first, second| compare_keyed(rests, width, first, second));
+    write_places(places, &keyed);
     Ok(())
 }
 
-/// The locators, each with the bytes of its name that follow those that all names begin with.
+/// The places, each with the bytes of its name that follow those that all names begin with.
 fn with_prefix_keys<A: Allocator + Copy>(
     alloc: A,
-    text: &[u8],
+    rests: &[u8],
     width: u8,
-    locators: &[Locator],
+    places: &[Place],
 ) -> Result<Vec<PrefixKeyed, A>, AllocError>
-    ensures { IfOk result (λ keyed. map locator_of keyed.items ≡ locators.now) }
+    ensures { IfOk result (λ keyed. map place_of keyed.items ≡ places.now) }
 {
-    let shared = shared_by_all(text, width, locators);
-    let mut keyed = Vec::with_capacity(alloc, locators.len())?;
-    for locator in locators {
+    let shared = shared_by_all(rests, width, places);
+    let mut keyed = Vec::with_capacity(alloc, places.len())?;
+    for place in places {
         keyed.push(PrefixKeyed {
-            head: key_of(compared_columns_of(text, *locator, width).name, shared),
-            locator: *locator,
+            head: key_of(name_of_rest(width, rest_at(rests, *place)), shared),
+            place: *place,
         })?;
     }
     Ok(keyed)
 }
 
 /// How many bytes all names have in common at the front.
-fn shared_by_all(text: &[u8], width: u8, locators: &[Locator]) -> usize {
-    let Some((first, others)) = locators.split_first() else {
+fn shared_by_all(rests: &[u8], width: u8, places: &[Place]) -> usize {
+    let Some((first, others)) = places.split_first() else {
         return 0;
     };
-    let first = compared_columns_of(text, *first, width).name;
+    let first = name_of_rest(width, rest_at(rests, *first));
     let mut shared = first.len();
-    for locator in others {
-        shared = shared_by_two(
-            first,
-            compared_columns_of(text, *locator, width).name,
-            shared,
-        );
+    for place in others {
+        shared = shared_by_two(first, name_of_rest(width, rest_at(rests, *place)), shared);
     }
     shared
 }
@@ -176,22 +157,22 @@ fn key_of(name: &[u8], from: usize) -> u64 {
 }
 
 /// Compares by interval, then by prefix key, then by all columns.
-fn compare_keyed(text: &[u8], width: u8, first: &PrefixKeyed, second: &PrefixKeyed) -> Ordering {
+fn compare_keyed(rests: &[u8], width: u8, first: &PrefixKeyed, second: &PrefixKeyed) -> Ordering {
     first
-        .locator
+        .place
         .interval
-        .cmp(&second.locator.interval)
+        .cmp(&second.place.interval)
         .then(first.head.cmp(&second.head))
-        .then_with(|| compare(text, width, &first.locator, &second.locator))
+        .then_with(|| compare(rests, width, &first.place, &second.place))
 }
 
-/// Writes the locators of these over as many others.
-fn write_locators<A: Allocator>(locators: &mut Vec<Locator, A>, keyed: &[PrefixKeyed])
-    requires { length locators.old.items ≡ length keyed.now }
-    ensures { locators.new.items ≡ map locator_of keyed.now }
+/// Writes the places of these over as many others.
+fn write_places<A: Allocator>(places: &mut Vec<Place, A>, keyed: &[PrefixKeyed])
+    requires { length places.old.items ≡ length keyed.now }
+    ensures { places.new.items ≡ map place_of keyed.now }
 {
     for index in 0..keyed.len() {
-        locators[index] = keyed[index].locator;
+        places[index] = keyed[index].place;
     }
 }
 

@@ -8,8 +8,8 @@ use Rattle.iv_lines.specs.Ordered.{AreInOrder}
 use Rattle.iv_lines.specs.RecordValue.{RecordValue}
 use Rattle.iv_locators.specs.Cover.{is_covered}
 use Rattle.iv_lines.specs.Intervals.{bare}
-use Rattle.iv_locators.specs.Inside.Locators.{locator_at, record_at, records_at}
-use Rattle.iv_locators.specs.declared.locator.Locator.{Locator}
+use Rattle.iv_locators.specs.Inside.Places.{place_at, record_at, records_at}
+use Rattle.iv_locators.specs.declared.place.Place.{Place}
 use Rattle.iv_locators.proofs.BareLemmas.{count-bare}
 use Rattle.iv_track.specs.Regions.{overlaps, hits}
 use Rattle.iv_pair.specs.Inside.PairPrinters.{CountAlike}
@@ -19,10 +19,10 @@ use Rattle.iv_pair.specs.Inside.HitFinder.{HitAlike, IsOnward}
 -- ---- the copy is made
 
 -- one record more is copied
-pub copied-next : (ps : List Locator) (r : RecordValue) (records rest whole : List RecordValue) → records ≡ r ∷ rest → records_at 3 [] ps ++ map bare records ≡ whole
-    → records_at 3 [] (ps ++ locator_at r 0 ∷ []) ++ map bare rest ≡ whole
+pub copied-next : (ps : List Place) (r : RecordValue) (records rest whole : List RecordValue) → records ≡ r ∷ rest → records_at 3 [] ps ++ map bare records ≡ whole
+    → records_at 3 [] (ps ++ place_at r 0 ∷ []) ++ map bare rest ≡ whole
 copied-next ps r records rest whole first is =
-    ap (λ (l : List RecordValue). l ++ map bare rest) (map-append (record_at 3 []) ps (locator_at r 0 ∷ []))
+    ap (λ (l : List RecordValue). l ++ map bare rest) (map-append (record_at 3 []) ps (place_at r 0 ∷ []))
     ∙ append_assoc (records_at 3 [] ps) (bare r ∷ []) (map bare rest)
     ∙ ap (λ (l : List RecordValue). records_at 3 [] ps ++ map bare l) (sym first)
     ∙ is

@@ -14,9 +14,9 @@ use Rattle.std.proofs.lemmas.List.Sorted.{sorted_far, sum_by-IsPermutation}
 use Rattle.std.proofs.lemmas.List.Sums.{sum_by-cons, length-filter}
 use Rattle.iv_lines.specs.Ordered.{AreInOrder}
 use Rattle.iv_lines.specs.RecordValue.{RecordValue, record_cmp}
-use Rattle.iv_locators.specs.Inside.Locators.{HasBase, interval_in}
+use Rattle.iv_locators.specs.Inside.Places.{HasBase, interval_in}
 use Rattle.iv_lines.specs.Intervals.{interval_of}
-use Rattle.iv_locators.specs.declared.locator.Locator.{Locator}
+use Rattle.iv_locators.specs.declared.place.Place.{Place}
 use Rattle.iv_lines.specs.declared.interval.Interval.{Interval}
 use Rattle.iv_track.specs.Regions.{overlaps}
 use Rattle.iv_pair.specs.Hits.{hits_of}
@@ -79,11 +79,11 @@ begun-more seq at s t records low same = count-implied (begins_before seq at) (b
 pub ended-more : (seq at s t : ℕ) (records : List RecordValue) → seq ≤ s → (seq ≡ s → at ≤ t) → count_by (ends_by seq at) records ≤ count_by (ends_by s t) records
 ended-more seq at s t records low same = count-implied (ends_by seq at) (ends_by s t) records (λ b e. up_to-later seq at s t b.seq b.stop (low, same) e)
 
--- ---- locators as records
+-- ---- places as records
 
--- the locators have the intervals of the records
-abbrev LieAs : List Locator → List RecordValue → Type 0
-LieAs locators records = map interval_in locators ≡ map interval_of records
+-- the places have the intervals of the records
+abbrev LieAs : List Place → List RecordValue → Type 0
+LieAs places records = map interval_in places ≡ map interval_of records
 
 head-same : (a b : Interval) (xs ys : List Interval) → a ∷ xs ≡ b ∷ ys → a ≡ b
 head-same a b xs ys e = cc
@@ -97,53 +97,53 @@ none-same b ys e = cc
 some-same : (a : Interval) (xs : List Interval) → a ∷ xs ≡ [] → ⊥
 some-same a xs e = cc
 
--- what holds of each locator holds of each record, if it depends only on the interval
-all-rows : (P : Interval → Type 0) (locators : List Locator) (records : List RecordValue) → LieAs locators records → All (λ locator. P (interval_in locator)) locators → All (λ r. P (interval_of r)) records
+-- what holds of each place holds of each record, if it depends only on the interval
+all-rows : (P : Interval → Type 0) (places : List Place) (records : List RecordValue) → LieAs places records → All (λ place. P (interval_in place)) places → All (λ r. P (interval_of r)) records
 all-rows P [] [] e h = All-nil (λ r. P (interval_of r))
 all-rows P [] (r ∷ records) e h = absurd (none-same _ _ e)
-all-rows P (locator ∷ locators) [] e h = absurd (some-same _ _ e)
-all-rows P (locator ∷ locators) (r ∷ records) e h =
+all-rows P (place ∷ places) [] e h = absurd (some-same _ _ e)
+all-rows P (place ∷ places) (r ∷ records) e h =
     All-cons (λ q. P (interval_of q)) r records
-    (subst P (head-same _ _ _ _ e) (All-head (λ q. P (interval_in q)) locator locators h))
-    (all-rows P locators records (tail-same _ _ _ _ e) (All-tail (λ q. P (interval_in q)) locator locators h))
+    (subst P (head-same _ _ _ _ e) (All-head (λ q. P (interval_in q)) place places h))
+    (all-rows P places records (tail-same _ _ _ _ e) (All-tail (λ q. P (interval_in q)) place places h))
 
 -- and the other way round
-all-places : (P : Interval → Type 0) (locators : List Locator) (records : List RecordValue) → LieAs locators records → All (λ r. P (interval_of r)) records → All (λ locator. P (interval_in locator)) locators
-all-places P [] records e h = All-nil (λ locator. P (interval_in locator))
-all-places P (locator ∷ locators) [] e h = absurd (some-same _ _ e)
-all-places P (locator ∷ locators) (r ∷ records) e h =
-    All-cons (λ q. P (interval_in q)) locator locators
+all-places : (P : Interval → Type 0) (places : List Place) (records : List RecordValue) → LieAs places records → All (λ r. P (interval_of r)) records → All (λ place. P (interval_in place)) places
+all-places P [] records e h = All-nil (λ place. P (interval_in place))
+all-places P (place ∷ places) [] e h = absurd (some-same _ _ e)
+all-places P (place ∷ places) (r ∷ records) e h =
+    All-cons (λ q. P (interval_in q)) place places
     (subst P (sym (head-same _ _ _ _ e)) (All-head (λ q. P (interval_of q)) r records h))
-    (all-places P locators records (tail-same _ _ _ _ e) (All-tail (λ q. P (interval_of q)) r records h))
+    (all-places P places records (tail-same _ _ _ _ e) (All-tail (λ q. P (interval_of q)) r records h))
 
--- a test of the interval counts as many locators as records
-count-places : (p : Interval → Bool) (locators : List Locator) (records : List RecordValue) → LieAs locators records → count_by (λ locator. p (interval_in locator)) locators ≡ count_by (λ r. p (interval_of r)) records
-count-places p locators records e = sym (count-map interval_in p locators) ∙ ap (λ (l : List Interval). count_by p l) e ∙ count-map interval_of p records
+-- a test of the interval counts as many places as records
+count-places : (p : Interval → Bool) (places : List Place) (records : List RecordValue) → LieAs places records → count_by (λ place. p (interval_in place)) places ≡ count_by (λ r. p (interval_of r)) records
+count-places p places records e = sym (count-map interval_in p places) ∙ ap (λ (l : List Interval). count_by p l) e ∙ count-map interval_of p records
 
 -- ---- where they begin
 
-starts-ascend : (seq at : ℕ) (locators : List Locator) (records : List RecordValue) → LieAs locators records → AreInOrder records → IsPartitionedBy (place_before seq at) locators
+starts-ascend : (seq at : ℕ) (places : List Place) (records : List RecordValue) → LieAs places records → AreInOrder records → IsPartitionedBy (place_before seq at) places
 starts-ascend seq at [] records e order = λ i j d le lt h. absurd (omega arith)
-starts-ascend seq at (locator ∷ locators) [] e order = absurd (some-same _ _ e)
-starts-ascend seq at (locator ∷ locators) (r ∷ records) e order =
-    let same : interval_in locator ≡ interval_of r = head-same _ _ _ _ e in
-    let on : locator.interval.seq ≡ r.seq = ap (λ (s : Interval). s.seq) same in
-    let from : locator.interval.start ≡ r.start = ap (λ (s : Interval). s.start) same in
+starts-ascend seq at (place ∷ places) [] e order = absurd (some-same _ _ e)
+starts-ascend seq at (place ∷ places) (r ∷ records) e order =
+    let same : interval_in place ≡ interval_of r = head-same _ _ _ _ e in
+    let on : place.interval.seq ≡ r.seq = ap (λ (s : Interval). s.seq) same in
+    let from : place.interval.start ≡ r.start = ap (λ (s : Interval). s.start) same in
     let later : All (λ (q : RecordValue). (r.seq ≤ q.seq) × (r.seq ≡ q.seq → r.start ≤ q.start)) records =
     All-weaker (λ (q : RecordValue). is_le (record_cmp r q) ≡ true) (λ (q : RecordValue). (r.seq ≤ q.seq) × (r.seq ≡ q.seq → r.start ≤ q.start)) (λ q k. precedes r q k) records
     (All-from_recursion (λ (q : RecordValue). is_le (record_cmp r q) ≡ true) records order.0) in
-    let onward : All (λ (q : Locator). (r.seq ≤ q.interval.seq) × (r.seq ≡ q.interval.seq → r.start ≤ q.interval.start)) locators
-    = all-places (λ (s : Interval). (r.seq ≤ s.seq) × (r.seq ≡ s.seq → r.start ≤ s.start)) locators records (tail-same _ _ _ _ e) later in
-    split_up-cons (place_before seq at) locator locators
-    (All-weaker (λ (q : Locator). (r.seq ≤ q.interval.seq) × (r.seq ≡ q.interval.seq → r.start ≤ q.interval.start)) (λ (q : Locator). place_before seq at q ≡ true → place_before seq at locator ≡ true)
-    (λ q k h. rw (on, from) (before-earlier seq at q.interval.seq q.interval.start r.seq r.start k h)) locators onward)
-    (starts-ascend seq at locators records (tail-same _ _ _ _ e) order.1)
+    let onward : All (λ (q : Place). (r.seq ≤ q.interval.seq) × (r.seq ≡ q.interval.seq → r.start ≤ q.interval.start)) places
+    = all-places (λ (s : Interval). (r.seq ≤ s.seq) × (r.seq ≡ s.seq → r.start ≤ s.start)) places records (tail-same _ _ _ _ e) later in
+    split_up-cons (place_before seq at) place places
+    (All-weaker (λ (q : Place). (r.seq ≤ q.interval.seq) × (r.seq ≡ q.interval.seq → r.start ≤ q.interval.start)) (λ (q : Place). place_before seq at q ≡ true → place_before seq at place ≡ true)
+    (λ q k h. rw (on, from) (before-earlier seq at q.interval.seq q.interval.start r.seq r.start k h)) places onward)
+    (starts-ascend seq at places records (tail-same _ _ _ _ e) order.1)
 
-pub AreStartsOf-rows : (locators : List Locator) (records : List RecordValue) → map interval_in locators ≡ map interval_of records → All HasBase locators → AreInOrder records → AreStartsOf locators records
-AreStartsOf-rows locators records e some order = record {
-  ascend = λ seq at. starts-ascend seq at locators records e order;
-  counts = λ seq at. count-places (λ s. is_before seq at s.seq s.start) locators records e;
-  some = all-rows (λ (s : Interval). s.start < s.stop) locators records e some;
+pub AreStartsOf-rows : (places : List Place) (records : List RecordValue) → map interval_in places ≡ map interval_of records → All HasBase places → AreInOrder records → AreStartsOf places records
+AreStartsOf-rows places records e some order = record {
+  ascend = λ seq at. starts-ascend seq at places records e order;
+  counts = λ seq at. count-places (λ s. is_before seq at s.seq s.start) places records e;
+  some = all-rows (λ (s : Interval). s.start < s.stop) places records e some;
 }
 
 -- ---- where they end
@@ -173,22 +173,22 @@ EndsAscend-sorted ends up = λ seq at i j d le lt e.
     up_to-earlier seq at b.seq b.stop a.seq a.stop
     (end-onward a b (sorted_far (λ x y. is_lt (end_cmp x y)) (ranks_by ends_total (λ (x : End). x)) ends up i j d le lt)) e
 
-pub AreEndsOf-moved : (ends : List End) (locators : List Locator) (records : List RecordValue) → map interval_in locators ≡ map interval_of records
-    → IsPermutation (map end_of locators) ends → EndsAscend ends → AreEndsOf ends records
-AreEndsOf-moved ends locators records e moved up = record {
+pub AreEndsOf-moved : (ends : List End) (places : List Place) (records : List RecordValue) → map interval_in places ≡ map interval_of records
+    → IsPermutation (map end_of places) ends → EndsAscend ends → AreEndsOf ends records
+AreEndsOf-moved ends places records e moved up = record {
   ascend = up;
   counts = λ seq at.
-      sum_by-IsPermutation (λ (x : End). cond {A = ℕ} (end_by seq at x) 1 0) (map end_of locators) ends moved
-      ∙ count-map end_of (end_by seq at) locators
-      ∙ count-places (λ s. is_up_to seq at s.seq s.stop) locators records e;
+      sum_by-IsPermutation (λ (x : End). cond {A = ℕ} (end_by seq at x) 1 0) (map end_of places) ends moved
+      ∙ count-map end_of (end_by seq at) places
+      ∙ count-places (λ s. is_up_to seq at s.seq s.stop) places records e;
 }
 
 -- ---- the next record of the first list
 
 -- no fewer begin before it
-pub begun-later : (a : RecordValue) (records second : List RecordValue) (locators : List Locator) (seq start n : ℕ) → AreInOrder (a ∷ records) → AreStartsOf locators second → seq ≡ a.seq → start ≡ a.start
-    → n ≡ count_by (place_before seq start) locators → All (λ y. n ≤ count_by (begins_before y.seq y.start) second) records
-begun-later a records second locators seq start n order lie on from is =
+pub begun-later : (a : RecordValue) (records second : List RecordValue) (places : List Place) (seq start n : ℕ) → AreInOrder (a ∷ records) → AreStartsOf places second → seq ≡ a.seq → start ≡ a.start
+    → n ≡ count_by (place_before seq start) places → All (λ y. n ≤ count_by (begins_before y.seq y.start) second) records
+begun-later a records second places seq start n order lie on from is =
     let e : n ≡ count_by (begins_before a.seq a.start) second = is ∙ lie.counts seq start ∙ (λ i. count_by (begins_before (on i) (from i)) second) in
     All-weaker (Precedes a) (λ y. n ≤ count_by (begins_before y.seq y.start) second)
     (λ y k. omega (arith, e, begun-more a.seq a.start y.seq y.start second k.0 k.1)) records (later-precedes a records order)
@@ -203,9 +203,9 @@ ended-later a records second ends seq start n order are on from is =
 
 -- ---- a cursor over starts
 
--- no fewer locators begin before a later position
-pub places-more : (seq at later : ℕ) (locators : List Locator) → at ≤ later → count_by (place_before seq at) locators ≤ count_by (place_before seq later) locators
-places-more seq at later locators le = count-implied (place_before seq at) (place_before seq later) locators (λ locator e. before-later seq at seq later locator.interval.seq locator.interval.start (omega arith, λ _. le) e)
+-- no fewer places begin before a later position
+pub places-more : (seq at later : ℕ) (places : List Place) → at ≤ later → count_by (place_before seq at) places ≤ count_by (place_before seq later) places
+places-more seq at later places le = count-implied (place_before seq at) (place_before seq later) places (λ place e. before-later seq at seq later place.interval.seq place.interval.start (omega arith, λ _. le) e)
 
 -- one that may go past all of them counts them
 pub passes-all : (n count most : ℕ) → n ≤ count → (n < most → n ≡ count) → count ≤ most → n ≡ count
@@ -216,10 +216,10 @@ passes-all n count most few all low = elim (cases_lt n most) [
 
 -- ---- what follows from two cursors about a record
 
-pub hits-between : (a : RecordValue) (second : List RecordValue) (ends : List End) (locators : List Locator) (seq start stop ended reached : ℕ) → AreEndsOf ends second → AreStartsOf locators second
-    → a.start < a.stop → seq ≡ a.seq → start ≡ a.start → stop ≡ a.stop → ended ≡ count_by (end_by seq start) ends → reached ≡ count_by (place_before seq stop) locators
+pub hits-between : (a : RecordValue) (second : List RecordValue) (ends : List End) (places : List Place) (seq start stop ended reached : ℕ) → AreEndsOf ends second → AreStartsOf places second
+    → a.start < a.stop → seq ≡ a.seq → start ≡ a.start → stop ≡ a.stop → ended ≡ count_by (end_by seq start) ends → reached ≡ count_by (place_before seq stop) places
     → length (hits_of second a) + ended ≡ reached
-hits-between a second ends locators seq start stop ended reached are lie some on from to low high =
+hits-between a second ends places seq start stop ended reached are lie some on from to low high =
     let e : ended ≡ count_by (ends_by a.seq a.start) second = low ∙ are.counts seq start ∙ (λ i. count_by (ends_by (on i) (from i)) second) in
     let r : reached ≡ count_by (begins_before a.seq a.stop) second = high ∙ lie.counts seq stop ∙ (λ i. count_by (begins_before (on i) (to i)) second) in
     omega (arith, e, r, count-hits a second some lie.some)

@@ -1,4 +1,4 @@
-//! How many hits each record has, in one sweep over the records of two texts.
+//! How many hits each record has, in one sweep over the records of two files.
 ghost use Rattle.std.specs.Prelude.{◌≡◌, ◌<◌, ◌≤◌, IfOk, count_by, length, map};
 ghost use Rattle.std.specs.List.Sorted.{IsPermutation};
 ghost use Rattle.iv_bytes.specs.Sinks.{Puts};
@@ -11,11 +11,11 @@ ghost use Rattle.iv_pair.specs.declared.pair_rows.PairOutput.TheVariants.{Inters
 use crate::intersect::put_count;
 use iv_bytes::{Sink, WriteFault};
 use iv_lines::{BedRecord, Genome};
-use iv_locators::{Locator, TextRecords};
+use iv_locators::{Place, PlacedRecords};
 use std::alloc::{AllocError, Allocator, Global};
 use std::marker::Model;
 
-/// How many locators are looked at one after another, before a search goes over those that are left.
+/// How many places are looked at one after another, before a search goes over those that are left.
 const FEW: usize = 8;
 
 /// Two lists of records in order, and where those of the second end: 8 bytes for each of them.
@@ -24,8 +24,8 @@ const FEW: usize = 8;
 /// takes no walk over the hits. Its model is the two lists.
 #[derive(Drop)]
 pub struct CountSweep<'t, A: Allocator = Global> {
-    first: TextRecords<'t>,
-    second: TextRecords<'t>,
+    first: PlacedRecords<'t>,
+    second: PlacedRecords<'t>,
     /// Where the records of the second list end, in order.
     ends: Vec<End, A>,
 }
@@ -45,15 +45,15 @@ impl<'t, A: Allocator + Copy> CountSweep<'t, A> {
     /// The sweep over two lists. It takes all the memory that it needs.
     pub fn new(
         alloc: A,
-        first: &TextRecords<'t>,
-        second: &TextRecords<'t>,
+        first: &PlacedRecords<'t>,
+        second: &PlacedRecords<'t>,
     ) -> Result<Self, AllocError>
         requires first { AreInOrder first.now }
         requires second { AreInOrder second.now }
         ensures first { IfOk result (λ s. s.first ≡ first.now) }
         ensures second { IfOk result (λ s. s.second ≡ second.now) }
     {
-        let ends = ends_of(alloc, second.locators())?;
+        let ends = ends_of(alloc, second.places())?;
         Ok(CountSweep {
             first: first.again(),
             second: second.again(),
@@ -68,7 +68,7 @@ impl<'t, A: Allocator + Copy> CountSweep<'t, A> {
     pub fn print<S: Sink>(&self, genome: &Genome<A>, sink: &mut S) -> Result<(), WriteFault>
         ensures { Puts (S.state sink.old) (S.state sink.new) result (pair_text (Intersect Count) genome.now self.now.first self.now.second) }
     {
-        let locators = self.second.locators();
+        let places = self.second.places();
         let ends = self.ends.as_slice();
         let mut begun = 0;
         let mut ended = 0;
@@ -77,8 +77,8 @@ impl<'t, A: Allocator + Copy> CountSweep<'t, A> {
             let seq = feature.seq();
             let start = feature.start();
             ended = pass_ends(ends, ended, seq, start);
-            begun = pass_starts(locators, begun, locators.len(), seq, start);
-            let reached = count_starts(locators, begun, seq, feature.stop());
+            begun = pass_starts(places, begun, places.len(), seq, start);
+            let reached = count_starts(places, begun, seq, feature.stop());
             put_count(genome, &feature, (reached - ended) as u64, sink)?;
         }
         Ok(())
@@ -94,19 +94,16 @@ pub(crate) struct End {
     stop: u32,
 }
 
-/// The ends of these locators, in order: 8 bytes for each.
-pub(crate) fn ends_of<A: Allocator>(
-    alloc: A,
-    locators: &[Locator],
-) -> Result<Vec<End, A>, AllocError>
-    ensures moved { IfOk result (λ ends. IsPermutation (map end_of locators.now) ends.items) }
+/// The ends of these places, in order: 8 bytes for each.
+pub(crate) fn ends_of<A: Allocator>(alloc: A, places: &[Place]) -> Result<Vec<End, A>, AllocError>
+    ensures moved { IfOk result (λ ends. IsPermutation (map end_of places.now) ends.items) }
     ensures ordered { IfOk result (λ ends. EndsAscend ends.items) }
 {
-    let mut ends = Vec::with_capacity(alloc, locators.len())?;
-    for locator in locators {
+    let mut ends = Vec::with_capacity(alloc, places.len())?;
+    for place in places {
         ends.push(End {
-            seq: locator.interval.seq,
-            stop: locator.interval.stop,
+            seq: place.interval.seq,
+            stop: place.interval.stop,
         })?;
     }
     ends.sort_unstable();
@@ -144,34 +141,34 @@ pub(crate) fn count_ends(ends: &[End], seq: u32, at: u64) -> usize
     ends.partition_point(|end| is_by(end, seq, at))
 }
 
-/// How many locators begin before a position, if it is known that so many do.
+/// How many places begin before a position, if it is known that so many do.
 ///
 /// The next few are looked at one after another. If all of them begin before it, the others are searched.
-pub(crate) fn count_starts(locators: &[Locator], from: usize, seq: u32, at: u64) -> usize
-    requires ordered { StartsAscend locators.now }
-    requires from { from ≤ count_by (place_before seq at) locators.now }
-    ensures { result ≡ count_by (place_before seq at) locators.now }
+pub(crate) fn count_starts(places: &[Place], from: usize, seq: u32, at: u64) -> usize
+    requires ordered { StartsAscend places.now }
+    requires from { from ≤ count_by (place_before seq at) places.now }
+    ensures { result ≡ count_by (place_before seq at) places.now }
 {
-    let until = from + FEW.min(locators.len() - from);
-    let passed = pass_starts(locators, from, until, seq, at);
+    let until = from + FEW.min(places.len() - from);
+    let passed = pass_starts(places, from, until, seq, at);
     if passed < until {
         return passed;
     }
-    let others = &locators[passed..];
-    passed + others.partition_point(|locator| begins_before(locator, seq, at))
+    let others = &places[passed..];
+    passed + others.partition_point(|place| begins_before(place, seq, at))
 }
 
-/// Passes locators that begin before a position, if it is known that so many do. It goes no further than to an index.
-fn pass_starts(locators: &[Locator], from: usize, until: usize, seq: u32, at: u64) -> usize
-    requires ordered { StartsAscend locators.now }
-    requires from { from ≤ count_by (place_before seq at) locators.now }
-    requires until { until ≤ length locators.now }
-    ensures few { result ≤ count_by (place_before seq at) locators.now }
-    ensures all { result < until → result ≡ count_by (place_before seq at) locators.now }
+/// Passes places that begin before a position, if it is known that so many do. It goes no further than to an index.
+fn pass_starts(places: &[Place], from: usize, until: usize, seq: u32, at: u64) -> usize
+    requires ordered { StartsAscend places.now }
+    requires from { from ≤ count_by (place_before seq at) places.now }
+    requires until { until ≤ length places.now }
+    ensures few { result ≤ count_by (place_before seq at) places.now }
+    ensures all { result < until → result ≡ count_by (place_before seq at) places.now }
 {
     let mut passed = from;
     while passed < until {
-        if !begins_before(&locators[passed], seq, at) {
+        if !begins_before(&places[passed], seq, at) {
             return passed;
         }
         passed += 1;
@@ -179,10 +176,9 @@ fn pass_starts(locators: &[Locator], from: usize, until: usize, seq: u32, at: u6
     passed
 }
 
-/// Whether a locator begins before a position of a sequence.
-fn begins_before(locator: &Locator, seq: u32, at: u64) -> bool
-    ensures { result ≡ is_before seq at locator.now.interval.seq locator.now.interval.start }
+/// Whether a place begins before a position of a sequence.
+fn begins_before(place: &Place, seq: u32, at: u64) -> bool
+    ensures { result ≡ is_before seq at place.now.interval.seq place.now.interval.start }
 {
-    locator.interval.seq < seq
-        || locator.interval.seq == seq && u64::from(locator.interval.start) < at
+    place.interval.seq < seq || place.interval.seq == seq && u64::from(place.interval.start) < at
 }

@@ -7,7 +7,7 @@ use crate::count_sweep::{End, count_ends, count_starts, ends_of};
 use crate::intervals::intervals_of;
 use crate::second::Second;
 use iv_ledger::Meter;
-use iv_locators::BedText;
+use iv_locators::Places;
 use std::alloc::{AllocError, Allocator};
 use std::marker::Model;
 
@@ -16,7 +16,7 @@ use std::marker::Model;
 /// Its model is the list of the records, in three columns.
 #[derive(Drop)]
 pub(crate) struct HitCounts<A: Allocator + Copy> {
-    intervals: BedText<'static, A>,
+    intervals: Places<A>,
     /// Where they end, in order.
     ends: Vec<End, A>,
 }
@@ -41,7 +41,7 @@ impl<A: Allocator + Copy> HitCounts<A> {
         // The records of the second file are in order.
         let _count = second.len();
         let intervals = intervals_of(second, meter)?;
-        let ends = ends_of(second.allocator(), intervals.records().locators())?;
+        let ends = ends_of(second.allocator(), intervals.records().places())?;
         Ok(HitCounts { intervals, ends })
     }
 
@@ -51,7 +51,7 @@ impl<A: Allocator + Copy> HitCounts<A> {
         requires { start < stop }
         ensures { result ≡ length (hits self.now seq start stop) }
     {
-        let begun = count_starts(self.intervals.records().locators(), 0, seq, stop);
+        let begun = count_starts(self.intervals.records().places(), 0, seq, stop);
         let ended = count_ends(self.ends.as_slice(), seq, start);
         (begun - ended) as u64
     }

@@ -15,8 +15,8 @@ use crate::pair_sweep::ActiveHits;
 use crate::second::Second;
 use iv_bytes::{Sink, WriteFault};
 use iv_ledger::Meter;
-use iv_lines::{BedRecord, Genome};
-use iv_locators::{BedText, TextRecord, TextRecords};
+use iv_lines::{BedRecord, Genome, RecordRef};
+use iv_locators::{PlacedRecords, Places};
 use iv_track::TrackRecord;
 use std::alloc::{AllocError, Allocator};
 use std::marker::Model;
@@ -27,7 +27,7 @@ use std::marker::Model;
 /// A search goes on from the one before, as long as intervals come in the order of a track, and else begins with the first.
 #[derive(Drop)]
 pub(crate) struct JoinedCover<A: Allocator + Copy> {
-    cover: BedText<'static, A>,
+    cover: Places<A>,
     // So many of them end at the position that was sought last, or before it.
     passed: usize,
     // The interval that was sought last.
@@ -111,7 +111,7 @@ impl<A: Allocator + Copy> JoinedCover<A> {
 }
 
 /// Passes records that end at a position or before it, from one on. How many there are up to the first that is not passed.
-fn pass_ended(records: &TextRecords<'_>, from: usize, seq: u32, start: u64) -> usize
+fn pass_ended(records: &PlacedRecords<'_>, from: usize, seq: u32, start: u64) -> usize
     requires { from ≤ length records.now }
     ensures within { result ≤ length records.now }
     ensures alike { HitAlike seq start (drop result records.now) (drop from records.now) }
@@ -131,7 +131,7 @@ fn pass_ended(records: &TextRecords<'_>, from: usize, seq: u32, start: u64) -> u
 }
 
 /// Whether a record ends at a position of a sequence or before it.
-fn ends_by(feature: &TextRecord<'_>, seq: u32, at: u64) -> bool
+fn ends_by(feature: &RecordRef<'_>, seq: u32, at: u64) -> bool
     ensures { result ≡ ends_by seq at feature.now }
 {
     feature.seq() < seq || feature.seq() == seq && feature.stop() <= at

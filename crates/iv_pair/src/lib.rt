@@ -1,4 +1,4 @@
-//! The second file, and the rows of intersect and subtract: from tracks, or in one sweep over records of two texts. The FASTA file of
+//! The second file, and the rows of intersect and subtract: from tracks, or in one sweep over records of two files. The FASTA file of
 //! `iv_fasta` is re-exported, with the rows of getfasta over a track.
 #![tactic(auto)]
 

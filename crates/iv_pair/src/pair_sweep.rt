@@ -1,4 +1,4 @@
-//! The rows of an intersect or a subtract, in one sweep over the records of two texts.
+//! The rows of an intersect or a subtract, in one sweep over the records of two files.
 ghost use Rattle.std.specs.Prelude.{◌≡◌, ◌+◌, ◌<◌, ◌≤◌, ◌^◌, ◌++◌, [], true, length, filter, All, IfOk, vec_len, vec_capacity};
 ghost use Rattle.std.specs.Iterator.{YieldsFirst, item_count};
 ghost use Rattle.iv_bytes.specs.Sinks.{Puts};
@@ -12,8 +12,8 @@ ghost use Rattle.iv_pair.specs.Inside.PairSweeps.{Covers, HitAlike, is_past, rea
 use crate::hits::{is_from, overlaps};
 use crate::pair_rows::{PairOutput, put_pair_rows};
 use iv_bytes::{Sink, WriteFault};
-use iv_lines::{BedRecord, Genome};
-use iv_locators::{TextRecord, TextRecords};
+use iv_lines::{BedRecord, Genome, RecordRef};
+use iv_locators::PlacedRecords;
 use std::alloc::{AllocError, Allocator, Global};
 use std::marker::Model;
 
@@ -23,13 +23,13 @@ use std::marker::Model;
 #[derive(Drop)]
 pub struct PairSweep<'t, A: Allocator = Global> {
     /// Those of the first list that were not given yet.
-    first: TextRecords<'t>,
+    first: PlacedRecords<'t>,
     /// The second list.
-    second: TextRecords<'t>,
+    second: PlacedRecords<'t>,
     /// Those of the second list that start past the start of the record that was given last.
-    rest: TextRecords<'t>,
+    rest: PlacedRecords<'t>,
     /// Those of the second list that have its first position.
-    active: Vec<TextRecord<'t>, A>,
+    active: Vec<RecordRef<'t>, A>,
     /// The interval of that record.
     seq: u32,
     start: u64,
@@ -53,8 +53,8 @@ impl<'t, A: Allocator + Copy> PairSweep<'t, A> {
     /// The sweep over two lists, before their first records. It takes all the memory that it will need.
     pub fn new(
         alloc: A,
-        first: &TextRecords<'t>,
-        second: &TextRecords<'t>,
+        first: &PlacedRecords<'t>,
+        second: &PlacedRecords<'t>,
     ) -> Result<Self, AllocError>
         requires first { AreInOrder first.now }
         requires second { AreInOrder second.now }
@@ -96,7 +96,7 @@ impl<'t, A: Allocator + Copy> PairSweep<'t, A> {
         &self,
         output: PairOutput,
         genome: &Genome<A>,
-        feature: &TextRecord<'t>,
+        feature: &RecordRef<'t>,
         sink: &mut S,
     ) -> Result<(), WriteFault>
         requires ordered { AreInOrder self.now.second }
@@ -121,7 +121,7 @@ impl<'t, A: Allocator + Copy> PairSweep<'t, A> {
     }
 
     /// The next record of the first list. `hits` then has its hits.
-    fn next(&mut self) -> Option<TextRecord<'t>>
+    fn next(&mut self) -> Option<RecordRef<'t>>
         ensures { GivesPair self.old result self.new }
     {
         let (feature, others) = self.first.split_first()?;
@@ -167,9 +167,9 @@ impl<'t, A: Allocator + Copy> PairSweep<'t, A> {
 #[derive(Drop)]
 pub(crate) struct ActiveHits<'a, 't> {
     /// Hits that start at the start of the record or before it.
-    active: &'a [TextRecord<'t>],
+    active: &'a [RecordRef<'t>],
     /// The records after them, among which are the other hits.
-    rest: TextRecords<'t>,
+    rest: PlacedRecords<'t>,
     /// The interval of the record.
     seq: u32,
     start: u64,
@@ -191,7 +191,7 @@ impl<'a, 't> Model for ActiveHits<'a, 't> {
 
 impl<'a, 't> ActiveHits<'a, 't> {
     /// The hits of an interval among these records alone, none of which is active.
-    pub(crate) fn among(rest: TextRecords<'t>, seq: u32, start: u64, stop: u64) -> Self
+    pub(crate) fn among(rest: PlacedRecords<'t>, seq: u32, start: u64, stop: u64) -> Self
         requires { AreInOrder rest }
         ensures { result ≡ hits rest.entry seq start stop }
     {
@@ -216,13 +216,13 @@ impl<'a, 't> ActiveHits<'a, 't> {
 }
 
 impl<'a, 't> Iterator for ActiveHits<'a, 't> {
-    type Item = TextRecord<'t>;
+    type Item = RecordRef<'t>;
 
     ghost next_gives = { YieldsFirst (λ h. h) };
 
     ghost remaining = { item_count (λ h. h) };
 
-    fn next(&mut self) -> Option<TextRecord<'t>> {
+    fn next(&mut self) -> Option<RecordRef<'t>> {
         if let [hit, others @ ..] = self.active {
             self.active = others;
             return Some(hit.again());
@@ -241,7 +241,7 @@ impl<'a, 't> Iterator for ActiveHits<'a, 't> {
 }
 
 /// Drops what doesn't reach past the start of `row`.
-fn drop_passed<A: Allocator>(active: &mut Vec<TextRecord<'_>, A>, feature: &TextRecord<'_>)
+fn drop_passed<A: Allocator>(active: &mut Vec<RecordRef<'_>, A>, feature: &RecordRef<'_>)
     ensures kept { active.new.items ≡ filter (reaches feature.now) active.old.items }
     ensures len { vec_len active.new ≤ vec_len active.old }
     ensures capacity { vec_capacity active.new ≡ vec_capacity active.old }
@@ -254,9 +254,9 @@ fn drop_passed<A: Allocator>(active: &mut Vec<TextRecord<'_>, A>, feature: &Text
 
 /// Adds those of the second list that have the first position of `row`, and leaves those that start past it.
 fn take_begun<'t, A: Allocator>(
-    active: &mut Vec<TextRecord<'t>, A>,
-    rest: &mut TextRecords<'t>,
-    feature: &TextRecord<'_>,
+    active: &mut Vec<RecordRef<'t>, A>,
+    rest: &mut PlacedRecords<'t>,
+    feature: &RecordRef<'_>,
 )
     requires room { vec_len active.old + length rest.old ≤ vec_capacity active.old }
     requires ordered { AreInOrder rest.old }
@@ -279,14 +279,14 @@ fn take_begun<'t, A: Allocator>(
 }
 
 /// Whether `b` is on the sequence of `a` and stops past its start.
-fn reaches(a: &TextRecord<'_>, b: &TextRecord<'_>) -> bool
+fn reaches(a: &RecordRef<'_>, b: &RecordRef<'_>) -> bool
     ensures { result ≡ reaches a.now b.now }
 {
     b.seq() == a.seq() && a.start() < b.stop()
 }
 
 /// Whether `b` is on a later sequence than `a`, or starts past its start.
-fn is_past(a: &TextRecord<'_>, b: &TextRecord<'_>) -> bool
+fn is_past(a: &RecordRef<'_>, b: &RecordRef<'_>) -> bool
     ensures { result ≡ is_past a.now b.now }
 {
     a.seq() < b.seq() || b.seq() == a.seq() && a.start() < b.start()

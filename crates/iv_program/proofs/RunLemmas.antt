@@ -6,10 +6,8 @@ use Rattle.std.specs.Option.{option_to_list}
 use Rattle.std.specs.Prelude.{Bool, true, MatchResult, ◌==◌, if◌then◌else◌}
 use Rattle.iv_bytes.specs.Sinks.{SinkState, Takes, FailsIn, waiting}
 use Rattle.iv_bytes.specs.Sources.{SourceState}
-use Rattle.iv_text.specs.BedFile.{Bed}
 use Rattle.iv_lines.specs.declared.fault.Fault.{Fault}
 use Rattle.iv_lines.specs.declared.fault.Fault.TheVariants as refused
-use Rattle.iv_lines.specs.declared.fault.LoadFault.{LoadFault}
 use Rattle.iv_workspace.specs.States.{State}
 use Rattle.iv_session.specs.Endings.{Ran}
 use Rattle.iv_session.specs.Scripts.{Done}
@@ -27,7 +25,7 @@ use Rattle.iv_args.specs.declared.plan.Slot.{Slot}
 use Rattle.iv_args.specs.declared.plan.Slot.TheVariants.{First, Other, Bases}
 use Rattle.iv_run.specs.Loading.{IsReport}
 use Rattle.iv_cli.specs.Loading.{loaded}
-use Rattle.iv_run.specs.RunFiles.{AreAllWanted, AreOf, FilesRead, IsParsed}
+use Rattle.iv_run.specs.RunFiles.{AreAllWanted, AreOf, FilesRead}
 use Rattle.iv_run.specs.declared.fault.CliFault.{CliFault}
 use Rattle.iv_run.specs.declared.fault.FileFault.{FileFault}
 use Rattle.iv_run.specs.declared.fault.FileFault.TheVariants as file
@@ -128,8 +126,8 @@ module _ (plan : RunPlan) {f0 f1 : FilesState} {sizes : List ℕ} (read_sizes : 
 -- ---- scripts
 
 -- the session that the files of a plan begin, once they are read
-pub report-of : (plan : RunPlan) (texts : Texts) (files : FilesRead (Result Bed LoadFault)) (r : Result State CliFault) → HasTexts (IsParsed (λ r. r)) AreAllWanted plan texts files
-    → ((sizes first : List ℕ) (second fasta_text : Option (List ℕ)) → AreOf (IsParsed (λ r. r)) AreAllWanted sizes first second fasta_text files
+pub report-of : (plan : RunPlan) (texts : Texts) (files : FilesRead) (r : Result State CliFault) → HasTexts (λ r. r) AreAllWanted plan texts files
+    → ((sizes first : List ℕ) (second fasta_text : Option (List ℕ)) → AreOf (λ r. r) AreAllWanted sizes first second fasta_text files
     → IsReport r (loaded files.run_genome.width sizes first second fasta_text files.run_genome.limit))
     → IsReport r (loaded plan.width texts.sizes texts.first texts.other texts.bases plan.limit)
 report-of plan texts files r has report =

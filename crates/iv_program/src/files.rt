@@ -1,6 +1,6 @@
 //! Files that are opened by their names, and reading those of a plan.
 ghost use Rattle.std.specs.Prelude.{◌≡◌, List, ℕ, Option, None, Some, IfOk, IfErr, OnOk, OnErr, true, IfSome};
-ghost use Rattle.iv_run.specs.RunFiles.{IsEnoughOf, IsIfNamed};
+ghost use Rattle.iv_run.specs.RunFiles.{IsEnoughBeside, IsEnoughOf, IsIfNamed, IsOn, IsParsed};
 ghost use Rattle.iv_program.specs.Files.{FilesState, opened, after_opening, after_closing, after_one, after_reading};
 ghost use Rattle.iv_program.specs.Inside.Files.{ReadsNamed, StopsAt, StopsFile, names_of};
 ghost use Rattle.iv_program.specs.Inside.Runs.{HasTexts};
@@ -8,7 +8,8 @@ ghost use Rattle.iv_program.specs.Texts.{Texts, AreTexts};
 
 use iv_args::{Plan, Slot};
 use iv_bytes::{ReadFault, Source};
-use iv_run::{FileFault, HeldFasta, HoldsFile, RunFiles, RunGenome, read_all};
+use iv_lines::HoldsRecords;
+use iv_run::{FileFault, HeldFasta, HeldRecords, HoldsFile, RunFiles, RunGenome, read_all};
 use std::alloc::Allocator;
 
 /// How many bytes a file may have.
@@ -64,13 +65,13 @@ fn read_file<A: Allocator + Copy, F: InputFiles>(
 }
 
 /// What is held of the file of this name.
-fn read_held<H: HoldsFile<A>, A: Allocator + Copy, F: InputFiles>(
+fn read_held<H: HoldsRecords<A>, A: Allocator + Copy, F: InputFiles>(
     files: &mut F,
     name: &[u8],
     run_genome: &RunGenome<A>,
-) -> Result<H, FileFault>
-    ensures ok { IfOk result (λ held. (text : List ℕ) × ReadsNamed (F.state files.old) (Some name.now) (Some text) (F.state files.new) × H.is_of run_genome.now.genome run_genome.now.width run_genome.now.limit text held) }
-    ensures is_on { IfOk result (H.is_on run_genome.now.genome run_genome.now.limit) }
+) -> Result<HeldRecords<H, A>, FileFault>
+    ensures ok { IfOk result (λ held. (text : List ℕ) × ReadsNamed (F.state files.old) (Some name.now) (Some text) (F.state files.new) × IsParsed H.projected run_genome.now.genome run_genome.now.width run_genome.now.limit text held) }
+    ensures is_on { IfOk result (IsOn H.projected run_genome.now.genome run_genome.now.limit) }
     ensures err { IfErr result (λ fault. StopsFile (F.state files.old) name.now fault (F.state files.new)) }
 {
     let mut file = files.open(name)?;
@@ -80,13 +81,13 @@ fn read_held<H: HoldsFile<A>, A: Allocator + Copy, F: InputFiles>(
 }
 
 /// What is held of the second file of a plan, if it names one.
-fn read_second<H: HoldsFile<A>, A: Allocator + Copy, F: InputFiles>(
+fn read_second<H: HoldsRecords<A>, A: Allocator + Copy, F: InputFiles>(
     files: &mut F,
     plan: &Plan<'_, A>,
     run_genome: &RunGenome<A>,
-) -> Result<Option<H>, SlotFault>
-    ensures ok { IfOk result (λ held. (other : Option (List ℕ)) × ReadsNamed (F.state files.old) plan.now.other other (F.state files.new) × IsIfNamed (H.is_of run_genome.now.genome run_genome.now.width run_genome.now.limit) other held) }
-    ensures is_on { IfOk result (λ held. IfSome held (H.is_on run_genome.now.genome run_genome.now.limit)) }
+) -> Result<Option<HeldRecords<H, A>>, SlotFault>
+    ensures ok { IfOk result (λ held. (other : Option (List ℕ)) × ReadsNamed (F.state files.old) plan.now.other other (F.state files.new) × IsIfNamed (IsParsed H.projected run_genome.now.genome run_genome.now.width run_genome.now.limit) other held) }
+    ensures is_on { IfOk result (λ held. IfSome held (IsOn H.projected run_genome.now.genome run_genome.now.limit)) }
     ensures err { IfErr result (λ why. (why.0 ≡ Slot.Other)
         × ((name : List ℕ) × (plan.now.other ≡ Some name) × StopsFile (F.state files.old) name why.1 (F.state files.new))) }
 {
@@ -101,9 +102,9 @@ fn read_beside<H: HoldsFile<A>, A: Allocator + Copy, F: InputFiles>(
     files: &mut F,
     name: &[u8],
     run_genome: &RunGenome<A>,
-    first: &H,
+    first: &HeldRecords<H, A>,
 ) -> Result<HeldFasta<A>, FileFault>
-    ensures ok { IfOk result (λ held. (text : List ℕ) × ReadsNamed (F.state files.old) (Some name.now) (Some text) (F.state files.new) × IsEnoughOf (λ wanted. H.is_enough wanted first.now) run_genome.now.genome text held) }
+    ensures ok { IfOk result (λ held. (text : List ℕ) × ReadsNamed (F.state files.old) (Some name.now) (Some text) (F.state files.new) × IsEnoughOf (IsEnoughBeside H.is_enough first.now) run_genome.now.genome text held) }
     ensures err { IfErr result (λ fault. StopsFile (F.state files.old) name.now fault (F.state files.new)) }
 {
     let mut file = files.open(name)?;
@@ -117,9 +118,9 @@ fn read_fasta<H: HoldsFile<A>, A: Allocator + Copy, F: InputFiles>(
     files: &mut F,
     plan: &Plan<'_, A>,
     run_genome: &RunGenome<A>,
-    first: &H,
+    first: &HeldRecords<H, A>,
 ) -> Result<Option<HeldFasta<A>>, SlotFault>
-    ensures ok { IfOk result (λ held. (bases : Option (List ℕ)) × ReadsNamed (F.state files.old) plan.now.bases bases (F.state files.new) × IsIfNamed (IsEnoughOf (λ wanted. H.is_enough wanted first.now) run_genome.now.genome) bases held) }
+    ensures ok { IfOk result (λ held. (bases : Option (List ℕ)) × ReadsNamed (F.state files.old) plan.now.bases bases (F.state files.new) × IsIfNamed (IsEnoughOf (IsEnoughBeside H.is_enough first.now) run_genome.now.genome) bases held) }
     ensures err { IfErr result (λ why. (why.0 ≡ Slot.Bases)
         × ((name : List ℕ) × (plan.now.bases ≡ Some name) × StopsFile (F.state files.old) name why.1 (F.state files.new))) }
 {
@@ -135,7 +136,7 @@ pub(crate) fn read_files<H: HoldsFile<A>, A: Allocator + Copy, F: InputFiles>(
     files: &mut F,
     plan: &Plan<'_, A>,
 ) -> Result<RunFiles<H, A>, SlotFault>
-    ensures ok { IfOk result (λ read. (texts : Texts) × AreTexts (F.state files.old) plan.now texts × HasTexts H.is_of H.is_enough plan.now texts read) }
+    ensures ok { IfOk result (λ read. (texts : Texts) × AreTexts (F.state files.old) plan.now texts × HasTexts H.projected H.is_enough plan.now texts read) }
     ensures after { OnOk result (F.state files.new ≡ after_reading (names_of plan.now) (F.state files.old)) }
     ensures err { IfErr result (λ why. StopsAt plan.now (F.state files.old) (F.state files.new) why.0 why.1) }
 {

@@ -15,8 +15,8 @@ ghost use Rattle.iv_program.specs.Outcomes.{IsSound, DoesAll, Hold, PrintsJust};
 ghost use Rattle.iv_program.specs.Program.{Runs, world};
 ghost use Rattle.iv_program.specs.Runs.{World};
 ghost use Rattle.iv_program.specs.Inside.Files.{StopsAt, names_of};
-ghost use Rattle.iv_run.specs.Inside.Held.{IsEnough, IsHeld};
-ghost use Rattle.iv_run.specs.RunFiles.{AreAllWanted, IsParsed};
+ghost use Rattle.iv_run.specs.RunFiles.{AreAllWanted};
+ghost use Rattle.iv_run.specs.Inside.RunFiles.{AreWanted};
 ghost use Rattle.iv_program.specs.Inside.Runs.{EndsRun, HasTexts, PrintsView, ReadsAll, StopsPlan};
 ghost use Rattle.iv_program.specs.Texts.{Texts, AreTexts};
 ghost use Rattle.iv_program.specs.declared.program.Ended.{Ended};
@@ -25,8 +25,9 @@ use crate::files::{InputFiles, SlotFault, read_files};
 use crate::script_run::run_session;
 use iv_args::{Notice, Plan};
 use iv_bytes::{Flush, Sink, Source, put_all};
-use iv_lines::Interval;
-use iv_run::{CliFault, ExitReason, HeldBed, HeldRecords, IntervalsView, RunFiles, shot_of_held};
+use iv_lines::{Batches, Interval};
+use iv_locators::Places;
+use iv_run::{CliFault, ExitReason, IntervalsView, RunFiles, shot_of_held};
 use iv_session::SeesRefusals;
 use std::alloc::Allocator;
 
@@ -81,10 +82,10 @@ fn ending_of(done: Result<(), CliFault>) -> ExitReason
 /// Prints a view whose rows depend on nothing of a record except its interval, of the files that were read.
 fn shot_of_intervals<A: Allocator + Copy, W: Sink>(
     view: IntervalsView,
-    files: RunFiles<HeldRecords<Interval, A>, A>,
+    files: RunFiles<Batches<Interval, A>, A>,
     output: &mut W,
 ) -> ExitReason
-    ensures { (plan : RunPlan) (texts : Texts) → AskForIntervals plan.view view → HasTexts (IsParsed bare) AreAllWanted plan texts files
+    ensures { (plan : RunPlan) (texts : Texts) → AskForIntervals plan.view view → HasTexts bare AreAllWanted plan texts files
         → PrintsView plan texts (W.state output.old) (W.state output.new) result }
 {
     ending_of(files.print(view, output))
@@ -94,11 +95,11 @@ fn shot_of_intervals<A: Allocator + Copy, W: Sink>(
 fn shot_of_columns<A: Allocator + Copy, W: Sink>(
     alloc: A,
     plan: &Plan<'_, A>,
-    files: RunFiles<HeldBed<'static, A>, A>,
+    files: RunFiles<Places<A>, A>,
     output: &mut W,
 ) -> ExitReason
     requires { AskForColumns plan.now.view }
-    ensures { (texts : Texts) → HasTexts IsHeld IsEnough plan.now texts files.entry → PrintsView plan.now texts (W.state output.old) (W.state output.new) result }
+    ensures { (texts : Texts) → HasTexts (λ r. r) AreWanted plan.now texts files → PrintsView plan.now texts (W.state output.old) (W.state output.new) result }
 {
     ending_of(shot_of_held(alloc, plan, files, output))
 }

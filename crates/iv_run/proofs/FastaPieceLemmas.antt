@@ -9,7 +9,6 @@ use Rattle.iv_fasta.specs.FastaReading.{Reading, Wanted, only, only_or_fault, re
 use Rattle.iv_fasta.proofs.SummaryLemmas.{only-all-or-fault}
 use Rattle.iv_run.specs.FastaPieces.{FastaSoFar}
 use Rattle.iv_run.specs.Inside.Shots.{bases_said}
-use Rattle.iv_run.specs.Loading.{IsAnswer}
 use Rattle.iv_run.specs.RunFiles.{IsEnoughOf, IsFasta, IsIfNamed}
 use Rattle.iv_run.proofs.LoadLemmas.{IsWhy}
 
@@ -61,30 +60,11 @@ module _ (wanted : Wanted) (g : Sequences) where
 
 -- ---- files that may be left out
 
-pub answer-if-named : {T : Type 0} (of : List ℕ → Result T LoadFault) (text : Option (List ℕ)) (held : Option (Result T LoadFault)) → IsIfNamed (λ t h. IsAnswer h (of t)) text held
-    → IsAnswer (option_transpose held) (option_transpose (option_map of text))
-answer-if-named {T} of None held none = subst (λ (o : Option (Result T LoadFault)). IsAnswer (option_transpose o) (option_transpose (option_map of None))) (sym none) refl
-answer-if-named {T} of (Some text) None named = absurd named
-answer-if-named {T} of (Some text) (Some (Ok f)) named = ap (λ (r : Result T LoadFault). option_transpose (Some r)) named
-answer-if-named {T} of (Some text) (Some (Err f)) (inl memory) = inl memory
-answer-if-named {T} of (Some text) (Some (Err f)) (inr refused) = inr (ap (λ (r : Result T LoadFault). option_transpose (Some r)) refused)
-
--- a FASTA file of which all sequences are held is the file of its text
-all-of : (g : Sequences) (text : List ℕ) (wanted : Wanted) (r : Result Bases LoadFault) → wanted ≡ None → IsFasta wanted g text r → IsAnswer r (fasta_of g text)
-all-of g text wanted r none is =
-    subst (IsAnswer r) (only-all-or-fault (fasta_of g text)) (subst (λ (w : Wanted). IsFasta w g text r) none is)
-
 pub fasta-parsed : (g : Sequences) (text : List ℕ) (r : Result Bases LoadFault) → IfOk r (λ f. fasta_of g text ≡ Ok f)
     → IfErr r (λ f. (f ≡ record { line = 0; cause = cause.Memory }) ⊎ (fasta_of g text ≡ Err f)) → IsFasta None g text r
 fasta-parsed g text (Ok f) ok err = only-all-or-fault (fasta_of g text) ∙ ok
 fasta-parsed g text (Err f) ok (inl memory) = inl memory
 fasta-parsed g text (Err f) ok (inr refused) = inr (only-all-or-fault (fasta_of g text) ∙ refused)
-
-pub fasta-if-named : (g : Sequences) (text : Option (List ℕ)) (held : Option (Result Bases LoadFault)) → IsIfNamed (IsEnoughOf (λ wanted. wanted ≡ None) g) text held
-    → IsAnswer (option_transpose held) (bases_said g text)
-fasta-if-named g None held none = answer-if-named (fasta_of g) None held none
-fasta-if-named g (Some text) None named = absurd named
-fasta-if-named g (Some text) (Some r) named = answer-if-named (fasta_of g) (Some text) (Some r) (all-of g text named.0 r named.1 named.2)
 
 -- if all are held, they are enough, if all are
 pub fasta-all : (g : Sequences) (text : Option (List ℕ)) (held : Option (Result Bases LoadFault)) (P : Wanted → Type 0) → P None → IsIfNamed (IsFasta None g) text held → IsIfNamed (IsEnoughOf P g) text held

@@ -4,7 +4,6 @@ pub mod ShotLemmas
 mod IntervalsAlone
 pub mod PieceLemmas
 pub mod IntervalsLemmas
-mod HeldLemmas
-mod WantedLemmas
+pub mod WantedLemmas
 mod RunFilesLemmas
 pub mod FastaPieceLemmas

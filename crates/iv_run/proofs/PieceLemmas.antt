@@ -8,7 +8,7 @@ use Rattle.iv_lines.specs.declared.fault.LoadFault.{LoadFault}
 use Rattle.iv_lines.specs.declared.fault.LoadCause.TheVariants as cause
 use Rattle.iv_text.proofs.BedReadingLemmas.{begun-sound, whole-file}
 use Rattle.iv_run.specs.Loading.{IsAnswer}
-use Rattle.iv_run.specs.Pieces.{SaysSoFar}
+use Rattle.iv_run.specs.Inside.Pieces.{SaysSoFar}
 
 module _ (projected : RecordValue → RecordValue) (g : Sequences) (limit : ℕ) where
   -- nothing has come

@@ -9,15 +9,16 @@ use Rattle.iv_lines.specs.RecordValue.{RecordValue}
 use Rattle.iv_lines.specs.declared.fault.LoadFault.{LoadFault}
 use Rattle.iv_lines.specs.declared.fault.LoadCause.TheVariants as cause
 use Rattle.iv_fasta.specs.Fasta.{Bases}
+use Rattle.iv_fasta.specs.FastaReading.{Wanted}
 use Rattle.iv_args.specs.declared.plan.Slot.TheVariants as slot
 use Rattle.iv_run.specs.Inside.Shots.{bases_said, second_of}
 use Rattle.iv_run.specs.Loading.{IsAnswer, IsReport, Parsed, parsed}
-use Rattle.iv_run.specs.RunFiles.{AreAllWanted, AreOf, FilesRead, GenomeRead, IsGenomeBy, IsGenomeOf, IsIfNamed, IsParsed}
-use Rattle.iv_run.specs.Inside.RunFiles.{ReportsProjected}
+use Rattle.iv_run.specs.RunFiles.{AreOf, FilesRead, GenomeRead, IsEnoughBeside, IsGenomeBy, IsGenomeOf, IsIfNamed, IsParsed}
+use Rattle.iv_run.specs.Inside.RunFiles.{Reports}
 use Rattle.iv_run.specs.declared.fault.CliFault.{CliFault}
 use Rattle.iv_run.specs.declared.fault.CliFault.TheVariants.{Memory}
 use Rattle.iv_run.proofs.LoadLemmas.{IsDamage, IsWhy, kept-sound, kept-why, past-first, past-genome, past-second, reports, with_bases}
-use Rattle.iv_run.proofs.FastaPieceLemmas.{fasta-if-named}
+use Rattle.iv_run.proofs.FastaPieceLemmas.{wanted-found, wanted-why}
 
 -- what a call answers
 pub answer-of : {T : Type 0} (r said : Result T LoadFault) → IfOk r (λ value. said ≡ Ok value) → IfErr r (λ f. (f ≡ record { line = 0; cause = cause.Memory }) ⊎ (said ≡ Err f)) → IsAnswer r said
@@ -29,44 +30,37 @@ either k said P leads (inl memory) = inl memory
 either k said P leads (inr p) = inr (leads p)
 
 module _ (width : ℕ) (sizes text : List ℕ) (limit : ℕ) (g : Sequences) (genome : genome_of sizes ≡ Ok g) (other bases : Option (List ℕ)) where
-  abbrev Reports : CliFault → Type 0
-  Reports k = IsReport {T = Parsed} (Err k) (parsed width sizes text other bases limit)
+  abbrev IsTheFault : CliFault → Type 0
+  IsTheFault k = IsReport {T = Parsed} (Err k) (parsed width sizes text other bases limit)
 
   -- the first file is damaged
-  pub report-first : (said : Result Bed LoadFault) (k : CliFault) → IsAnswer said (bed_of g width limit text) → IsDamage slot.First said k → Reports k
+  report-first : (said : Result Bed LoadFault) (k : CliFault) → IsAnswer said (bed_of g width limit text) → IsDamage slot.First said k → IsTheFault k
   report-first said k = reports slot.First said (bed_of g width limit text) _ _ k (past-genome width sizes text limit g genome other bases)
 
   module _ (bed : Bed) (sound : bed_of g width limit text ≡ Ok bed) where
     -- the second file is damaged
-    pub report-second : (said : Result (Option Bed) LoadFault) (k : CliFault) → IsAnswer said (second_of g width limit other) → IsDamage slot.Other said k → Reports k
+    report-second : (said : Result (Option Bed) LoadFault) (k : CliFault) → IsAnswer said (second_of g width limit other) → IsDamage slot.Other said k → IsTheFault k
     report-second said k = reports slot.Other said (second_of g width limit other) _ _ k (past-first width sizes text limit g genome other bases bed sound)
 
     module _ (second : Option Bed) (whole : second_of g width limit other ≡ Ok second) where
       -- the FASTA file is damaged
-      pub report-bases : (said : Result (Option Bases) LoadFault) (k : CliFault) → IsAnswer said (bases_said g bases) → IsDamage slot.Bases said k → Reports k
+      report-bases : (said : Result (Option Bases) LoadFault) (k : CliFault) → IsAnswer said (bases_said g bases) → IsDamage slot.Bases said k → IsTheFault k
       report-bases said k = reports slot.Bases said (bases_said g bases) _ _ k (past-second width sizes text limit g genome other bases bed sound second whole)
 
       -- all files are sound
-      pub report-files : (found : Option Bases) → bases_said g bases ≡ Ok found
+      report-files : (found : Option Bases) → bases_said g bases ≡ Ok found
           → parsed width sizes text other bases limit ≡ Ok (record { genome = g; first = bed; second = second; bases = found; limit = limit })
       report-files found is = past-second width sizes text limit g genome other bases bed sound second whole ∙ ap (with_bases g bed second limit) is
 
 -- what is known of the genome file
 module _ (sizes : List ℕ) (known : GenomeRead) (says : IsGenomeOf sizes known) where
-  pub sizes-sound : known.damage ≡ None → genome_of sizes ≡ Ok known.genome
+  sizes-sound : known.damage ≡ None → genome_of sizes ≡ Ok known.genome
   sizes-sound none = subst (IsGenomeBy sizes known) none says
 
   sizes-fault : (k : CliFault) → known.damage ≡ Some k → (text : List ℕ) (other bases : Option (List ℕ)) → IsReport {T = Parsed} (Err k) (parsed known.width sizes text other bases known.limit)
   sizes-fault k is text other bases =
       either k (parsed known.width sizes text other bases known.limit) ((t : List ℕ) (o b : Option (List ℕ)) → parsed known.width sizes t o b known.limit ≡ Err k)
       (λ fault. fault text other bases) (subst (IsGenomeBy sizes known) is says)
-
--- it is damaged
-pub sizes-damaged : (width limit : ℕ) (sizes : List ℕ) (known : GenomeRead) → IsGenomeOf sizes known → known.width ≡ width → known.limit ≡ limit → (k : CliFault) → known.damage ≡ Some k
-    → (text : List ℕ) (other bases : Option (List ℕ)) → IsReport {T = Parsed} (Err k) (parsed width sizes text other bases limit)
-sizes-damaged width limit sizes known says wide most k is text other bases =
-    subst (λ (n : ℕ). IsReport {T = Parsed} (Err k) (parsed width sizes text other bases n)) most
-    (subst (λ (w : ℕ). IsReport {T = Parsed} (Err k) (parsed w sizes text other bases known.limit)) wide (sizes-fault sizes known says k is text other bases))
 
 -- ---- files of which the records are held
 
@@ -100,8 +94,9 @@ module _ (projected : RecordValue → RecordValue) (g : Sequences) (width limit 
       let some : Some file ≡ second = cc is in
       (Some bed.0, ap (λ (r : Result Bed LoadFault). option_transpose (Some r)) bed.1, sym some ∙ ap Some bed.2)
 
--- all files were read, and are those of these bytes
-module _ (projected : RecordValue → RecordValue) (sizes text : List ℕ) (other bases : Option (List ℕ)) (files : FilesRead (Result Bed LoadFault)) (are : AreOf (IsParsed projected) AreAllWanted sizes text other bases files) where
+-- all files were read, and are those of these bytes; if all bases are held, they are enough
+module _ (projected : RecordValue → RecordValue) (is_enough : Wanted → List RecordValue → Type 0) (all_are : (records : List RecordValue) → is_enough None records)
+    (sizes text : List ℕ) (other bases : Option (List ℕ)) (files : FilesRead) (are : AreOf projected is_enough sizes text other bases files) where
   abbrev run_genome : GenomeRead
   run_genome = files.run_genome
 
@@ -135,20 +130,21 @@ module _ (projected : RecordValue → RecordValue) (sizes text : List ℕ) (othe
         beside : (whole : Option Bed) × (second_of run_genome.genome run_genome.width run_genome.limit other ≡ Ok whole) × (second ≡ option_map (projected_bed projected) whole)
         beside = beside-sound projected run_genome.genome run_genome.width run_genome.limit other files.second second are.2 second_is
 
-        module _ (read : Result (Option Bases) LoadFault) (read_is : read ≡ option_transpose files.fasta) where
-          answer : IsAnswer read (bases_said run_genome.genome bases)
-          answer = subst (λ (r : Result (Option Bases) LoadFault). IsAnswer r (bases_said run_genome.genome bases)) (sym read_is) (fasta-if-named run_genome.genome bases files.fasta are.3)
+        -- the FASTA file is
+        pub finish-bases : (k : CliFault) → IsDamage slot.Bases (option_transpose files.fasta) k → ReportsFault k
+        finish-bases k damage =
+            report-bases run_genome.width sizes text run_genome.limit run_genome.genome genome other bases bed.0 bed.1 beside.0 beside.1 (Err damage.0) k
+            (wanted-why run_genome.genome (IsEnoughBeside is_enough files.first) bases files.fasta damage.0 are.3 damage.1) (damage.0, refl, damage.2)
 
-          -- the FASTA file is
-          pub finish-bases : (k : CliFault) → IsDamage slot.Bases read k → ReportsFault k
-          finish-bases k = report-bases run_genome.width sizes text run_genome.limit run_genome.genome genome other bases bed.0 bed.1 beside.0 beside.1 read k answer
-
-          -- all are sound
-          pub finish-all : (g : Sequences) (found : Option Bases) (limit : ℕ) → g ≡ run_genome.genome → read ≡ Ok found → limit ≡ run_genome.limit
-              → ReportsProjected projected (Ok (record { genome = g; first = first; second = second; bases = found; limit = limit })) (parsed run_genome.width sizes text other bases run_genome.limit)
-          finish-all g found limit same is most = (
-            record { genome = run_genome.genome; first = bed.0; second = beside.0; bases = found; limit = run_genome.limit },
-            report-files run_genome.width sizes text run_genome.limit run_genome.genome genome other bases bed.0 bed.1 beside.0 beside.1 found
-                (subst (λ (r : Result (Option Bases) LoadFault). IsAnswer r (bases_said run_genome.genome bases)) is answer),
-            (λ i. record { genome = same i; first = bed.2 i; second = beside.2 i; bases = found; limit = most i }),
-          )
+        -- all are sound
+        pub finish-all : (g : Sequences) (found : Option Bases) (limit : ℕ) → g ≡ run_genome.genome → option_transpose files.fasta ≡ Ok found → limit ≡ run_genome.limit
+            → Reports projected is_enough (Ok (record { genome = g; first = first; second = second; bases = found; limit = limit })) (parsed run_genome.width sizes text other bases run_genome.limit)
+        finish-all g found limit same is most =
+            let enough : IsEnoughBeside is_enough files.first None = subst (λ (r : Result Bed LoadFault). IsEnoughBeside is_enough r None) (sym first_is) (all_are first.records) in
+            let held = wanted-found run_genome.genome (IsEnoughBeside is_enough files.first) enough bases files.fasta found are.3 is in (
+              record { genome = run_genome.genome; first = bed.0; second = beside.0; bases = held.2.0; limit = run_genome.limit },
+              held.0,
+              report-files run_genome.width sizes text run_genome.limit run_genome.genome genome other bases bed.0 bed.1 beside.0 beside.1 held.2.0 held.2.1,
+              subst (λ (r : Result Bed LoadFault). IsEnoughBeside is_enough r held.0) first_is held.1,
+              (λ i. record { genome = same i; first = bed.2 i; second = beside.2 i; bases = held.2.2 i; limit = most i }),
+            )

@@ -6,12 +6,13 @@ use Rattle.iv_lines.specs.Genome.{Sequences}
 use Rattle.iv_lines.specs.GenomeFile.{genome_of}
 use Rattle.iv_lines.specs.declared.fault.LoadFault.{LoadFault}
 use Rattle.iv_lines.specs.declared.fault.Fault.{Fault}
+use Rattle.iv_lines.specs.declared.fault.Fault.TheVariants as refused
 use Rattle.iv_fasta.specs.Fasta.{Bases}
 use Rattle.iv_view.specs.declared.view.View.{View}
 use Rattle.iv_run.specs.Inside.Prints.{Prints}
 use Rattle.iv_run.specs.declared.fault.CliFault.{CliFault}
 use Rattle.iv_run.specs.declared.fault.CliFault.TheVariants as fault
-use Rattle.iv_run.specs.Loading.{Parsed, parsed}
+use Rattle.iv_run.specs.Loading.{Parsed, fault_of_arguments, parsed}
 use Rattle.iv_run.specs.Inside.Shots.{bases_said, second_of, text_beside, view_beside}
 use Rattle.iv_run.specs.Shots.{Shows}
 use Rattle.iv_run.proofs.LoadLemmas.{with_bases, with_second, with_first, with_genome}
@@ -66,3 +67,11 @@ module _ (said : Result Parsed CliFault) (files : Parsed) (is : said ≡ Ok file
   shows-text view asked old new (Err fault.Output) fails = (text_beside files view, asked-is (Ok view) asked, fails)
   shows-text view asked old new (Err fault.Memory) same = same
   shows-text view asked old new (Err why) prints = absurd prints
+
+  -- the fault of the arguments is reported, and nothing is printed
+  pub shows-fault : (f : Fault) → view_beside files arguments ≡ Err f → (old : SinkState) → Shows old old (Err (fault_of_arguments f)) (shown_of arguments said)
+  shows-fault f asked old = by f (asked-is (Err f) asked)
+    where
+      by : (f : Fault) → shown_of arguments said ≡ Err (fault.Words f) → Shows old old (Err (fault_of_arguments f)) (shown_of arguments said)
+      by refused.NoMemory e = refl
+      by other e = (e, refl)

@@ -1,8 +1,8 @@
 -- Definitions that no contract of the program or of the six public crates reaches.
 pub mod Files
+pub mod Pieces
 pub mod Prints
 pub mod Shots
 pub mod Intervals
 pub mod IntervalsViews
-pub mod Held
 pub mod RunFiles

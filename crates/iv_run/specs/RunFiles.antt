@@ -20,11 +20,11 @@ pub record GenomeRead : Type 0 where
   pub width : ℕ
   pub limit : ℕ
 
--- the genome, what is held of each BED file, and the bases of the FASTA file, or its fault
-pub record FilesRead (H : Type 0) : Type 0 where
+-- the genome; the records of each BED file, or its fault; and the bases of the FASTA file, or its fault
+pub record FilesRead : Type 0 where
   pub run_genome : GenomeRead
-  pub first : H
-  pub second : Option H
+  pub first : Result Bed LoadFault
+  pub second : Option (Result Bed LoadFault)
   pub fasta : Option (Result Bases LoadFault)
 
 -- the genome file of these bytes is sound; or this is the report of all files, whatever the others are
@@ -52,16 +52,12 @@ abbrev pub IsEnoughOf : (Wanted → Type 0) → Sequences → List ℕ → Resul
 IsEnoughOf is_enough g text file = (wanted : Wanted) × is_enough wanted × IsFasta wanted g text file
 
 -- beside a first file of which a session or a caller may ask anything only all sequences are enough
-abbrev pub AreAllWanted : {H : Type 0} → Wanted → H → Type 0
+abbrev pub AreAllWanted : Wanted → List RecordValue → Type 0
 AreAllWanted wanted first = wanted ≡ None
 
--- the files are those of these bytes, if what is held of a BED file on a genome, of this width without a record and with at most so many
--- records, is so of its text, and if beside such a first file it is enough to hold these sequences of a FASTA file
-abbrev pub AreOf : {H : Type 0} → (Sequences → ℕ → ℕ → List ℕ → H → Type 0) → (Wanted → H → Type 0) → List ℕ → List ℕ → Option (List ℕ) → Option (List ℕ) → FilesRead H → Type 0
-AreOf is_of is_enough sizes first second fasta_text files =
-    IsGenomeOf sizes files.run_genome × is_of files.run_genome.genome files.run_genome.width files.run_genome.limit first files.first
-    × IsIfNamed (is_of files.run_genome.genome files.run_genome.width files.run_genome.limit) second files.second
-    × IsIfNamed (IsEnoughOf (λ wanted. is_enough wanted files.first) files.run_genome.genome) fasta_text files.fasta
+-- beside a first file these sequences are enough, by its records; beside a damaged one any are
+abbrev pub IsEnoughBeside : (Wanted → List RecordValue → Type 0) → Result Bed LoadFault → Wanted → Type 0
+IsEnoughBeside is_enough first wanted = IfOk first (λ file. is_enough wanted file.records)
 
 -- the records are projections of records of the file's width on the genome, and they are not more than the limit
 pub record AreProjected (projected : RecordValue → RecordValue) (g : Sequences) (limit : ℕ) (file : Bed) : Type 0 where
@@ -75,3 +71,11 @@ IsOn projected g limit held = IfOk held (AreProjected projected g limit)
 -- this is the BED file of a text with its records projected, or its first fault, or out of memory
 abbrev pub IsParsed : (RecordValue → RecordValue) → Sequences → ℕ → ℕ → List ℕ → Result Bed LoadFault → Type 0
 IsParsed projected g width limit text file = IsAnswer file (projected_bed_of projected g width limit text)
+
+-- the files are those of these bytes, with the records of BED files projected, and with the bases of as many sequences as are enough
+-- beside the first file
+abbrev pub AreOf : (RecordValue → RecordValue) → (Wanted → List RecordValue → Type 0) → List ℕ → List ℕ → Option (List ℕ) → Option (List ℕ) → FilesRead → Type 0
+AreOf projected is_enough sizes first second fasta_text files =
+    IsGenomeOf sizes files.run_genome × IsParsed projected files.run_genome.genome files.run_genome.width files.run_genome.limit first files.first
+    × IsIfNamed (IsParsed projected files.run_genome.genome files.run_genome.width files.run_genome.limit) second files.second
+    × IsIfNamed (IsEnoughOf (IsEnoughBeside is_enough files.first) files.run_genome.genome) fasta_text files.fasta

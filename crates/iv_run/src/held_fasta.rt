@@ -1,7 +1,6 @@
 //! What is held of a FASTA file while it is read, and then: its bases, or its first fault.
 ghost use Rattle.std.specs.Prelude.{◌<◌, ◌+◌, ◌^◌, ◌++◌, ℕ, List, length, IfOk, IfErr};
 ghost use Rattle.std.specs.Option.{option_map};
-ghost use Rattle.std.proofs.Common.{arith};
 ghost use Rattle.iv_fasta.specs.FastaReading.{Wanted, size_of};
 ghost use Rattle.iv_run.specs.declared.fault.FileFault.TheVariants as fault;
 ghost use Rattle.iv_run.specs.Files.{ReadsWhole, StopsReading};
@@ -48,10 +47,6 @@ fn finish_fasta<A: Allocator + Copy>(
 
 impl<A: Allocator + Copy> TakesPieces<A> for Result<FastaReader<A>, LoadFault> {
     ghost has_taken = { λ wanted genome limit front reading. FastaSoFar wanted genome front reading };
-
-    ghost bound = { 2 ^ 63 };
-
-    ghost bound_is = { (omega arith, omega arith) };
 
     fn take(self, genome: &Genome<A>, _limit: u32, piece: &[u8]) -> Result<Self, FileFault> {
         Ok(take_bytes(genome, self, piece))

@@ -1,28 +1,28 @@
 //! Files that are read from a source to their ends: all their bytes, or what is held of a file.
-ghost use Rattle.std.specs.Prelude.{◌≡◌, ◌↔◌, ◌<◌, ◌≤◌, ◌+◌, ◌^◌, ◌++◌, ℕ, List, [], false, length, map, None, Some, Result, IfOk, IfErr, OnOk};
+ghost use Rattle.std.specs.Prelude.{◌≡◌, ◌↔◌, ◌<◌, ◌≤◌, ◌+◌, ◌^◌, ◌++◌, ℕ, All, List, [], false, length, None, Some, Result, IfOk, IfErr, OnOk, refl};
 ghost use Rattle.std.specs.Option.{option_map};
-ghost use Rattle.std.proofs.Common.{arith};
 ghost use Rattle.iv_bytes.specs.Sources.{SourceState};
 ghost use Rattle.iv_text.specs.BedReading.{AreSoundLines, size_of};
 ghost use Rattle.iv_lines.specs.Genome.{Sequences};
+ghost use Rattle.iv_lines.specs.RecordValue.{RecordValue};
 ghost use Rattle.iv_lines.specs.Widths.{IsWidth};
 ghost use Rattle.iv_fasta.specs.FastaReading.{Wanted};
-ghost use Rattle.iv_locators.specs.Inside.Locators.{row_of};
 ghost use Rattle.iv_lines.specs.Inside.Intervals.{interval_records};
 ghost use Rattle.iv_run.specs.Files.{ReadsWhole, StopsReading};
 ghost use Rattle.iv_run.specs.Inside.Files.{EndsReading, HadMemory, IsPieceFault, IsTooLong};
-ghost use Rattle.iv_run.specs.Pieces.{SaysSoFar};
-ghost use Rattle.iv_run.specs.RunFiles.{AreAllWanted, IsOn, IsParsed};
+ghost use Rattle.iv_run.specs.Inside.RunFiles.{AreWanted};
+ghost use Rattle.iv_run.specs.Inside.Pieces.{SaysSoFar};
+ghost use Rattle.iv_run.specs.RunFiles.{AreAllWanted, IsEnoughBeside, IsOn, IsParsed};
 ghost use Rattle.iv_run.specs.declared.fault.FileFault.{FileFault};
 ghost use Rattle.iv_run.specs.declared.fault.FileFault.TheVariants as fault;
 
 use crate::fault::FileFault;
 use iv_bytes::Source;
-use iv_lines::{Genome, Interval, LoadFault, Record};
-use iv_locators::Locator;
-use iv_text::{BedBatches, BedReader, FromRecord};
+use iv_lines::{Batches, Genome, HoldsRecords, Interval, LoadFault, RecordBatches};
+use iv_locators::Places;
+use iv_text::{BedBatches, BedReader};
 use std::alloc::{AllocError, Allocator, Global};
-use std::marker::Model;
+use std::marker::{Model, PhantomData};
 
 /// Adds a piece to the bytes, up to this limit in all.
 fn take_piece<A: Allocator>(
@@ -74,46 +74,56 @@ pub trait TakesPieces<A: Allocator + Copy>: Sized + Drop {
     /// It is so once these bytes were taken of a file on this genome. A BED file may have so many records; of a FASTA file these
     /// sequences are wanted.
     ghost has_taken: { Wanted → Sequences → ℕ → List ℕ → Self → Type 0 };
-    /// A file has fewer bytes than this.
-    ghost bound: { ℕ };
 
     /// Takes the next bytes.
     fn take(self, genome: &Genome<A>, limit: u32, piece: &[u8]) -> Result<Self, FileFault>
-        requires { (wanted : Wanted) × (front : List ℕ) × has_taken wanted genome.now limit front self × (length front + length piece.now < bound) }
+        requires { (wanted : Wanted) × (front : List ℕ) × has_taken wanted genome.now limit front self × (length front + length piece.now < 2 ^ 63) }
         ensures ok { IfOk result (λ next. (wanted : Wanted) (front : List ℕ) → has_taken wanted genome.now limit front self → has_taken wanted genome.now limit (front ++ piece.now) next) }
         ensures err { IfErr result (λ why. why ≡ fault.Memory) };
-
-    /// Files of up to 4 GiB are taken.
-    ghost bound_is: { (2 ^ 32 ≤ bound) × (bound ≤ 2 ^ 63) };
 }
 
-/// What is held of a BED file that is read in pieces: its records, some of their columns, or its text.
-pub trait HoldsFile<A: Allocator + Copy>: Sized + Drop {
-    /// What is held of a file of which some bytes were read.
-    type Reading: TakesPieces<A> + Drop;
-
-    /// It is held so of a whole text on this genome. Without a record it has this width, and it may have so many records.
-    ghost is_of: { Sequences → ℕ → ℕ → List ℕ → Self → Type 0 };
-    /// The records that are held are on this genome, and not more than so many.
-    ghost is_on: { Sequences → ℕ → Self → Type 0 };
-    /// Beside this first file it is enough to hold the bases of these sequences of a FASTA file.
-    ghost is_enough: { Wanted → Self → Type 0 };
-
-    /// No byte was read.
-    fn begin(alloc: A) -> Self::Reading
-        ensures { (genome : Sequences) (limit : ℕ) → Self.Reading.has_taken None genome limit [] result };
-
-    /// What is held of the whole file, once all its bytes have come. Without a record it has the width that is handed in.
-    fn finish(reading: Self::Reading, genome: &Genome<A>, empty_width: u8, limit: u32) -> Self
-        requires width { IsWidth empty_width }
-        requires held { (front : List ℕ) × Self.Reading.has_taken None genome.now limit front reading × (length front < Self.Reading.bound) }
-        ensures says { (text : List ℕ) → Self.Reading.has_taken None genome.now limit text reading → is_of genome.now empty_width limit text result }
-        ensures is_on { is_on genome.now limit result };
+/// What is held of the records of a BED file, and of which sequences the bases have to be held beside it.
+pub trait HoldsFile<A: Allocator + Copy>: HoldsRecords<A> {
+    /// Beside a first file of these records it is enough to hold the bases of these sequences of a FASTA file.
+    ghost is_enough: { Wanted → List RecordValue → Type 0 };
 
     /// Which sequences of a FASTA file have to be held beside this first file: those of the ranks at which a list says so, or without a
     /// list all.
     fn wanted(&self, alloc: A) -> Result<Option<Vec<bool, A>>, AllocError>
-        ensures { IfOk result (λ wanted. is_enough (option_map (λ ranks. ranks.items) wanted) self.now) };
+        ensures { IfOk result (λ wanted. is_enough (option_map (λ ranks. ranks.items) wanted) (Self.records self.now)) };
+
+    /// The bases of all sequences are enough.
+    ghost all_are: { (records : List RecordValue) → is_enough None records };
+}
+
+impl<A: Allocator + Copy> HoldsFile<A> for RecordBatches<A> {
+    ghost is_enough = { AreAllWanted };
+
+    ghost all_are = { λ records. refl };
+
+    fn wanted(&self, _alloc: A) -> Result<Option<Vec<bool, A>>, AllocError> {
+        Ok(None)
+    }
+}
+
+impl<A: Allocator + Copy> HoldsFile<A> for Batches<Interval, A> {
+    ghost is_enough = { AreAllWanted };
+
+    ghost all_are = { λ records. refl };
+
+    fn wanted(&self, _alloc: A) -> Result<Option<Vec<bool, A>>, AllocError> {
+        Ok(None)
+    }
+}
+
+impl<A: Allocator + Copy> HoldsFile<A> for Places<A> {
+    ghost is_enough = { AreWanted };
+
+    ghost all_are = { λ records at or within. refl };
+
+    fn wanted(&self, alloc: A) -> Result<Option<Vec<bool, A>>, AllocError> {
+        Ok(Some(self.ranks(alloc)?))
+    }
 }
 
 /// What has taken a file on this genome, read from a source to its end, at most `most` bytes. A BED file may have at most `limit`
@@ -128,7 +138,7 @@ pub(crate) fn read_pieces<P: TakesPieces<A>, A: Allocator + Copy, R: Source>(
     most: u64,
 ) -> Result<P, FileFault>
     requires begun { (wanted : Wanted) × P.has_taken wanted genome.now limit [] begun }
-    requires most { most < P.bound }
+    requires most { most < 2 ^ 63 }
     ensures ok { IfOk result (λ all. (text : List ℕ) × ReadsWhole (R.state source.old) (R.state source.new) most text
         × ((wanted : Wanted) → P.has_taken wanted genome.now limit [] begun → P.has_taken wanted genome.now limit text all)) }
     ensures err { IfErr result (λ why. StopsReading (R.state source.old) (R.state source.new) most why) }
@@ -149,58 +159,49 @@ pub(crate) fn read_pieces<P: TakesPieces<A>, A: Allocator + Copy, R: Source>(
     }
 }
 
-/// A BED file on this genome, read from a source to its end, at most `most` bytes. It may have at most `limit` records.
-pub(crate) fn read_held<H: HoldsFile<A>, A: Allocator + Copy, R: Source>(
-    alloc: A,
-    genome: &Genome<A>,
-    empty_width: u8,
-    limit: u32,
-    source: &mut R,
-    most: u64,
-) -> Result<H, FileFault>
-    requires width { IsWidth empty_width }
-    requires most { most < H.Reading.bound }
-    ensures ok { IfOk result (λ held. (text : List ℕ) × ReadsWhole (R.state source.old) (R.state source.new) most text × H.is_of genome.now empty_width limit text held) }
-    ensures is_on { IfOk result (H.is_on genome.now limit) }
-    ensures err { IfErr result (λ why. StopsReading (R.state source.old) (R.state source.new) most why) }
-{
-    let all = read_pieces(H::begin(alloc), genome, limit, source, most)?;
-    Ok(H::finish(all, genome, empty_width, limit))
-}
-
-/// A BED file of which each record is held as a `K`, or its first fault.
-pub type HeldRecords<K, A> = Result<ParsedFile<K, A>, LoadFault>;
+/// A BED file whose records an `H` holds, or its first fault.
+pub type HeldRecords<H, A> = Result<ParsedFile<H, A>, LoadFault>;
 
 /// What is held of the records of a BED file, and how many columns each of them has.
 #[derive(Drop)]
-pub struct ParsedFile<K: FromRecord<A>, A: Allocator + Copy = Global> {
+pub struct ParsedFile<H: HoldsRecords<A>, A: Allocator + Copy = Global> {
     width: u8,
-    held: K::Holder,
+    held: H,
+    allocator: PhantomData<A>,
 }
 
-impl<K: FromRecord<A>, A: Allocator + Copy> Model for ParsedFile<K, A> {
+impl<H: HoldsRecords<A>, A: Allocator + Copy> Model for ParsedFile<H, A> {
     ghost use Rattle.iv_lines.specs.Widths.{IsWidth};
-    ghost use Rattle.std.specs.Prelude.{◌≤◌, map};
+    ghost use Rattle.std.specs.Prelude.{◌≤◌};
     ghost use Rattle.iv_text.specs.BedFile.{Bed};
 
     ghost Value = { Bed };
 
-    ghost view = { λ f. record { width = f.width; records = map K.as_record (K.Holder.items f.held) } };
+    ghost view = { λ f. record { width = f.width; records = H.records f.held } };
 
     ghost invariant = { λ f. IsWidth f.width };
 }
 
-impl<A: Allocator + Copy> ParsedFile<Record<A>, A> {
+impl<H: HoldsRecords<A>, A: Allocator + Copy> ParsedFile<H, A> {
+    /// The number of columns of each record, 3 to 6.
+    pub(crate) fn width(&self) -> u8
+        ensures { result ≡ self.now.width }
+    {
+        self.width
+    }
+}
+
+impl<A: Allocator + Copy> ParsedFile<RecordBatches<A>, A> {
     /// The file with its records, of which all is held.
     pub fn into_bed(self) -> BedBatches<A>
         ensures { result ≡ self }
     {
-        let ParsedFile { width, held } = self;
+        let ParsedFile { width, held, .. } = self;
         BedBatches::of(width, held)
     }
 }
 
-impl<A: Allocator + Copy> ParsedFile<Interval, A> {
+impl<A: Allocator + Copy> ParsedFile<Batches<Interval, A>, A> {
     /// The intervals of the file's records.
     ///
     /// # Errors
@@ -213,29 +214,29 @@ impl<A: Allocator + Copy> ParsedFile<Interval, A> {
     }
 }
 
-impl<A: Allocator + Copy> ParsedFile<Locator, A> {
-    /// The locators of the file's records, of which only the intervals are known.
-    ///
-    /// # Errors
-    ///
-    /// An allocation failed.
-    pub(crate) fn into_locators(self) -> Result<Vec<Locator, A>, AllocError>
-        ensures { IfOk result (λ locators. map (row_of 3 []) locators.items ≡ self.records) }
+impl<A: Allocator + Copy> ParsedFile<Places<A>, A> {
+    /// The file's records at their places.
+    pub(crate) fn into_places(self) -> Places<A>
+        requires { All (λ r. r.width ≡ self.width) self.records }
+        ensures { result ≡ self }
     {
-        self.held.into_vec()
+        let ParsedFile { width, held, .. } = self;
+        let mut places = held;
+        places.set_width(width);
+        places
     }
 }
 
 /// Takes the next bytes, unless there was a fault before.
-pub(crate) fn take_next<K: FromRecord<A>, A: Allocator + Copy>(
+pub(crate) fn take_next<H: HoldsRecords<A>, A: Allocator + Copy>(
     genome: &Genome<A>,
     limit: u32,
-    so_far: Result<BedReader<K, A>, LoadFault>,
+    so_far: Result<BedReader<H, A>, LoadFault>,
     piece: &[u8],
-) -> Result<BedReader<K, A>, LoadFault>
-    requires sound { IfOk so_far (λ d. AreSoundLines K.projected genome.now limit d.read) }
+) -> Result<BedReader<H, A>, LoadFault>
+    requires sound { IfOk so_far (λ d. AreSoundLines H.projected genome.now limit d.read) }
     requires few { IfOk so_far (λ d. size_of d + length piece.now < 2 ^ 64) }
-    ensures { (front : List ℕ) → SaysSoFar K.projected genome.now limit front so_far → SaysSoFar K.projected genome.now limit (front ++ piece.now) result }
+    ensures { (front : List ℕ) → SaysSoFar H.projected genome.now limit front so_far → SaysSoFar H.projected genome.now limit (front ++ piece.now) result }
 {
     let mut draft = so_far?;
     draft.take_piece(genome, limit, piece)?;
@@ -243,68 +244,60 @@ pub(crate) fn take_next<K: FromRecord<A>, A: Allocator + Copy>(
 }
 
 /// What is held of a whole file, or its fault, once all bytes have come. Without a record it has the width that is handed in.
-pub(crate) fn finish<K: FromRecord<A>, A: Allocator + Copy>(
-    so_far: Result<BedReader<K, A>, LoadFault>,
+pub(crate) fn finish<H: HoldsRecords<A>, A: Allocator + Copy>(
+    so_far: Result<BedReader<H, A>, LoadFault>,
     genome: &Genome<A>,
     empty_width: u8,
     limit: u32,
-) -> Result<ParsedFile<K, A>, LoadFault>
+) -> Result<ParsedFile<H, A>, LoadFault>
     requires width { IsWidth empty_width }
-    requires sound { IfOk so_far (λ d. AreSoundLines K.projected genome.now limit d.read) }
+    requires sound { IfOk so_far (λ d. AreSoundLines H.projected genome.now limit d.read) }
     requires few { IfOk so_far (λ d. size_of d < 2 ^ 64) }
-    ensures says { (text : List ℕ) → SaysSoFar K.projected genome.now limit text so_far → IsParsed K.projected genome.now empty_width limit text result }
-    ensures is_on { IsOn K.projected genome.now limit result }
+    ensures says { (text : List ℕ) → SaysSoFar H.projected genome.now limit text so_far → IsParsed H.projected genome.now empty_width limit text result }
+    ensures is_on { IsOn H.projected genome.now limit result }
 {
     let (width, held) = so_far?.finish(genome, empty_width, limit)?;
-    Ok(ParsedFile { width, held })
+    Ok(ParsedFile {
+        width,
+        held,
+        allocator: PhantomData,
+    })
 }
 
 /// A BED file on this genome, given all its bytes. It may have at most `limit` records.
-pub(crate) fn parse_bed<K: FromRecord<A>, A: Allocator + Copy>(
+pub(crate) fn parse_bed<H: HoldsRecords<A>, A: Allocator + Copy>(
     alloc: A,
     genome: &Genome<A>,
     empty_width: u8,
     limit: u32,
     text: &[u8],
-) -> Result<ParsedFile<K, A>, LoadFault>
+) -> Result<ParsedFile<H, A>, LoadFault>
     requires { IsWidth empty_width }
-    ensures says { IsParsed K.projected genome.now empty_width limit text.now result }
-    ensures is_on { IsOn K.projected genome.now limit result }
+    ensures says { IsParsed H.projected genome.now empty_width limit text.now result }
+    ensures is_on { IsOn H.projected genome.now limit result }
 {
     let said = take_next(genome, limit, Ok(BedReader::new(alloc)), text);
     finish(said, genome, empty_width, limit)
 }
 
-impl<K: FromRecord<A>, A: Allocator + Copy> TakesPieces<A> for Result<BedReader<K, A>, LoadFault> {
-    ghost has_taken = { λ wanted genome limit front reading. SaysSoFar K.projected genome limit front reading };
-
-    ghost bound = { 2 ^ 63 };
-
-    ghost bound_is = { (omega arith, omega arith) };
+impl<H: HoldsRecords<A>, A: Allocator + Copy> TakesPieces<A>
+    for Result<BedReader<H, A>, LoadFault> {
+    ghost has_taken = { λ wanted genome limit front reading. SaysSoFar H.projected genome limit front reading };
 
     fn take(self, genome: &Genome<A>, limit: u32, piece: &[u8]) -> Result<Self, FileFault> {
         Ok(take_next(genome, limit, self, piece))
     }
 }
 
-impl<K: FromRecord<A>, A: Allocator + Copy> HoldsFile<A> for HeldRecords<K, A> {
-    type Reading = Result<BedReader<K, A>, LoadFault>;
-
-    ghost is_of = { IsParsed K.projected };
-
-    ghost is_on = { IsOn K.projected };
-
-    ghost is_enough = { AreAllWanted };
-
-    fn begin(alloc: A) -> Self::Reading {
-        Ok(BedReader::new(alloc))
-    }
-
-    fn finish(reading: Self::Reading, genome: &Genome<A>, empty_width: u8, limit: u32) -> Self {
-        finish(reading, genome, empty_width, limit)
-    }
-
-    fn wanted(&self, _alloc: A) -> Result<Option<Vec<bool, A>>, AllocError> {
-        Ok(None)
+/// Beside a first file, or its fault, which sequences of a FASTA file have to be held.
+pub(crate) fn wanted_beside<H: HoldsFile<A>, A: Allocator + Copy>(
+    alloc: A,
+    first: &HeldRecords<H, A>,
+) -> Result<Option<Vec<bool, A>>, AllocError>
+    ensures { IfOk result (λ wanted. IsEnoughBeside H.is_enough first.now (option_map (λ ranks. ranks.items) wanted)) }
+{
+    match first {
+        Ok(file) => file.held.wanted(alloc),
+        Err(_) => Ok(Some(Vec::new(alloc))),
     }
 }

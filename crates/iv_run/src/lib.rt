@@ -4,7 +4,6 @@
 
 mod exit_reason;
 mod fault;
-mod held_bed;
 mod held_fasta;
 mod input_files;
 mod intervals_view;
@@ -13,7 +12,6 @@ mod run_files;
 
 pub use exit_reason::{ExitReason, status};
 pub use fault::{CliFault, FileFault};
-pub use held_bed::HeldBed;
 pub use held_fasta::HeldFasta;
 pub use input_files::{
     HeldRecords, HoldsFile, ParsedFile, TakesPieces, read_all, too_long_above_the_limit,

@@ -1,91 +1,38 @@
 //! A run of one subcommand, without a script, over its files: their bytes, or what was held of them.
-ghost use Rattle.std.specs.Prelude.{◌≡◌, ◌<◌, ◌≤◌, ◌^◌, All, List, ℕ, Option, [], None, Ok, Err, IsSome, IfSome, OnOk, length};
+ghost use Rattle.std.specs.Prelude.{◌≡◌, All, List, ℕ, Option, [], None, Ok, Err, IsSome, OnOk};
 ghost use Rattle.std.specs.Option.{option_copied, option_map, unwrap_or};
 ghost use Rattle.iv_bytes.specs.Sinks.{Puts};
 ghost use Rattle.iv_lines.specs.Genome.{Sequences};
 ghost use Rattle.iv_lines.specs.Ordered.{AreInOrder, ordered};
 ghost use Rattle.iv_lines.specs.Read.{IsOnGenome};
 ghost use Rattle.iv_lines.specs.RecordValue.{RecordValue};
-ghost use Rattle.iv_track.specs.Tracked.{most_records};
 ghost use Rattle.iv_fasta.specs.FastaRows.{fasta_text};
 ghost use Rattle.iv_pair.specs.CoverAlone.{DependsOnCoverAlone, HaveBases};
 ghost use Rattle.iv_pair.specs.PairRows.{pair_text};
 ghost use Rattle.iv_view.specs.Inside.Texts.{records_text};
 ghost use Rattle.iv_view.specs.Views.{kept_text};
+ghost use Rattle.iv_run.specs.RunFiles.{AreOf};
+ghost use Rattle.iv_run.specs.Inside.RunFiles.{AreWanted, Reports};
 ghost use Rattle.iv_run.specs.Loading.{parsed};
-ghost use Rattle.iv_run.specs.RunFiles.{AreOf, IsEnoughOf, IsIfNamed};
-ghost use Rattle.iv_run.specs.Inside.Held.{FitsOn, IsEnough, IsHeld, ReportsWanted};
-ghost use Rattle.iv_lines.specs.GenomeFile.{genome_of};
 ghost use Rattle.iv_run.specs.Inside.IntervalsViews.{AskForColumns, NeedsColumns};
 ghost use Rattle.iv_run.specs.Inside.Prints.{Prints};
 ghost use Rattle.iv_run.specs.Inside.Shots.{ordered_other, text_beside, view_beside};
 ghost use Rattle.iv_run.specs.Shots.{Shows, shown};
 
 use crate::fault::CliFault;
-use crate::held_bed::HeldBed;
-use crate::held_fasta::HeldFasta;
-use crate::input_files::HeldRecords;
 use crate::intervals_view::IntervalsView;
-use crate::run_files::{Inputs, RunFiles, RunGenome, in_slot};
-use iv_args::{Plan, Slot};
+use crate::run_files::{Inputs, RunFiles, SoundFiles, sound_files};
+use iv_args::Plan;
 use iv_blocks::{MergeSweep, put_cluster};
 use iv_bytes::{Buffered, Sink, WriteFault};
 use iv_fasta::{Fasta, FastaOutput, put_fasta};
-use iv_lines::{Fault, Genome, Interval, put_line};
-use iv_locators::{BedText, Locator, TextRecords};
+use iv_lines::{Batches, Fault, Genome, Interval, put_line};
+use iv_locators::{PlacedRecords, Places};
 use iv_pair::{CountSweep, IntersectOutput, PairOutput, PairSweep, needs_cover_alone};
 use iv_view::{Available, KeptView, View, ViewFault, WrittenView};
-use std::alloc::{AllocError, Allocator, Global};
-use std::marker::Model;
+use std::alloc::{AllocError, Allocator};
 
-/// A genome, the records of one BED file or two, and the bases of a FASTA file or none. The records of the first
-/// file are on the genome.
-#[derive(Drop)]
-struct TextFiles<'t, A: Allocator + Copy = Global> {
-    genome: Genome<A>,
-    first: BedText<'t, A>,
-    second: Option<BedText<'t, A>>,
-    fasta: Option<Fasta<A>>,
-    limit: u32,
-}
-
-impl<'t, A: Allocator + Copy> Model for TextFiles<'t, A> {
-    ghost use Rattle.std.specs.Prelude.{All};
-    ghost use Rattle.iv_lines.specs.Read.{IsOnGenome};
-    ghost use Rattle.iv_run.specs.Loading.{Parsed};
-
-    ghost Value = { Parsed };
-
-    ghost view = { λ files. record { genome = files.genome; first = files.first; second = files.second; bases = files.fasta; limit = files.limit } };
-
-    ghost invariant = { λ files. All (IsOnGenome files.genome) files.first.records };
-}
-
-impl<'t, A: Allocator + Copy> TextFiles<'t, A> {
-    /// The files on this genome, or the fault of the first damaged one, in the order first file, second file, FASTA file.
-    fn on(
-        genome: Genome<A>,
-        limit: u32,
-        first: HeldBed<'t, A>,
-        second: Option<HeldBed<'t, A>>,
-        fasta: Option<HeldFasta<A>>,
-    ) -> Result<TextFiles<'t, A>, CliFault>
-        requires { FitsOn genome first }
-        ensures { (width : ℕ) (sizes text : List ℕ) (other bases : Option (List ℕ)) → genome_of sizes ≡ Ok genome → IsHeld genome width limit text first.entry → IsIfNamed (IsHeld genome width limit) other second.entry
-            → IsIfNamed (IsEnoughOf (λ wanted. IsEnough wanted first.entry) genome) bases fasta → ReportsWanted result (parsed width sizes text other bases limit) }
-    {
-        let first = in_slot(Slot::First, first)?;
-        let second = in_slot(Slot::Other, second.transpose())?;
-        let fasta = in_slot(Slot::Bases, fasta.transpose())?;
-        Ok(TextFiles {
-            genome,
-            first,
-            second,
-            fasta,
-            limit,
-        })
-    }
-
+impl<A: Allocator + Copy> SoundFiles<Places<A>, A> {
     /// The view of a plan, beside these files and at the width of the first one's records.
     ///
     /// # Errors
@@ -108,7 +55,7 @@ impl<'t, A: Allocator + Copy> TextFiles<'t, A> {
     /// `Memory`, and then nothing was printed. `Output`, and then a prefix of the text was.
     fn print<S: Sink>(self, alloc: A, view: View, sink: &mut S) -> Result<(), CliFault>
         requires { (arguments : List (List ℕ)) × AskForColumns arguments × (view_beside self arguments ≡ Ok view) }
-        ensures { Prints (S.state sink.old) (S.state sink.new) result (text_beside self.entry view) }
+        ensures { Prints (S.state sink.old) (S.state sink.new) result (text_beside self view) }
     {
         let mut buffer = Buffered::new(sink);
         self.put(alloc, view, &mut buffer)?;
@@ -123,7 +70,7 @@ impl<'t, A: Allocator + Copy> TextFiles<'t, A> {
     /// `Memory`, and then nothing was put. `Output`, and then a prefix of the text was.
     fn put<S: Sink>(self, alloc: A, view: View, sink: &mut S) -> Result<(), CliFault>
         requires { (arguments : List (List ℕ)) × AskForColumns arguments × (view_beside self arguments ≡ Ok view) }
-        ensures text { Prints (S.state sink.old) (S.state sink.new) result (text_beside self.entry view) }
+        ensures text { Prints (S.state sink.old) (S.state sink.new) result (text_beside self view) }
         ensures alone { result ≡ Err CliFault.Memory → sink.new ≡ sink.old }
     {
         match view {
@@ -137,14 +84,11 @@ impl<'t, A: Allocator + Copy> TextFiles<'t, A> {
     /// Puts the text of a view of the first file, for its records in the order of a track.
     fn put_kept_view<S: Sink>(self, alloc: A, view: KeptView, sink: &mut S) -> Result<(), CliFault>
         requires { NeedsColumns view }
-        ensures text { Prints (S.state sink.old) (S.state sink.new) result (kept_text None view self.entry.genome (ordered self.entry.first.records)) }
+        ensures text { Prints (S.state sink.old) (S.state sink.new) result (kept_text None view self.genome (ordered self.first.records)) }
         ensures alone { result ≡ Err CliFault.Memory → sink.new ≡ sink.old }
     {
-        let TextFiles {
-            genome,
-            first: mut file,
-            ..
-        } = self;
+        let SoundFiles { genome, first, .. } = self;
+        let mut file = first.into_places();
         file.sort(alloc)?;
         sweep(alloc, view, file.records(), &genome, sink)
     }
@@ -152,18 +96,19 @@ impl<'t, A: Allocator + Copy> TextFiles<'t, A> {
     /// Puts these rows of both files, for their records in the order of a track. There is a second file.
     fn put_pairs<S: Sink>(self, alloc: A, output: PairOutput, sink: &mut S) -> Result<(), CliFault>
         requires { IsSome self.second }
-        ensures text { Prints (S.state sink.old) (S.state sink.new) result (pair_text output self.entry.genome (ordered self.entry.first.records) (ordered_other self.entry.second)) }
+        ensures text { Prints (S.state sink.old) (S.state sink.new) result (pair_text output self.genome (ordered self.first.records) (ordered_other self.second)) }
         ensures alone { result ≡ Err CliFault.Memory → sink.new ≡ sink.old }
     {
-        let TextFiles {
+        let SoundFiles {
             genome,
-            mut first,
+            first,
             second,
             ..
         } = self;
-        let Some(mut second) = second else {
+        let Some(second) = second else {
             return Err(CliFault::from(Fault::NoSecond));
         };
+        let (mut first, mut second) = (first.into_places(), second.into_places());
         first.sort(alloc)?;
         first.lemma_of_bases();
         sort_beside(alloc, output, &mut second)?;
@@ -174,18 +119,19 @@ impl<'t, A: Allocator + Copy> TextFiles<'t, A> {
     /// Puts the bases of the records of the first file, in the order of a track. There is a FASTA file.
     fn put_fasta<S: Sink>(self, alloc: A, shown: FastaOutput, sink: &mut S) -> Result<(), CliFault>
         requires { IsSome self.bases }
-        ensures text { Prints (S.state sink.old) (S.state sink.new) result (fasta_text shown self.entry.genome (unwrap_or self.entry.bases []) (ordered self.entry.first.records)) }
+        ensures text { Prints (S.state sink.old) (S.state sink.new) result (fasta_text shown self.genome (unwrap_or self.bases []) (ordered self.first.records)) }
         ensures alone { result ≡ Err CliFault.Memory → sink.new ≡ sink.old }
     {
-        let TextFiles {
+        let SoundFiles {
             genome,
-            first: mut records,
+            first,
             fasta,
             ..
         } = self;
         let Some(fasta) = fasta else {
             return Err(CliFault::from(Fault::NoFasta));
         };
+        let mut records = first.into_places();
         records.sort(alloc)?;
         put_each(shown, &records.records(), &fasta, &genome, sink)?;
         Ok(())
@@ -193,14 +139,11 @@ impl<'t, A: Allocator + Copy> TextFiles<'t, A> {
 
     /// Puts the records of the first file, in the order of a track.
     fn put_records<S: Sink>(self, alloc: A, sink: &mut S) -> Result<(), CliFault>
-        ensures text { Prints (S.state sink.old) (S.state sink.new) result (records_text self.entry.genome (ordered self.entry.first.records)) }
+        ensures text { Prints (S.state sink.old) (S.state sink.new) result (records_text self.genome (ordered self.first.records)) }
         ensures alone { result ≡ Err CliFault.Memory → sink.new ≡ sink.old }
     {
-        let TextFiles {
-            genome,
-            first: mut lines,
-            ..
-        } = self;
+        let SoundFiles { genome, first, .. } = self;
+        let mut lines = first.into_places();
         lines.sort(alloc)?;
         put_lines(&lines.records(), &genome, sink)?;
         Ok(())
@@ -214,7 +157,7 @@ impl<'t, A: Allocator + Copy> TextFiles<'t, A> {
 fn sweep<'t, A: Allocator + Copy, S: Sink>(
     alloc: A,
     view: KeptView,
-    records: TextRecords<'t>,
+    records: PlacedRecords<'t>,
     genome: &'t Genome<A>,
     sink: &mut S,
 ) -> Result<(), CliFault>
@@ -236,10 +179,10 @@ fn sweep<'t, A: Allocator + Copy, S: Sink>(
 
 /// Sorts the records of a second file in the order of a track, for one print of these rows. If the rows depend only on the
 /// positions that it covers, overlapping records are joined first, so that many records at one position cost little.
-fn sort_beside<'t, A: Allocator + Copy>(
+fn sort_beside<A: Allocator + Copy>(
     alloc: A,
     output: PairOutput,
-    file: &mut BedText<'t, A>,
+    file: &mut Places<A>,
 ) -> Result<(), AllocError>
     ensures text { OnOk result ((genome : Sequences) (first : List RecordValue) → HaveBases first → pair_text output genome first file.new.records ≡ pair_text output genome first (ordered file.old.records)) }
     ensures order { OnOk result (AreInOrder file.new.records) }
@@ -253,7 +196,7 @@ fn sort_beside<'t, A: Allocator + Copy>(
 }
 
 /// Joins the records of a sorted second file, for rows that depend only on the positions that it covers.
-fn join_sorted<'t, A: Allocator + Copy>(output: PairOutput, file: &mut BedText<'t, A>)
+fn join_sorted<A: Allocator + Copy>(output: PairOutput, file: &mut Places<A>)
     requires order { AreInOrder file.old.records }
     requires alone { DependsOnCoverAlone output }
     ensures text { (genome : Sequences) (first : List RecordValue) → HaveBases first → pair_text output genome first file.new.records ≡ pair_text output genome first file.old.records }
@@ -270,8 +213,8 @@ fn join_sorted<'t, A: Allocator + Copy>(output: PairOutput, file: &mut BedText<'
 fn sweep_pairs<'t, A: Allocator + Copy, S: Sink>(
     alloc: A,
     output: PairOutput,
-    first: &TextRecords<'t>,
-    second: &TextRecords<'t>,
+    first: &PlacedRecords<'t>,
+    second: &PlacedRecords<'t>,
     genome: &Genome<A>,
     sink: &mut S,
 ) -> Result<(), CliFault>
@@ -294,7 +237,7 @@ fn sweep_pairs<'t, A: Allocator + Copy, S: Sink>(
 /// Puts the row of each record: its bases. It takes no memory.
 fn put_each<A: Allocator + Copy, S: Sink>(
     shown: FastaOutput,
-    records: &TextRecords<'_>,
+    records: &PlacedRecords<'_>,
     fasta: &Fasta<A>,
     genome: &Genome<A>,
     sink: &mut S,
@@ -309,14 +252,14 @@ fn put_each<A: Allocator + Copy, S: Sink>(
 
 /// Puts the line of each record: all its columns. It takes no memory.
 fn put_lines<A: Allocator + Copy, S: Sink>(
-    records: &TextRecords<'_>,
+    records: &PlacedRecords<'_>,
     genome: &Genome<A>,
     sink: &mut S,
 ) -> Result<(), WriteFault>
     ensures { Puts (S.state sink.old) (S.state sink.new) result (records_text genome.now records.now) }
 {
     for record in records.again() {
-        put_line(sink, genome, &record.to_ref())?;
+        put_line(sink, genome, &record)?;
     }
     Ok(())
 }
@@ -325,11 +268,11 @@ fn put_lines<A: Allocator + Copy, S: Sink>(
 fn print_files<A: Allocator + Copy, S: Sink>(
     alloc: A,
     plan: &Plan<'_, A>,
-    files: TextFiles<'_, A>,
+    files: SoundFiles<Places<A>, A>,
     sink: &mut S,
 ) -> Result<(), CliFault>
     requires columns { AskForColumns plan.now.view }
-    ensures { (sizes text : List ℕ) (other bases : Option (List ℕ)) (limit : ℕ) → ReportsWanted (Ok files.entry) (parsed plan.now.width sizes text other bases limit)
+    ensures { (sizes text : List ℕ) (other bases : Option (List ℕ)) (limit : ℕ) → Reports (λ r. r) AreWanted (Ok files) (parsed plan.now.width sizes text other bases limit)
         → Shows (S.state sink.old) (S.state sink.new) result (shown plan.now sizes text other bases limit) }
 {
     let view = files.view(plan)?;
@@ -341,15 +284,15 @@ fn print_files<A: Allocator + Copy, S: Sink>(
 /// # Errors
 ///
 /// As of [`shot`].
-pub fn shot_of_held<'t, A: Allocator + Copy, S: Sink>(
+pub fn shot_of_held<A: Allocator + Copy, S: Sink>(
     alloc: A,
     plan: &Plan<'_, A>,
-    files: RunFiles<HeldBed<'t, A>, A>,
+    files: RunFiles<Places<A>, A>,
     sink: &mut S,
 ) -> Result<(), CliFault>
     requires columns { AskForColumns plan.now.view }
-    ensures { (sizes first : List ℕ) (second fasta_text : Option (List ℕ)) → files.entry.run_genome.width ≡ plan.now.width → AreOf IsHeld IsEnough sizes first second fasta_text files.entry
-        → Shows (S.state sink.old) (S.state sink.new) result (shown plan.now sizes first second fasta_text files.entry.run_genome.limit) }
+    ensures { (sizes first : List ℕ) (second fasta_text : Option (List ℕ)) → files.run_genome.width ≡ plan.now.width → AreOf (λ r. r) AreWanted sizes first second fasta_text files
+        → Shows (S.state sink.old) (S.state sink.new) result (shown plan.now sizes first second fasta_text files.run_genome.limit) }
 {
     let RunFiles {
         run_genome,
@@ -357,30 +300,13 @@ pub fn shot_of_held<'t, A: Allocator + Copy, S: Sink>(
         second,
         fasta,
     } = files;
-    let limit = run_genome.limit();
-    let genome = run_genome.into_genome()?;
-    let files = TextFiles::on(genome, limit, first, second, fasta)?;
+    let files = sound_files(run_genome, first, second, fasta)?;
     print_files(alloc, plan, files, sink)
-}
-
-/// The second file of a text, if there is one.
-fn parse_second<'t, A: Allocator + Copy>(
-    run_genome: &RunGenome<A>,
-    text: Option<&'t [u8]>,
-) -> Option<HeldBed<'t, A>>
-    requires { IfSome (option_copied text) (λ bytes. length bytes < 2 ^ 32) }
-    ensures says { IsIfNamed (IsHeld run_genome.now.genome run_genome.now.width run_genome.now.limit) (option_copied text.entry) result }
-    ensures is_on { IfSome result (FitsOn run_genome.now.genome) }
-{
-    match text {
-        Some(text) => Some(run_genome.parse_text(text)),
-        None => None,
-    }
 }
 
 /// Prints what the plan's subcommand shows of the files, given their bytes: all of it, and nothing else.
 ///
-/// Each BED file has fewer than 2^32 bytes. `bases` are the bytes of the FASTA file, if the plan names one; they are taken.
+/// `bases` are the bytes of the FASTA file, if the plan names one; they are taken.
 /// All memory is allocated before the first byte is printed.
 ///
 /// # Errors
@@ -395,27 +321,15 @@ pub fn shot<A: Allocator + Copy, S: Sink>(
     limit: u32,
     sink: &mut S,
 ) -> Result<(), CliFault>
-    requires few { limit ≤ most_records }
-    requires first { length inputs.now.first.now < 2 ^ 32 }
-    requires other { IfSome (option_copied inputs.now.other) (λ text. length text < 2 ^ 32) }
     ensures { Shows (S.state sink.old) (S.state sink.new) result
         (shown plan.now inputs.now.sizes.now inputs.now.first.now (option_copied inputs.now.other) (option_map (λ text. text.items) bases) limit) }
 {
     if let Some(view) = IntervalsView::of_plan(plan) {
-        let files: RunFiles<HeldRecords<Interval, A>, A> = RunFiles::of_inputs(
+        let files: RunFiles<Batches<Interval, A>, A> = RunFiles::of_inputs(
             alloc, plan, inputs, bases, limit,
         );
         return files.print(view, sink);
     }
-    let run_genome = RunGenome::begin(alloc, plan, inputs.sizes, limit);
-    let first = run_genome.parse_text(inputs.first);
-    let second = parse_second(&run_genome, inputs.other);
-    let fasta = run_genome.parse_fasta(bases);
-    let files = RunFiles {
-        run_genome,
-        first,
-        second,
-        fasta,
-    };
+    let files: RunFiles<Places<A>, A> = RunFiles::of_inputs(alloc, plan, inputs, bases, limit);
     shot_of_held(alloc, plan, files, sink)
 }

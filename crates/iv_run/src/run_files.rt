@@ -5,22 +5,20 @@ ghost use Rattle.iv_lines.specs.declared.fault.LoadFault.{LoadFault};
 ghost use Rattle.iv_lines.specs.Widths.{IsWidth};
 ghost use Rattle.iv_run.specs.Files.{ReadsWhole, StopsReading};
 ghost use Rattle.iv_run.specs.Loading.{damage_of, parsed};
-ghost use Rattle.iv_run.specs.RunFiles.{AreAllWanted, AreOf, IsEnoughOf, IsFasta, IsIfNamed, IsOn, IsParsed, IsGenomeOf};
-ghost use Rattle.iv_run.specs.Inside.RunFiles.{ReportsProjected};
-ghost use Rattle.iv_run.specs.Inside.Held.{FitsOn, IsHeld};
+ghost use Rattle.iv_run.specs.RunFiles.{AreOf, IsEnoughBeside, IsEnoughOf, IsFasta, IsIfNamed, IsOn, IsParsed, IsGenomeOf};
+ghost use Rattle.iv_run.specs.Inside.RunFiles.{Reports};
 
 use crate::fault::{CliFault, FileFault};
-use crate::held_bed::HeldBed;
 use crate::held_fasta::{HeldFasta, read_fasta};
-use crate::input_files::{HeldRecords, HoldsFile, ParsedFile, parse_bed, read_held};
+use crate::input_files::{
+    HeldRecords, HoldsFile, ParsedFile, finish, parse_bed, read_pieces, wanted_beside,
+};
 use iv_args::{Plan, Slot};
 use iv_bytes::Source;
 use iv_fasta::Fasta;
-use iv_lines::{Genome, LoadFault};
-use iv_locators::BedText;
-use iv_text::FromRecord;
+use iv_lines::{Genome, HoldsRecords, LoadFault};
+use iv_text::BedReader;
 use std::alloc::{Allocator, Global};
-use std::borrow::CowSlice;
 use std::marker::Model;
 
 /// The bytes of the files of a run, apart from the FASTA file.
@@ -95,26 +93,11 @@ impl<A: Allocator + Copy> RunGenome<A> {
     }
 
     /// A BED file, given all its bytes.
-    fn parse<K: FromRecord<A>>(&self, text: &[u8]) -> HeldRecords<K, A>
-        ensures says { IsParsed K.projected self.now.genome self.now.width self.now.limit text.now result }
-        ensures is_on { IsOn K.projected self.now.genome self.now.limit result }
+    fn parse<H: HoldsRecords<A>>(&self, text: &[u8]) -> HeldRecords<H, A>
+        ensures says { IsParsed H.projected self.now.genome self.now.width self.now.limit text.now result }
+        ensures is_on { IsOn H.projected self.now.genome self.now.limit result }
     {
         parse_bed(self.alloc, &self.genome, self.empty_width, self.limit, text)
-    }
-
-    /// A BED file for a view that needs the columns of records, given its text.
-    pub(crate) fn parse_text<'t>(&self, text: &'t [u8]) -> HeldBed<'t, A>
-        requires { length text.now < 2 ^ 32 }
-        ensures says { IsHeld self.now.genome self.now.width self.now.limit text.now result }
-        ensures is_on { FitsOn self.now.genome result }
-    {
-        BedText::parse(
-            self.alloc,
-            &self.genome,
-            self.empty_width,
-            self.limit,
-            CowSlice::Borrowed(text),
-        )
     }
 
     /// The FASTA file of these bytes, if there are any, or its first fault.
@@ -132,24 +115,19 @@ impl<A: Allocator + Copy> RunGenome<A> {
     /// # Errors
     ///
     /// A fault of the source, or an allocation failed. That the file is damaged is no error here, but a part of what is held.
-    pub fn read<H: HoldsFile<A>, R: Source>(
+    pub fn read<H: HoldsRecords<A>, R: Source>(
         &self,
         source: &mut R,
         most: u64,
-    ) -> Result<H, FileFault>
-        requires { most < H.Reading.bound }
-        ensures ok { IfOk result (λ held. (text : List ℕ) × ReadsWhole (R.state source.old) (R.state source.new) most text × H.is_of self.now.genome self.now.width self.now.limit text held) }
-        ensures is_on { IfOk result (H.is_on self.now.genome self.now.limit) }
+    ) -> Result<HeldRecords<H, A>, FileFault>
+        requires { most < 2 ^ 63 }
+        ensures ok { IfOk result (λ held. (text : List ℕ) × ReadsWhole (R.state source.old) (R.state source.new) most text × IsParsed H.projected self.now.genome self.now.width self.now.limit text held) }
+        ensures is_on { IfOk result (IsOn H.projected self.now.genome self.now.limit) }
         ensures err { IfErr result (λ fault. StopsReading (R.state source.old) (R.state source.new) most fault) }
     {
-        read_held(
-            self.alloc,
-            &self.genome,
-            self.empty_width,
-            self.limit,
-            source,
-            most,
-        )
+        let begun: Result<BedReader<H, A>, LoadFault> = Ok(BedReader::new(self.alloc));
+        let all = read_pieces(begun, &self.genome, self.limit, source, most)?;
+        Ok(finish(all, &self.genome, self.empty_width, self.limit))
     }
 
     /// The FASTA file beside this first file, read from a source to its end, at most `most` bytes. Of a sequence that the first file
@@ -160,23 +138,16 @@ impl<A: Allocator + Copy> RunGenome<A> {
     /// A fault of the source, or an allocation failed. That the file is damaged is no error here, but a part of what is held.
     pub fn read_fasta<H: HoldsFile<A>, R: Source>(
         &self,
-        first: &H,
+        first: &HeldRecords<H, A>,
         source: &mut R,
         most: u64,
     ) -> Result<HeldFasta<A>, FileFault>
         requires { most < 2 ^ 63 }
-        ensures ok { IfOk result (λ held. (text : List ℕ) × ReadsWhole (R.state source.old) (R.state source.new) most text × IsEnoughOf (λ wanted. H.is_enough wanted first.now) self.now.genome text held) }
+        ensures ok { IfOk result (λ held. (text : List ℕ) × ReadsWhole (R.state source.old) (R.state source.new) most text × IsEnoughOf (IsEnoughBeside H.is_enough first.now) self.now.genome text held) }
         ensures err { IfErr result (λ fault. StopsReading (R.state source.old) (R.state source.new) most fault) }
     {
-        let wanted = first.wanted(self.alloc)?;
+        let wanted = wanted_beside(self.alloc, first)?;
         read_fasta(self.alloc, &self.genome, wanted, source, most)
-    }
-
-    /// How many records each BED file may have.
-    pub(crate) fn limit(&self) -> u32
-        ensures { result ≡ self.now.limit }
-    {
-        self.limit
     }
 
     /// The genome, or the fault of its file.
@@ -195,40 +166,40 @@ impl<A: Allocator + Copy> RunGenome<A> {
 ///
 /// A file that can't be read is reported before a damaged one, so every file is read to its end first.
 #[derive(Drop)]
-pub struct RunFiles<H: HoldsFile<A>, A: Allocator + Copy = Global> {
+pub struct RunFiles<H: HoldsRecords<A>, A: Allocator + Copy = Global> {
     /// The genome file, and what the BED files on it may be.
     pub run_genome: RunGenome<A>,
     /// The first file.
-    pub first: H,
+    pub first: HeldRecords<H, A>,
     /// The second file, if the plan names one.
-    pub second: Option<H>,
+    pub second: Option<HeldRecords<H, A>>,
     /// The FASTA file, if the plan names one.
     pub fasta: Option<HeldFasta<A>>,
 }
 
-impl<H: HoldsFile<A>, A: Allocator + Copy> Model for RunFiles<H, A> {
+impl<H: HoldsRecords<A>, A: Allocator + Copy> Model for RunFiles<H, A> {
     ghost use Rattle.std.specs.Prelude.{IfSome};
-    ghost use Rattle.iv_run.specs.RunFiles.{FilesRead};
+    ghost use Rattle.iv_run.specs.RunFiles.{FilesRead, IsOn};
 
-    ghost Value = { FilesRead H };
+    ghost Value = { FilesRead };
 
     ghost view = { λ f. record { run_genome = f.run_genome; first = f.first; second = f.second; fasta = f.fasta } };
 
-    ghost invariant = { λ f. H.is_on f.run_genome.genome f.run_genome.limit f.first × IfSome f.second (H.is_on f.run_genome.genome f.run_genome.limit) };
+    ghost invariant = { λ f. IsOn H.projected f.run_genome.genome f.run_genome.limit f.first × IfSome f.second (IsOn H.projected f.run_genome.genome f.run_genome.limit) };
 }
 
 /// The files of a run that are sound, with what is held of each record.
 #[derive(Drop)]
-pub struct SoundFiles<K: FromRecord<A>, A: Allocator + Copy = Global> {
+pub struct SoundFiles<H: HoldsRecords<A>, A: Allocator + Copy = Global> {
     pub alloc: A,
     pub genome: Genome<A>,
-    pub first: ParsedFile<K, A>,
-    pub second: Option<ParsedFile<K, A>>,
+    pub first: ParsedFile<H, A>,
+    pub second: Option<ParsedFile<H, A>>,
     pub fasta: Option<Fasta<A>>,
     pub limit: u32,
 }
 
-impl<K: FromRecord<A>, A: Allocator + Copy> Model for SoundFiles<K, A> {
+impl<H: HoldsRecords<A>, A: Allocator + Copy> Model for SoundFiles<H, A> {
     ghost use Rattle.std.specs.Prelude.{IfSome};
     ghost use Rattle.iv_run.specs.Loading.{Parsed};
     ghost use Rattle.iv_run.specs.RunFiles.{AreProjected};
@@ -237,10 +208,10 @@ impl<K: FromRecord<A>, A: Allocator + Copy> Model for SoundFiles<K, A> {
 
     ghost view = { λ f. record { genome = f.genome; first = f.first; second = f.second; bases = f.fasta; limit = f.limit } };
 
-    ghost invariant = { λ f. AreProjected K.projected f.genome f.limit f.first × IfSome f.second (AreProjected K.projected f.genome f.limit) };
+    ghost invariant = { λ f. AreProjected H.projected f.genome f.limit f.first × IfSome f.second (AreProjected H.projected f.genome f.limit) };
 }
 
-impl<K: FromRecord<A>, A: Allocator + Copy> RunFiles<HeldRecords<K, A>, A> {
+impl<H: HoldsFile<A>, A: Allocator + Copy> RunFiles<H, A> {
     /// The files of a run, given their bytes.
     pub fn of_inputs(
         alloc: A,
@@ -249,7 +220,7 @@ impl<K: FromRecord<A>, A: Allocator + Copy> RunFiles<HeldRecords<K, A>, A> {
         fasta_text: Option<Vec<u8, A>>,
         limit: u32,
     ) -> Self
-        ensures says { AreOf (IsParsed K.projected) AreAllWanted inputs.now.sizes.now inputs.now.first.now (option_copied inputs.now.other) (option_map (λ text. text.items) fasta_text) result }
+        ensures says { AreOf H.projected H.is_enough inputs.now.sizes.now inputs.now.first.now (option_copied inputs.now.other) (option_map (λ text. text.items) fasta_text) result }
         ensures width { result.run_genome.width ≡ plan.now.width }
         ensures limit { result.run_genome.limit ≡ limit }
     {
@@ -270,16 +241,16 @@ impl<K: FromRecord<A>, A: Allocator + Copy> RunFiles<HeldRecords<K, A>, A> {
 }
 
 /// All files of a run, or the fault of the first damaged one, given what is held of each.
-pub fn sound_files<K: FromRecord<A>, A: Allocator + Copy>(
+pub fn sound_files<H: HoldsFile<A>, A: Allocator + Copy>(
     run_genome: RunGenome<A>,
-    first: HeldRecords<K, A>,
-    second: Option<HeldRecords<K, A>>,
+    first: HeldRecords<H, A>,
+    second: Option<HeldRecords<H, A>>,
     fasta: Option<HeldFasta<A>>,
-) -> Result<SoundFiles<K, A>, CliFault>
-    requires first { IsOn K.projected run_genome.genome run_genome.limit first }
-    requires second { IfSome second (IsOn K.projected run_genome.genome run_genome.limit) }
-    ensures says { (sizes text : List ℕ) (other bases : Option (List ℕ)) → AreOf (IsParsed K.projected) AreAllWanted sizes text other bases (record { run_genome = run_genome; first = first; second = second; fasta = fasta })
-        → ReportsProjected K.projected result (parsed run_genome.width sizes text other bases run_genome.limit) }
+) -> Result<SoundFiles<H, A>, CliFault>
+    requires first { IsOn H.projected run_genome.genome run_genome.limit first }
+    requires second { IfSome second (IsOn H.projected run_genome.genome run_genome.limit) }
+    ensures says { (sizes text : List ℕ) (other bases : Option (List ℕ)) → AreOf H.projected H.is_enough sizes text other bases (record { run_genome = run_genome; first = first; second = second; fasta = fasta })
+        → Reports H.projected H.is_enough result (parsed run_genome.width sizes text other bases run_genome.limit) }
     ensures limit { IfOk result (λ files. files.limit ≡ run_genome.limit) }
 {
     let (alloc, limit) = (run_genome.alloc, run_genome.limit);

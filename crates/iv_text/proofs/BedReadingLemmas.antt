@@ -1,24 +1,23 @@
 -- The reading of a BED file in pieces.
-use Rattle.std.proofs.Common.{◌≡◌, ℕ, ◌+◌, ◌<◌, ◌≤◌, Bool, true, false, cond, nat_le, List, [], ◌∷◌, ◌++◌, Option, Some, None, Result, Ok, Err, length, map, take, drop, ◌%◌, ◌^◌, refl, sym, ap, subst, ◌∙◌, arith, append_assoc, append-nil, take-append-drop, unwrap_or}
+use Rattle.std.proofs.Common.{◌≡◌, ℕ, ◌+◌, ◌<◌, ◌≤◌, Bool, true, false, cond, nat_le, List, [], ◌∷◌, ◌++◌, Option, Some, None, Result, Ok, Err, length, map, take, drop, refl, sym, ap, subst, ◌∙◌, arith, append_assoc, append-nil, take-append-drop, unwrap_or}
 use Rattle.std.specs.Prelude.{All, MatchOption}
 use Rattle.std.proofs.lemmas.Bool.{cond-true, le-leb}
 use Rattle.std.proofs.lemmas.Bool.Decides.{nat_tests}
-use Rattle.std.proofs.Math.Nat.{mod-add-mod, mod-eq_of_lt}
-use Rattle.std.proofs.lemmas.List.{length-map, map-append, drop-drop}
+use Rattle.std.proofs.lemmas.List.{length-map, map-append}
 use Rattle.std.proofs.lemmas.List.Elements.{All-nil, All-cons, All-append, All-head, All-tail}
 use Rattle.iv_text.specs.BedFile.{Bed, Draft, is_skipped_line, is_width, after_record, bed_of}
 use Rattle.iv_text.specs.Inside.BedFile.{width_at, with_row}
 use Rattle.iv_lines.specs.Fields.{columns}
 use Rattle.iv_lines.specs.Genome.{Sequences}
 use Rattle.iv_lines.specs.Lines.{lines}
-use Rattle.iv_lines.specs.Read.{read, Fits}
+use Rattle.iv_lines.specs.Read.{read, AreSoundColumns, Fits}
 use Rattle.iv_lines.specs.RecordValue.{RecordValue}
 use Rattle.iv_lines.specs.declared.fault.Fault.{Fault}
 use Rattle.iv_lines.specs.declared.fault.LoadCause.{LoadCause}
 use Rattle.iv_lines.specs.declared.fault.LoadCause.TheVariants as cause
 use Rattle.iv_lines.specs.declared.fault.LoadFault.{LoadFault}
 use Rattle.iv_text.specs.Inside.FastLine.{IsFastLine}
-use Rattle.iv_text.specs.BedReading.{LinesRead, known, projected_draft, after, IsProjected, AreSoundLines, Held, shown, byte_after, BeginsAfter, Shows, TakesLines, RefusesLines, Reading, begun, read_on, projected_or_fault, projected_bed_of, after_records, finished}
+use Rattle.iv_text.specs.BedReading.{LinesRead, known, projected_draft, after, IsProjected, AreSoundLines, Reading, begun, read_on, projected_or_fault, projected_bed_of, after_records, finished}
 use Rattle.iv_text.specs.Inside.BedReading.{Takes, Refuses, TakesLine, RefusesLine}
 use Rattle.iv_lines.specs.Inside.Pieces.{EndsAtFeed, IsEnded}
 use Rattle.iv_text.proofs.BedLemmas.{row-unread, row-columns, row-taken}
@@ -234,131 +233,84 @@ module _ (projected : RecordValue → RecordValue) (g : Sequences) (limit : ℕ)
       by None none = (low, high, subst (λ (records : List RecordValue). All (IsProjected projected g empty) records) (sym none) (All-nil (IsProjected projected g empty)))
       by (Some k) some = some
 
--- ---- lines, and what is held of them
-
-byte-here : (at : ℕ) → at < 2 ^ 32 → byte_after at 0 ≡ at
-byte-here at small = ap (λ (n : ℕ). n % 2 ^ 32) (omega arith) ∙ mod-eq_of_lt small
-
-byte-further : (at size skipped : ℕ) → byte_after (byte_after at size) skipped ≡ byte_after at (size + skipped)
-byte-further at size skipped = mod-add-mod (at + size) (2 ^ 32) skipped ∙ ap (λ (n : ℕ). n % 2 ^ 32) (omega arith)
-
--- one line further on
-pub begins-further : (old at next all left size rest : ℕ) → BeginsAfter at size next → ((s : ℕ) → byte_after at (left + s) ≡ byte_after old (all + s)) → left ≡ size + rest
-    → (s : ℕ) → byte_after next (rest + s) ≡ byte_after old (all + s)
-begins-further old at next all left size rest further before is s =
-    further (rest + s) ∙ ap (byte_after at) (omega (arith, is)) ∙ before s
-
--- a line was counted
-pub begins-next : (at now size next : ℕ) → now ≡ at → next ≡ byte_after now size → BeginsAfter at size next
-begins-next at now size next same is skipped =
-    ap (λ (n : ℕ). byte_after n skipped) (is ∙ ap (λ (n : ℕ). byte_after n size) same) ∙ byte-further at size skipped
+-- ---- lines, one after another
 
 known-at : (width : Option ℕ) (w : ℕ) (line : List ℕ) → width ≡ Some w → w ≡ unwrap_or width (length (columns line))
 known-at width w line is = sym (ap (λ (o : Option ℕ). unwrap_or o (length (columns line))) is)
 
-module _ {K : Type 0} (held_of : RecordValue → ℕ → K) (g : Sequences) (limit : ℕ) where
-  -- what is left of a text is shown as the text is
-  pub shows-left : (projected : RecordValue → RecordValue) (row_of : K → RecordValue) (at : ℕ) (text : List ℕ) (size : ℕ) → Shows held_of g projected row_of at text → Shows held_of g projected row_of (byte_after at size) (drop size text)
-  shows-left projected row_of at text size s = record {
-    again = s.again;
-    shows = λ skipped w line others r are reads.
-        ap (λ (n : ℕ). row_of (held_of r n)) (byte-further at size skipped)
-        ∙ s.shows (size + skipped) w line others r (sym (ap lines (drop-drop skipped size text)) ∙ are) reads;
-  }
+-- none of the columns beside the interval is refused at the record's own width
+pub columns-of : (g : Sequences) (w : ℕ) (r : RecordValue) → Fits g w r → AreSoundColumns r.width r.name r.score r.strand
+columns-of g w r fits = subst (λ (n : ℕ). AreSoundColumns n r.name r.score r.strand) (sym fits.width_is) fits.beside
 
-  -- a line without a record
-  pub held-unread : (h : Held K) (text line : List ℕ) (size : ℕ) → lines text ≡ line ∷ lines (drop size text) → is_skipped_line line ≡ true → TakesLine held_of g limit h h text size
-  held-unread h text line size are unread = λ projected row_of s.
-      (λ sound. sound, unread-taken projected g limit (shown row_of h) (lines text) (lines (drop size text)) line are unread)
+module _ (projected : RecordValue → RecordValue) (g : Sequences) (limit : ℕ) where
+  -- what is held before has as many columns as what is held of a record of that width
+  pub one-width : ((q r : RecordValue) → q.width ≡ r.width → (projected q).width ≡ (projected r).width) → (old : LinesRead) (line : List ℕ) (w : ℕ) (r : RecordValue) → AreSoundLines projected g limit old
+      → w ≡ unwrap_or old.width (length (columns line)) → Fits g w r → All (λ k. k.width ≡ (projected r).width) old.records
+  one-width alike old line w r sound wide fits = λ k d within.
+      let one = rows-before projected g limit old w (length (columns line)) sound wide k d within in
+      ap (λ (q : RecordValue). q.width) one.2 ∙ alike one.0 r (one.1.width_is ∙ sym fits.width_is)
 
   -- a record was taken
-  pub held-taken : (old new : Held K) (text line : List ℕ) (size w : ℕ) (r : RecordValue) (one : K)
-      → lines text ≡ line ∷ lines (drop size text) → is_skipped_line line ≡ false → w ≡ unwrap_or old.width (length (columns line)) → 3 ≤ w → w ≤ 6
-      → read g w line ≡ Ok r → Fits g w r → one ≡ held_of r old.at → old.at < 2 ^ 32 → length old.held < limit
-      → new ≡ record old { width = Some w; held = old.held ++ one ∷ [] } → TakesLine held_of g limit old new text size
-  held-taken old new text line size w r one are unread wide low high says fits one_is small free new_is = λ projected row_of s.
-      let left = lines (drop size text) in
-      let is : row_of one ≡ projected r = ap row_of one_is ∙ ap (λ (n : ℕ). row_of (held_of r n)) (sym (byte-here old.at small)) ∙ s.shows 0 w line left r are says in
-      let records : map row_of new.held ≡ map row_of old.held ++ row_of one ∷ [] = ap (λ (h : Held K). map row_of h.held) new_is ∙ map-append row_of old.held (one ∷ []) in
-      let width : new.width ≡ Some w = ap (λ (h : Held K). h.width) new_is in
-      let few : length (map row_of old.held) < limit = omega (arith, free, length-map old.held row_of) in (
-        λ sound. record-sound projected g limit (shown row_of old) (shown row_of new) line w r (row_of one) sound wide low high fits is few records width,
-        record-taken projected g limit s.again (shown row_of old) (shown row_of new) (lines text) left line w r (row_of one) are unread wide low high says is few records width,
-      )
+  module _ (old new : LinesRead) (text line : List ℕ) (size w : ℕ) (r : RecordValue) (wide : w ≡ unwrap_or old.width (length (columns line))) (low : 3 ≤ w) (high : w ≤ 6)
+      (fits : Fits g w r) (free : length old.records < limit) (new_is : new ≡ record old { width = Some r.width; records = old.records ++ projected r ∷ [] }) where
+    width : new.width ≡ Some w
+    width = ap (λ (l : LinesRead). l.width) new_is ∙ ap Some fits.width_is
 
-  -- a record is one too many
-  pub held-full : (old : Held K) (text line : List ℕ) (size w : ℕ) (r : RecordValue) → lines text ≡ line ∷ lines (drop size text) → is_skipped_line line ≡ false
-      → w ≡ unwrap_or old.width (length (columns line)) → 3 ≤ w → w ≤ 6 → read g w line ≡ Ok r → limit ≤ length old.held → RefusesLine held_of g limit old text cause.TooMany
-  held-full old text line size w r are unread wide low high says full = λ projected row_of.
-      full-refused projected g limit (shown row_of old) (lines text) (lines (drop size text)) line w r are unread wide low high says (omega (arith, full, length-map old.held row_of))
+    records : new.records ≡ old.records ++ projected r ∷ []
+    records = ap (λ (l : LinesRead). l.records) new_is
+
+    pub one-sound : AreSoundLines projected g limit old → AreSoundLines projected g limit new
+    one-sound sound = record-sound projected g limit old new line w r (projected r) sound wide low high fits refl free records width
+
+    pub one-taken : ((q : RecordValue) → projected (projected q) ≡ projected q) → lines text ≡ line ∷ lines (drop size text) → is_skipped_line line ≡ false → read g w line ≡ Ok r
+        → TakesLine projected g limit old new text size
+    one-taken again are unread says = record-taken projected g limit again old new (lines text) (lines (drop size text)) line w r (projected r) are unread wide low high says refl free records width
 
   -- the record of a line that is read in one pass was taken, and the width is as it was
-  pub fast-taken : (old new : Held K) (w : ℕ) (text : List ℕ) (r : RecordValue) (size : ℕ) (one : K) → IsFastLine g w text r size → (3 ≤ w) × (w ≤ 6) → old.width ≡ Some w
-      → one ≡ held_of r old.at → old.at < 2 ^ 32 → length old.held < limit → new ≡ record old { width = Some w; held = old.held ++ one ∷ [] }
-      → (0 < size) × (size ≤ length text) × TakesLine held_of g limit old new text size
-  fast-taken old new w text r size one fast wide is one_is small free new_is = (
-    fast.some,
-    fast.within,
-    held-taken old new text fast.line size w r one fast.lines_are fast.unread (known-at old.width w fast.line is) wide.0 wide.1 fast.reads fast.fits one_is small free new_is,
-  )
+  module _ (old : LinesRead) (w : ℕ) (text : List ℕ) (r : RecordValue) (size : ℕ) (fast : IsFastLine g w text r size) (wide : (3 ≤ w) × (w ≤ 6)) (is : old.width ≡ Some w) where
+    pub fast-width : ((q p : RecordValue) → q.width ≡ p.width → (projected q).width ≡ (projected p).width) → AreSoundLines projected g limit old → All (λ k. k.width ≡ (projected r).width) old.records
+    fast-width alike sound = one-width alike old fast.line w r sound (known-at old.width w fast.line is) fast.fits
 
-  -- it is one too many
-  pub fast-full : (old : Held K) (w : ℕ) (text : List ℕ) (r : RecordValue) (size : ℕ) → IsFastLine g w text r size → (3 ≤ w) × (w ≤ 6) → old.width ≡ Some w → limit ≤ length old.held
-      → RefusesLine held_of g limit old text cause.TooMany
-  fast-full old w text r size fast wide is full =
-      held-full old text fast.line size w r fast.lines_are fast.unread (known-at old.width w fast.line is) wide.0 wide.1 fast.reads full
+    pub fast-columns : AreSoundColumns r.width r.name r.score r.strand
+    fast-columns = columns-of g w r fast.fits
 
-  -- ---- line after line
+    pub fast-sound : (new : LinesRead) → length old.records < limit → new ≡ record old { width = Some r.width; records = old.records ++ projected r ∷ [] } → AreSoundLines projected g limit old
+        → AreSoundLines projected g limit new
+    fast-sound new free new_is = one-sound old new text fast.line size w r (known-at old.width w fast.line is) wide.0 wide.1 fast.fits free new_is
+
+    pub fast-taken : ((q : RecordValue) → projected (projected q) ≡ projected q) → (new : LinesRead) → length old.records < limit
+        → new ≡ record old { width = Some r.width; records = old.records ++ projected r ∷ [] } → (0 < size) × (size ≤ length text) × TakesLine projected g limit old new text size
+    fast-taken again new free new_is = (
+      fast.some,
+      fast.within,
+      one-taken old new text fast.line size w r (known-at old.width w fast.line is) wide.0 wide.1 fast.fits free new_is again fast.lines_are fast.unread fast.reads,
+    )
+
+    -- it is one too many
+    pub fast-full : limit ≤ length old.records → RefusesLine projected g limit old text cause.TooMany
+    fast-full full =
+        full-refused projected g limit old (lines text) (lines (drop size text)) fast.line w r fast.lines_are fast.unread (known-at old.width w fast.line is) wide.0 wide.1 fast.reads full
 
   -- lines of a text were read, and that is left of it
-  abbrev pub TakesUpTo : Held K → Held K → List ℕ → List ℕ → Type 0
-  TakesUpTo old now text left = (projected : RecordValue → RecordValue) (row_of : K → RecordValue) → Shows held_of g projected row_of old.at text
-      → Shows held_of g projected row_of now.at left
-      × (AreSoundLines projected g limit (shown row_of old) → AreSoundLines projected g limit (shown row_of now))
-      × ((rest : List (List ℕ)) → after projected g limit (shown row_of old) (lines text ++ rest) ≡ after projected g limit (shown row_of now) (lines left ++ rest))
+  abbrev pub TakesUpTo : LinesRead → LinesRead → List ℕ → List ℕ → Type 0
+  TakesUpTo old now text left = (rest : List (List ℕ)) → after projected g limit old (lines text ++ rest) ≡ after projected g limit now (lines left ++ rest)
 
-  pub takes-more : (old now read next : Held K) (text left rest : List ℕ) (size : ℕ) → TakesUpTo old now text left → TakesLine held_of g limit now read left size
-      → read.number ≡ now.number → read.at ≡ now.at → next ≡ record read { number = read.number + 1; at = byte_after read.at size } → rest ≡ drop size left
-      → TakesUpTo old next text rest
-  takes-more old now read next text left rest size before takes number at next_is rest_is = λ projected row_of s.
-      let so_far = before projected row_of s in
-      let one = takes projected row_of so_far.0 in
-      let at_is : next.at ≡ byte_after now.at size = ap (λ (h : Held K). h.at) next_is ∙ ap (λ (n : ℕ). byte_after n size) at in
-      let there : Shows held_of g projected row_of next.at (drop size left) =
-      subst (λ (n : ℕ). Shows held_of g projected row_of n (drop size left)) (sym at_is) (shows-left projected row_of now.at left size so_far.0) in (
-        subst (λ (t : List ℕ). Shows held_of g projected row_of next.at t) (sym rest_is) there,
-        λ sound.
-            let more : AreSoundLines projected g limit (shown row_of read) = one.0 (so_far.1 sound) in
-            subst (λ (h : Held K). AreSoundLines projected g limit (shown row_of h)) (sym next_is) (record { fit = more.fit; few = more.few }),
-        λ others.
-            so_far.2 others
-            ∙ one.1 now.number others
-            ∙ ap (λ (n : ℕ). projected_draft projected (after_records g limit (n + 1) (known (shown row_of read)) (lines (drop size left) ++ others))) (sym number)
-            ∙ ap (λ (h : Held K). after projected g limit (shown row_of h) (lines (drop size left) ++ others)) (sym next_is)
-            ∙ ap (λ (t : List ℕ). after projected g limit (shown row_of next) (lines t ++ others)) (sym rest_is),
-      )
-
-  -- ---- items shown as the records that they represent
-
-  module _ (projected : RecordValue → RecordValue) (as_record : K → RecordValue) (again : (r : RecordValue) → projected (projected r) ≡ projected r) (stands : (r : RecordValue) (at : ℕ) → as_record (held_of r at) ≡ projected r) where
-    pub stands-so : (at : ℕ) (text : List ℕ) → Shows held_of g projected as_record at text
-    stands-so at text = record { again = again; shows = λ skipped w line others r are reads. stands r (byte_after at skipped) }
-
-    pub taken-so : (old new : Held K) (text : List ℕ) → TakesLines held_of g limit old new text
-        → (rest : List (List ℕ)) → after projected g limit (shown as_record old) (lines text ++ rest) ≡ after projected g limit (shown as_record new) rest
-    taken-so old new text takes = (takes projected as_record (stands-so old.at text)).1
-
-    pub refused-so : (old : Held K) (text : List ℕ) (f : LoadFault) → RefusesLines held_of g limit old text f
-        → (rest : List (List ℕ)) → after projected g limit (shown as_record old) (lines text ++ rest) ≡ Err f
-    refused-so old text f refuses = refuses projected as_record (stands-so old.at text)
+  pub takes-more : (old now read next : LinesRead) (text left rest : List ℕ) (size : ℕ) → TakesUpTo old now text left → TakesLine projected g limit now read left size
+      → read.number ≡ now.number → next ≡ record read { number = read.number + 1 } → rest ≡ drop size left → TakesUpTo old next text rest
+  takes-more old now read next text left rest size before takes number next_is rest_is = λ others.
+      before others
+      ∙ takes now.number others
+      ∙ ap (λ (n : ℕ). projected_draft projected (after_records g limit (n + 1) (known read) (lines (drop size left) ++ others))) (sym number)
+      ∙ ap (λ (l : LinesRead). after projected g limit l (lines (drop size left) ++ others)) (sym next_is)
+      ∙ ap (λ (t : List ℕ). after projected g limit next (lines t ++ others)) (sym rest_is)
 
 -- if all columns are held, records are as they were
-pub rows-all : (records : List RecordValue) → map (λ r. r) records ≡ records
+rows-all : (records : List RecordValue) → map (λ r. r) records ≡ records
 rows-all [] = refl
 rows-all (r ∷ records) = ap (λ (rest : List RecordValue). r ∷ rest) (rows-all records)
 
 -- and so is a file
-pub kept-all : (file : Result Bed LoadFault) → projected_or_fault (λ r. r) file ≡ file
+kept-all : (file : Result Bed LoadFault) → projected_or_fault (λ r. r) file ≡ file
 kept-all (Ok b) = ap (λ (records : List RecordValue). Ok (record { width = b.width; records = records })) (rows-all b.records)
 kept-all (Err f) = refl
 

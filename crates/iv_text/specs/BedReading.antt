@@ -1,11 +1,11 @@
 -- A BED file that is read in pieces: what is held of its records, and what is known of it after some of its bytes.
-use Rattle.std.specs.Prelude.{◌≡◌, ◌≤◌, ℕ, ◌+◌, ◌%◌, ◌^◌, ◌++◌, All, MatchOption, List, [], ◌∷◌, Option, None, Result, Ok, Err, length, map, drop}
+use Rattle.std.specs.Prelude.{◌≡◌, ◌≤◌, ℕ, ◌+◌, ◌++◌, All, MatchOption, List, [], Option, None, Result, Ok, Err, length, map}
 use Rattle.std.specs.Option.{unwrap_or}
 use Rattle.iv_text.specs.BedFile.{Bed, Draft, after_record, bed_of}
 use Rattle.iv_lines.specs.Chains.{if_ok, after_all}
 use Rattle.iv_lines.specs.Genome.{Sequences}
 use Rattle.iv_lines.specs.Lines.{lines}
-use Rattle.iv_lines.specs.Read.{read, Fits}
+use Rattle.iv_lines.specs.Read.{Fits}
 use Rattle.iv_lines.specs.RecordValue.{RecordValue}
 use Rattle.iv_lines.specs.declared.fault.LoadFault.{LoadFault}
 
@@ -59,47 +59,17 @@ pub record AreSoundLines (projected : RecordValue → RecordValue) (g : Sequence
   pub fit : MatchOption l.width (l.records ≡ []) (λ w. (3 ≤ w) × (w ≤ 6) × All (IsProjected projected g w) l.records)
   pub few : length l.records ≤ limit
 
--- the byte at which a line begins, so many bytes after another, counted with 32 bits
-abbrev pub byte_after : ℕ → ℕ → ℕ
-byte_after at skipped = (at + skipped) % 2 ^ 32
-
--- the next line begins so many bytes after another: whatever is counted from it on is that much further on
-abbrev pub BeginsAfter : ℕ → ℕ → ℕ → Type 0
-BeginsAfter at size next = (skipped : ℕ) → byte_after next skipped ≡ byte_after at (size + skipped)
-
--- lines that were read: the number of the next one, the byte at which it begins, the width of the records, once there is one, and
--- what is held of each record
-pub record Held (K : Type 0) : Type 0 where
-  pub number : ℕ
-  pub at : ℕ
-  pub width : Option ℕ
-  pub held : List K
-
 -- lines of which none was read
-abbrev pub none_held : {K : Type 0} → Held K
-none_held = record { number = 1; at = 0; width = None; held = [] }
+abbrev pub none_read : LinesRead
+none_read = record { number = 1; width = None; records = [] }
 
--- the same lines, if this is the record that each item represents
-abbrev pub shown : {K : Type 0} → (K → RecordValue) → Held K → LinesRead
-shown row_of h = record { number = h.number; width = h.width; records = map row_of h.held }
+-- all lines of a text were read, whatever lines come after them
+abbrev pub TakesLines : (RecordValue → RecordValue) → Sequences → ℕ → LinesRead → LinesRead → List ℕ → Type 0
+TakesLines projected g limit old new text = (rest : List (List ℕ)) → after projected g limit old (lines text ++ rest) ≡ after projected g limit new rest
 
-module _ {K : Type 0} (held_of : RecordValue → ℕ → K) (g : Sequences) where
-  -- a way to show items as records: the item of a record in this text, whose first line begins at this byte, shows as its projection
-  pub record Shows (projected : RecordValue → RecordValue) (row_of : K → RecordValue) (at : ℕ) (text : List ℕ) : Type 0 where
-    pub again : (r : RecordValue) → projected (projected r) ≡ projected r
-    pub shows : (skipped w : ℕ) (line : List ℕ) (others : List (List ℕ)) (r : RecordValue) → lines (drop skipped text) ≡ line ∷ others → read g w line ≡ Ok r
-        → row_of (held_of r (byte_after at skipped)) ≡ projected r
-
-  -- all lines of a text were read, whatever lines come after them, and however items are shown
-  abbrev pub TakesLines : ℕ → Held K → Held K → List ℕ → Type 0
-  TakesLines limit old new text = (projected : RecordValue → RecordValue) (row_of : K → RecordValue) → Shows projected row_of old.at text
-      → (AreSoundLines projected g limit (shown row_of old) → AreSoundLines projected g limit (shown row_of new))
-      × ((rest : List (List ℕ)) → after projected g limit (shown row_of old) (lines text ++ rest) ≡ after projected g limit (shown row_of new) rest)
-
-  -- the lines of a text have a fault, and this is the first, whatever comes after them
-  abbrev pub RefusesLines : ℕ → Held K → List ℕ → LoadFault → Type 0
-  RefusesLines limit old text f = (projected : RecordValue → RecordValue) (row_of : K → RecordValue) → Shows projected row_of old.at text
-      → (rest : List (List ℕ)) → after projected g limit (shown row_of old) (lines text ++ rest) ≡ Err f
+-- the lines of a text have a fault, and this is the first, whatever comes after them
+abbrev pub RefusesLines : (RecordValue → RecordValue) → Sequences → ℕ → LinesRead → List ℕ → LoadFault → Type 0
+RefusesLines projected g limit old text f = (rest : List (List ℕ)) → after projected g limit old (lines text ++ rest) ≡ Err f
 
 -- a file of which some bytes were read: its lines, and the bytes of a line that hasn't ended
 pub record Reading : Type 0 where
@@ -108,7 +78,7 @@ pub record Reading : Type 0 where
 
 -- a file of which no byte was read
 abbrev pub begun : Reading
-begun = record { read = record { number = 1; width = None; records = [] }; tail = [] }
+begun = record { read = none_read; tail = [] }
 
 -- what is known of the file once these remaining bytes are read, with its records projected, or its first fault
 abbrev pub read_on : (RecordValue → RecordValue) → Sequences → ℕ → Reading → List ℕ → Result Draft LoadFault

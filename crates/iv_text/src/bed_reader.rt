@@ -5,8 +5,8 @@ ghost use Rattle.iv_text.specs.BedReading.{AreSoundLines, IsProjected, begun, re
 ghost use Rattle.iv_lines.specs.Inside.Pieces.{IsEnded, EndsAtFeed};
 ghost use Rattle.iv_lines.specs.Widths.{IsWidth};
 
-use crate::bed_lines::{BedLines, FromRecord};
-use iv_lines::{Genome, LoadFault};
+use crate::bed_lines::BedLines;
+use iv_lines::{Genome, HoldsRecords, LoadFault};
 use std::alloc::Allocator;
 use std::marker::Model;
 
@@ -15,19 +15,18 @@ use std::marker::Model;
 /// A line may begin in one piece and end in another. The bytes of a line that hasn't ended are held until its end comes; of all
 /// other lines no text is held.
 #[derive(Drop)]
-pub struct BedReader<K: FromRecord<A>, A: Allocator + Copy> {
-    alloc: A,
-    read: BedLines<K, A>,
+pub struct BedReader<H: HoldsRecords<A>, A: Allocator + Copy> {
+    read: BedLines<H, A>,
     // The bytes after the last LF.
     tail: Vec<u8, A>,
 }
 
-impl<K: FromRecord<A>, A: Allocator + Copy> Model for BedReader<K, A> {
-    ghost use Rattle.iv_text.specs.BedReading.{Reading, shown};
+impl<H: HoldsRecords<A>, A: Allocator + Copy> Model for BedReader<H, A> {
+    ghost use Rattle.iv_text.specs.BedReading.{Reading};
 
     ghost Value = { Reading };
 
-    ghost view = { λ d. record { read = shown K.as_record d.read; tail = d.tail.items } };
+    ghost view = { λ d. record { read = d.read; tail = d.tail.items } };
 }
 
 /// How many bytes there are up to the last LF, with it: 0 without one.
@@ -67,13 +66,12 @@ fn keep<A: Allocator>(tail: &mut Vec<u8, A>, bytes: &[u8]) -> Result<(), LoadFau
     Ok(())
 }
 
-impl<K: FromRecord<A>, A: Allocator + Copy> BedReader<K, A> {
+impl<H: HoldsRecords<A>, A: Allocator + Copy> BedReader<H, A> {
     /// A file of which no byte was read.
     pub fn new(alloc: A) -> Self
         ensures { result ≡ begun }
     {
         BedReader {
-            alloc,
             read: BedLines::new(alloc),
             tail: Vec::new(alloc),
         }
@@ -97,12 +95,12 @@ impl<K: FromRecord<A>, A: Allocator + Copy> BedReader<K, A> {
         limit: u32,
         piece: &[u8],
     ) -> Result<(), LoadFault>
-        requires sound { AreSoundLines K.projected genome.now limit self.old.read }
+        requires sound { AreSoundLines H.projected genome.now limit self.old.read }
         requires few { size_of self.old + length piece.now < 2 ^ 64 }
-        ensures sound { OnOk result (AreSoundLines K.projected genome.now limit self.new.read) }
+        ensures sound { OnOk result (AreSoundLines H.projected genome.now limit self.new.read) }
         ensures few { OnOk result (size_of self.new ≤ size_of self.old + length piece.now) }
-        ensures ok { OnOk result ((more : List ℕ) → read_on K.projected genome.now limit self.old (piece.now ++ more) ≡ read_on K.projected genome.now limit self.new more) }
-        ensures err { IfErr result (λ f. (f ≡ record { line = 0; cause = cause.Memory }) ⊎ ((more : List ℕ) → read_on K.projected genome.now limit self.old (piece.now ++ more) ≡ Err f)) }
+        ensures ok { OnOk result ((more : List ℕ) → read_on H.projected genome.now limit self.old (piece.now ++ more) ≡ read_on H.projected genome.now limit self.new more) }
+        ensures err { IfErr result (λ f. (f ≡ record { line = 0; cause = cause.Memory }) ⊎ ((more : List ℕ) → read_on H.projected genome.now limit self.old (piece.now ++ more) ≡ Err f)) }
     {
         let end = last_end(piece);
         if end == 0 {
@@ -111,8 +109,7 @@ impl<K: FromRecord<A>, A: Allocator + Copy> BedReader<K, A> {
         }
         let (lines, rest) = piece.split_at(end);
         let taken = self.end_line(genome, limit, lines)?;
-        self.read
-            .take_lines(self.alloc, genome, limit, &lines[taken..])?;
+        self.read.take_lines(genome, limit, &lines[taken..])?;
         keep(&mut self.tail, rest)?;
         Ok(())
     }
@@ -120,24 +117,23 @@ impl<K: FromRecord<A>, A: Allocator + Copy> BedReader<K, A> {
     /// Takes the line that hasn't ended, if there is one, together with the first of more lines, which ends it. It answers how many
     /// bytes of these it took.
     fn end_line(&mut self, genome: &Genome<A>, limit: u32, lines: &[u8]) -> Result<usize, LoadFault>
-        requires sound { AreSoundLines K.projected genome.now limit self.old.read }
+        requires sound { AreSoundLines H.projected genome.now limit self.old.read }
         requires few { size_of self.old + length lines.now < 2 ^ 64 }
         requires ended { EndsAtFeed lines.now }
-        ensures sound { OnOk result (AreSoundLines K.projected genome.now limit self.new.read) }
+        ensures sound { OnOk result (AreSoundLines H.projected genome.now limit self.new.read) }
         ensures within { IfOk result (λ taken. taken ≤ length lines.now) }
         ensures few { IfOk result (λ taken. self.new.read.number ≤ size_of self.old + taken) }
         ensures tail { OnOk result (self.new.tail ≡ []) }
         ensures ended { IfOk result (λ taken. IsEnded (drop taken lines.now)) }
-        ensures ok { IfOk result (λ taken. (more : List ℕ) → read_on K.projected genome.now limit self.old (lines.now ++ more) ≡ read_on K.projected genome.now limit self.new (drop taken lines.now ++ more)) }
-        ensures err { IfErr result (λ f. (f ≡ record { line = 0; cause = cause.Memory }) ⊎ ((more : List ℕ) → read_on K.projected genome.now limit self.old (lines.now ++ more) ≡ Err f)) }
+        ensures ok { IfOk result (λ taken. (more : List ℕ) → read_on H.projected genome.now limit self.old (lines.now ++ more) ≡ read_on H.projected genome.now limit self.new (drop taken lines.now ++ more)) }
+        ensures err { IfErr result (λ f. (f ≡ record { line = 0; cause = cause.Memory }) ⊎ ((more : List ℕ) → read_on H.projected genome.now limit self.old (lines.now ++ more) ≡ Err f)) }
     {
         if self.tail.is_empty() {
             return Ok(0);
         }
         let size = first_end(lines);
         keep(&mut self.tail, &lines[..size])?;
-        self.read
-            .take_lines(self.alloc, genome, limit, self.tail.as_slice())?;
+        self.read.take_lines(genome, limit, self.tail.as_slice())?;
         self.tail.clear();
         Ok(size)
     }
@@ -153,22 +149,18 @@ impl<K: FromRecord<A>, A: Allocator + Copy> BedReader<K, A> {
         genome: &Genome<A>,
         empty_width: u8,
         limit: u32,
-    ) -> Result<(u8, K::Holder), LoadFault>
+    ) -> Result<(u8, H), LoadFault>
         requires width { IsWidth empty_width }
-        requires sound { AreSoundLines K.projected genome.now limit self.read }
+        requires sound { AreSoundLines H.projected genome.now limit self.read }
         requires few { size_of self < 2 ^ 64 }
-        ensures ok { IfOk result (λ file. finished empty_width (read_on K.projected genome.now limit self []) ≡ Ok (record { width = file.0; records = map K.as_record (K.Holder.items file.1) })) }
+        ensures ok { IfOk result (λ file. finished empty_width (read_on H.projected genome.now limit self []) ≡ Ok (record { width = file.0; records = H.records file.1 })) }
         ensures width { IfOk result (λ file. IsWidth file.0) }
-        ensures held { IfOk result (λ file. All (IsProjected K.projected genome.now file.0) (map K.as_record (K.Holder.items file.1))) }
-        ensures few { IfOk result (λ file. length (K.Holder.items file.1) ≤ limit) }
-        ensures err { IfErr result (λ f. (f ≡ record { line = 0; cause = cause.Memory }) ⊎ (read_on K.projected genome.now limit self [] ≡ Err f)) }
+        ensures held { IfOk result (λ file. All (IsProjected H.projected genome.now file.0) (H.records file.1)) }
+        ensures few { IfOk result (λ file. length (H.records file.1) ≤ limit) }
+        ensures err { IfErr result (λ f. (f ≡ record { line = 0; cause = cause.Memory }) ⊎ (read_on H.projected genome.now limit self [] ≡ Err f)) }
     {
-        let BedReader {
-            alloc,
-            mut read,
-            tail,
-        } = self;
-        read.take_lines(alloc, genome, limit, tail.as_slice())?;
+        let BedReader { mut read, tail } = self;
+        read.take_lines(genome, limit, tail.as_slice())?;
         let (width, held) = read.finish();
         Ok((width.unwrap_or(empty_width), held))
     }

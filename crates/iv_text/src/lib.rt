@@ -12,7 +12,7 @@ mod record_reader;
 
 pub use bed_batches::BedBatches;
 pub use bed_file::BedFile;
-pub use bed_lines::{BedLines, FromRecord};
+pub use bed_lines::BedLines;
 pub use bed_reader::BedReader;
 pub use bed_widths::{is_skipped_line, width_for};
 pub use iv_bytes::{

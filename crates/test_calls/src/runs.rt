@@ -11,7 +11,7 @@ use iv_lines::{Fault, LoadCause, LoadFault, RecordFault};
 use iv_run::{CliFault, Inputs, IntervalsView, shot};
 use iv_workspace::Session;
 use std::test::Fail;
-use test_faults::{are_short, copied};
+use test_faults::copied;
 
 /// The fault of a run of a plan, if it has one.
 fn fault_of(
@@ -21,9 +21,6 @@ fn fault_of(
     bases: Option<&[u8]>,
     sink: &mut MemSink,
 ) -> Result<Option<CliFault>, Fail> {
-    if !are_short(inputs.first, inputs.other) {
-        return Err(Fail::new("a long text"));
-    }
     let bases = copied(rt.alloc(), bases)?;
     Ok(shot(rt.alloc(), plan, inputs, bases, ROWS, sink).err())
 }

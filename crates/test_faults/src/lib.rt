@@ -12,7 +12,7 @@ pub use harness::{begun, put, refused, seen};
 use std::alloc::{AllocError, Allocator};
 use std::cell::Cell;
 pub use stream::{Bad, FAILURES, Manner, Stream};
-pub use texts::{are_short, copied};
+pub use texts::copied;
 pub use words::words_of;
 
 /// Passes every call on to the allocator inside it, but refuses one allocation, that of the given number.

@@ -11,14 +11,14 @@ use iv_workspace::Session;
 use std::alloc::{AllocError, Allocator};
 use std::io::BufWriter;
 use std::test::Fail;
-use test_faults::{Manner, Stream, are_short, copied, words_of};
+use test_faults::{Manner, Stream, copied, words_of};
 
 /// How a run is begun.
 #[derive(Clone, Copy, PartialEq, Eq)]
 pub(crate) enum Begun {
     /// `run_program`, with all that it calls: `Plan::read`, `read_all`, `RunGenome::read`, `RunGenome::read_fasta`, `sound_files`,
     /// `begin_session`, `RunFiles::print`, `shot_of_held`, `MergeSweep::new`, `DepthSweep::new`, `PairSweep::new`, `CountSweep::new`,
-    /// `BedText::parse`, `BedText::sort`, `BedText::ranks`, `BedReader::take_piece`, `BedReader::finish`, `FastaReader::take_piece`,
+    /// `Places::sort`, `Places::ranks`, `BedReader::take_piece`, `BedReader::finish`, `FastaReader::take_piece`,
     /// `FastaReader::finish`
     Program,
     /// `Plan::read` and `shot`
@@ -90,9 +90,6 @@ fn shoot<A: Allocator + Copy>(
     output: &mut Stream<'static>,
 ) -> Result<(), CliFault> {
     let inputs = inputs_of(run.files, plan);
-    if !are_short(inputs.first, inputs.other) {
-        return Err(CliFault::Output);
-    }
     let bases = copied(alloc, bytes_of(run.files, plan.file(Slot::Bases)))?;
     shot(
         alloc,

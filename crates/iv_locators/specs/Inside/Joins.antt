@@ -1,21 +1,21 @@
--- Locators that are joined one by one.
+-- Places that are joined one by one.
 use Rattle.std.specs.Prelude.{◌==◌, ◌&&◌, nat_le, max, Bool, cond, List, [], ◌∷◌}
-use Rattle.iv_locators.specs.declared.locator.Locator.{Locator}
+use Rattle.iv_locators.specs.declared.place.Place.{Place}
 
--- a locator is on the sequence of one that doesn't start past it, and starts at its stop or before
-abbrev pub touches : Locator → Locator → Bool
-touches last locator = (last.interval.seq == locator.interval.seq) && nat_le locator.interval.start last.interval.stop
+-- a place is on the sequence of one that doesn't start past it, and starts at its stop or before
+abbrev pub touches : Place → Place → Bool
+touches last place = (last.interval.seq == place.interval.seq) && nat_le place.interval.start last.interval.stop
 
--- the two as one locator, with the line of the first
-abbrev pub grown : Locator → Locator → Locator
-grown last locator = record last { interval = record last.interval { stop = max last.interval.stop locator.interval.stop } }
+-- the two as one place, with the rest of the first
+abbrev pub grown : Place → Place → Place
+grown last place = record last { interval = record last.interval { stop = max last.interval.stop place.interval.stop } }
 
--- the first of locators in order, and those after it, each joined to the one before it if they touch
-abbrev pub joined_from : Locator → List Locator → List Locator
+-- the first of places in order, and those after it, each joined to the one before it if they touch
+abbrev pub joined_from : Place → List Place → List Place
 joined_from last [] = last ∷ []
-joined_from last (locator ∷ locators) = cond (touches last locator) (joined_from (grown last locator) locators) (last ∷ joined_from locator locators)
+joined_from last (place ∷ places) = cond (touches last place) (joined_from (grown last place) places) (last ∷ joined_from place places)
 
--- locators in order, each joined to the one before it if they touch
-abbrev pub joined_locators : List Locator → List Locator
-joined_locators [] = []
-joined_locators (locator ∷ locators) = joined_from locator locators
+-- places in order, each joined to the one before it if they touch
+abbrev pub joined_places : List Place → List Place
+joined_places [] = []
+joined_places (place ∷ places) = joined_from place places

@@ -1,7 +1,7 @@
 -- What is known of the files of a plan, what their texts mean, and what a run of it does.
 use Rattle.std.specs.Prelude.{◌≡◌, ◌⊎◌, ℕ, Bool, true, false, List, [], Result, Ok, Err, MatchResult}
 use Rattle.iv_bytes.specs.Sinks.{SinkState, Takes, FailsIn, waiting}
-use Rattle.iv_lines.specs.Genome.{Sequences}
+use Rattle.iv_lines.specs.RecordValue.{RecordValue}
 use Rattle.iv_fasta.specs.FastaReading.{Wanted}
 use Rattle.iv_session.specs.Streams.{Streams}
 use Rattle.iv_session.specs.declared.script.RunFault.{RunFault}
@@ -21,12 +21,12 @@ use Rattle.iv_program.specs.Inside.Files.{StopsAt, names_of}
 use Rattle.iv_program.specs.Runs.{World, DoesWith, HasRead, HasNotRead}
 use Rattle.iv_program.specs.Texts.{Texts, AreTexts}
 
--- the files of a plan, once they are read, are those of these texts, if what is held of a BED file is so of its text, and if beside such
--- a first file it is enough to hold these sequences of the FASTA file
-pub record HasTexts {H : Type 0} (is_of : Sequences → ℕ → ℕ → List ℕ → H → Type 0) (is_enough : Wanted → H → Type 0) (plan : RunPlan) (texts : Texts) (files : FilesRead H) : Type 0 where
+-- the files of a plan, once they are read, are those of these texts, with the records of BED files projected, and with the bases of as
+-- many sequences as are enough beside the first file
+pub record HasTexts (projected : RecordValue → RecordValue) (is_enough : Wanted → List RecordValue → Type 0) (plan : RunPlan) (texts : Texts) (files : FilesRead) : Type 0 where
   pub width_is : files.run_genome.width ≡ plan.width
   pub limit_is : files.run_genome.limit ≡ plan.limit
-  pub are : AreOf is_of is_enough texts.sizes texts.first texts.other texts.bases files
+  pub are : AreOf projected is_enough texts.sizes texts.first texts.other texts.bases files
 
 -- the view of a plan was printed for its texts, or its first fault is reported
 abbrev pub PrintsView : RunPlan → Texts → SinkState → SinkState → ExitReason → Type 0

@@ -4,7 +4,7 @@ use Rattle.iv_lines.specs.Genome.{Sequences}
 use Rattle.iv_lines.specs.Lines.{lines}
 use Rattle.iv_lines.specs.RecordValue.{RecordValue}
 use Rattle.iv_lines.specs.declared.fault.LoadCause.{LoadCause}
-use Rattle.iv_text.specs.BedReading.{AreSoundLines, Held, LinesRead, Shows, known, projected_draft, shown, after_records}
+use Rattle.iv_text.specs.BedReading.{LinesRead, known, projected_draft, after_records}
 
 -- the first of these lines was read, and those others are left: whatever comes after them, and whatever the line's number is
 abbrev pub Takes : (RecordValue → RecordValue) → Sequences → ℕ → LinesRead → LinesRead → List (List ℕ) → List (List ℕ) → Type 0
@@ -15,13 +15,10 @@ Takes projected g limit old new all left =
 abbrev pub Refuses : (RecordValue → RecordValue) → Sequences → ℕ → LinesRead → List (List ℕ) → LoadCause → Type 0
 Refuses projected g limit old all c = (n : ℕ) (rest : List (List ℕ)) → projected_draft projected (after_records g limit n (known old) (all ++ rest)) ≡ Err (record { line = n; cause = c })
 
-module _ {K : Type 0} (held_of : RecordValue → ℕ → K) (g : Sequences) where
-  -- the first line of a text, which has so many bytes, was read, however items are shown
-  abbrev pub TakesLine : ℕ → Held K → Held K → List ℕ → ℕ → Type 0
-  TakesLine limit old new text size = (projected : RecordValue → RecordValue) (row_of : K → RecordValue) → Shows held_of g projected row_of old.at text
-      → (AreSoundLines projected g limit (shown row_of old) → AreSoundLines projected g limit (shown row_of new))
-      × Takes projected g limit (shown row_of old) (shown row_of new) (lines text) (lines (drop size text))
+-- the first line of a text, which has so many bytes, was read
+abbrev pub TakesLine : (RecordValue → RecordValue) → Sequences → ℕ → LinesRead → LinesRead → List ℕ → ℕ → Type 0
+TakesLine projected g limit old new text size = Takes projected g limit old new (lines text) (lines (drop size text))
 
-  -- the first line of a text is the first faulty one, and this is its cause
-  abbrev pub RefusesLine : ℕ → Held K → List ℕ → LoadCause → Type 0
-  RefusesLine limit old text c = (projected : RecordValue → RecordValue) (row_of : K → RecordValue) → Refuses projected g limit (shown row_of old) (lines text) c
+-- the first line of a text is the first faulty one, and this is its cause
+abbrev pub RefusesLine : (RecordValue → RecordValue) → Sequences → ℕ → LinesRead → List ℕ → LoadCause → Type 0
+RefusesLine projected g limit old text c = Refuses projected g limit old (lines text) c

@@ -1,12 +1,12 @@
 use Rattle.std.proofs.Common.{rules}
 use Rattle.iv_lines.specs.RecordValue.{record_cmp}
 use Rattle.std.specs.Ordering.{is_lt}
-use Rattle.iv_locators.specs.Inside.Locators.{record_at}
+use Rattle.iv_locators.specs.Inside.Places.{record_at}
 use Rattle.iv_locators.proofs.OrderLemmas.{in-order}
 use Rattle.iv_locators.proofs.order.are_in_order.Goals as goal
 
 pub returns : goal.returns
 returns c =
     let w = c.args.width in
-    let text = c.args.text.now in
-    in-order (record { interval = record { seq = 0; start = 0; stop = 0 }; line_start = 0 }) (λ x y. is_lt (record_cmp (record_at w text x) (record_at w text y))) c.args.locators.now c.is_sorted_by.result c.is_sorted_by.ensures.cases (λ a s f' k. search rules)
+    let rests = c.args.rests.now in
+    in-order (record { interval = record { seq = 0; start = 0; stop = 0 }; rest = 0 }) (λ x y. is_lt (record_cmp (record_at w rests x) (record_at w rests y))) c.args.places.now c.is_sorted_by.result c.is_sorted_by.ensures.cases (λ a s f' k. search rules)

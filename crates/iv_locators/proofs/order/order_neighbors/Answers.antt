@@ -12,6 +12,3 @@ loop-index-preserved g c =
 
 pub returns-then-not-move_forward-clause-permutation : goal.returns-then-not-move_forward-clause-permutation
 returns-then-not-move_forward-clause-permutation g c = IsPermutation-trans _ _ _ c.loop-index.invariant.permutation c.move_forward.ensures
-
-pub returns-then-not-move_forward-clause-len : goal.returns-then-not-move_forward-clause-len
-returns-then-not-move_forward-clause-len g c = length_permutation _ _ c.move_forward.ensures ∙ c.loop-index.invariant.len

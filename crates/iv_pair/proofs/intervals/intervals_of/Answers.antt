@@ -3,8 +3,8 @@ use Rattle.std.proofs.lemmas.List.Elements.{All-nil, All-append, All-cons}
 use Rattle.iv_text.specs.BedFile.{Bed}
 use Rattle.iv_lines.specs.RecordValue.{RecordValue}
 use Rattle.iv_lines.specs.Intervals.{bare}
-use Rattle.iv_locators.specs.Inside.Locators.{HasBase, locator_at, records_at}
-use Rattle.iv_locators.specs.declared.locator.Locator.{Locator}
+use Rattle.iv_locators.specs.Inside.Places.{HasBase, place_at, records_at}
+use Rattle.iv_locators.specs.declared.place.Place.{Place}
 use Rattle.iv_track.proofs.WalkLemmas.{filter-from_first}
 use Rattle.iv_pair.proofs.CopyLemmas.{copied-next}
 use Rattle.iv_pair.proofs.intervals.intervals_of.Goals as goal
@@ -12,22 +12,22 @@ use Rattle.iv_pair.proofs.intervals.intervals_of.Goals as goal
 pub loop-feature-init : goal.loop-feature-init
 loop-feature-init g c =
     let second = c.args.second.now.records in
-    let none : c.in_ok-locators.locators.items ≡ [] = c.in_ok-locators.ensures.items in
+    let none : c.in_ok-places.places.items ≡ [] = c.in_ok-places.ensures.items in
     let all : c.walk-records.result ≡ second = c.walk-records.ensures.records ∙ filter-from_first second in
     record {
       bases = subst (All HasBase) (sym none) (All-nil HasBase);
-      records = ap (λ (l : List Locator). records_at 3 [] l ++ map bare c.walk-records.result) none ∙ ap (λ (l : List RecordValue). map bare l) all;
+      records = ap (λ (l : List Place). records_at 3 [] l ++ map bare c.walk-records.result) none ∙ ap (λ (l : List RecordValue). map bare l) all;
     }
 
 pub loop-feature-preserved : goal.loop-feature-preserved
 loop-feature-preserved g c =
     let i = c.loop-feature.invariant in
-    let pushed : c.push.new.self.items ≡ c.loop-feature.locators.items ++ c.locator_of.result ∷ [] = c.in_ok-push.ensures.items in
-    let is : c.push.new.self.items ≡ c.loop-feature.locators.items ++ locator_at c.in-Some.feature 0 ∷ [] = pushed ∙ ap (λ (l : Locator). c.loop-feature.locators.items ++ l ∷ []) c.locator_of.ensures.is in
+    let pushed : c.push.new.self.items ≡ c.loop-feature.places.items ++ c.place_of.result ∷ [] = c.in_ok-push.ensures.items in
+    let is : c.push.new.self.items ≡ c.loop-feature.places.items ++ place_at c.in-Some.feature 0 ∷ [] = pushed ∙ ap (λ (l : Place). c.loop-feature.places.items ++ l ∷ []) c.place_of.ensures.is in
     record {
-      bases = subst (All HasBase) (sym pushed) (All-append HasBase c.loop-feature.locators.items (c.locator_of.result ∷ []) i.bases (All-cons HasBase c.locator_of.result [] c.locator_of.ensures.base (All-nil HasBase)));
-      records = ap (λ (l : List Locator). records_at 3 [] l ++ map bare c.next.new.self) is
-          ∙ copied-next c.loop-feature.locators.items c.in-Some.feature c.loop-feature.records c.next.new.self (map bare c.args.second.now.records) c.in-Some.ensures.feature i.records;
+      bases = subst (All HasBase) (sym pushed) (All-append HasBase c.loop-feature.places.items (c.place_of.result ∷ []) i.bases (All-cons HasBase c.place_of.result [] c.place_of.ensures.base (All-nil HasBase)));
+      records = ap (λ (l : List Place). records_at 3 [] l ++ map bare c.next.new.self) is
+          ∙ copied-next c.loop-feature.places.items c.in-Some.feature c.loop-feature.records c.next.new.self (map bare c.args.second.now.records) c.in-Some.ensures.feature i.records;
     }
 
 pub of_intervals-requires : goal.of_intervals-requires
@@ -36,7 +36,7 @@ of_intervals-requires g c = c.loop-feature.invariant.bases
 pub returns : goal.returns
 returns g c =
     let i = c.loop-feature.invariant in
-    let copied = records_at 3 [] c.loop-feature.locators.items in
+    let copied = records_at 3 [] c.loop-feature.places.items in
     ap (λ (b : Bed). b.records) c.of_intervals.ensures
     ∙ sym (append-nil copied)
     ∙ ap (λ (l : List RecordValue). copied ++ map bare l) (sym c.in_default.ensures.feature.0)

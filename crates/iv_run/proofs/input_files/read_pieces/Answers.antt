@@ -1,4 +1,4 @@
-use Rattle.std.proofs.Common.{◌≡◌, ◌+◌, ◌<◌, ◌≤◌, ◌++◌, ℕ, List, [], length, take, refl, ap, arith, length-append, length-take}
+use Rattle.std.proofs.Common.{◌≡◌, ◌+◌, ◌<◌, ◌≤◌, ◌^◌, ◌++◌, ℕ, List, [], length, take, refl, ap, arith, length-append, length-take}
 use Rattle.std.proofs.lemmas.Result.{err_from_is_err_and}
 use Rattle.iv_run.specs.declared.fault.FileFault.TheVariants.{Memory, TooLong}
 use Rattle.iv_run.proofs.ReadingLemmas.{HasGiven-begin, HasGiven-more, ReadsWhole-end, StopsReading-piece}
@@ -16,7 +16,7 @@ take-requires g c =
     let front = c.pieces.invariant.0 in
     let piece = take c.in_ok-n.n c.pull.new.into in
     let size : length piece ≡ c.in_ok-n.n = taken c.in_ok-n.n c.pull.new.into c.in_ok-n.ensures.some in
-    let few : length front + length piece < g.P.TakesPieces.bound = omega (arith, c.pieces.invariant.2, c.pieces.invariant.3, c.if-n-most.false, size, c.requires.most) in
+    let few : length front + length piece < 2 ^ 63 = omega (arith, c.pieces.invariant.2, c.pieces.invariant.3, c.if-n-most.false, size, c.requires.most) in
     (c.requires.begun.0, front, c.pieces.invariant.4 c.requires.begun.0 c.requires.begun.1, few)
 
 pub returns-in_err-reading-clause-err : goal.returns-in_err-reading-clause-err

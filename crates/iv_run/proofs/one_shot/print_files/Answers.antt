@@ -1,9 +1,15 @@
 use Rattle.std.proofs.Common.{sym}
-use Rattle.iv_run.proofs.WantedLemmas.{wanted-text}
+use Rattle.std.proofs.lemmas.Result.{err_from_is_err_and}
+use Rattle.iv_run.proofs.WantedLemmas.{wanted-fault, wanted-text}
 use Rattle.iv_run.proofs.one_shot.print_files.Goals as goal
 
 pub print-requires : goal.print-requires
 print-requires g c = (c.args.plan.now.view, c.requires.columns, sym c.in_ok-view.ensures)
+
+pub returns-in_err-view : goal.returns-in_err-view
+returns-in_err-view g c = λ sizes text other bases limit reports.
+    let p = err_from_is_err_and c.from_residual.result c.from_residual.ensures.1 in
+    rw (p.1, p.2) (wanted-fault _ c.args.files reports c.args.plan.now.view _ (sym c.in_err-view.ensures) _)
 
 pub returns : goal.returns
 returns g c = λ sizes text other bases limit reports.

@@ -6,12 +6,12 @@ pub loop-record-init : goal.loop-record-init
 loop-record-init g c = rw (c.into_iter-record-iterator.ensures.into_iter_gives ∙ c.again-record-items.ensures) (Underway-begin _ _)
 
 pub loop-record-preserved : goal.loop-record-preserved
-loop-record-preserved g c = Underway-more _ _ _ _ _ _ (rw c.in-Some.ensures.steps at c.loop-record.invariant) (rw c.to_ref.ensures at c.in_ok-put_line.ensures)
+loop-record-preserved g c = Underway-more _ _ _ _ _ _ (rw c.in-Some.ensures.steps at c.loop-record.invariant) c.in_ok-put_line.ensures
 
 pub returns-in_err-put_line : goal.returns-in_err-put_line
 returns-in_err-put_line g c =
     Puts-err _ _ c.from_residual.result _ c.from_residual.ensures.0
-    (Underway-fails _ _ _ _ _ _ (rw c.in-Some.ensures.steps at c.loop-record.invariant) (rw c.to_ref.ensures at c.in_err-put_line.ensures))
+    (Underway-fails _ _ _ _ _ _ (rw c.in-Some.ensures.steps at c.loop-record.invariant) c.in_err-put_line.ensures)
 
 pub returns : goal.returns
 returns g c = Underway-ends _ _ _ (rw c.in-None.ensures.steps.0 at c.loop-record.invariant)

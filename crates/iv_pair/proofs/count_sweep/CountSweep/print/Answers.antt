@@ -20,7 +20,7 @@ loop-feature-init g c =
     let given : c.into_iter-feature-iterator.result ≡ c.self.inside.first = c.into_iter-feature-iterator.ensures.into_iter_gives ∙ c.again-feature-items.ensures in
     record {
       ends_are = rw (c.as_slice-ends.ensures.value, ← second) c.self.invariant.ends_are;
-      starts_are = rw (← second) (AreStartsOf-rows _ _ c.locators-locators.ensures.spots c.locators-locators.ensures.some c.self.invariant.second_ordered);
+      starts_are = rw (← second) (AreStartsOf-rows _ _ c.places-places.ensures.spots c.places-places.ensures.some c.self.invariant.second_ordered);
       order = rw given c.self.invariant.first_ordered;
       begun = λ k d lt. omega arith;
       ended = λ k d lt. omega arith;
@@ -48,7 +48,7 @@ pass_starts-begun-requires-clause-from g c =
 pub count_starts-reached-requires-clause-from : goal.count_starts-reached-requires-clause-from
 count_starts-reached-requires-clause-from g c =
     let some = c.lemma_of_interval.ensures.some in
-    let more = places-more c.seq-seq.result c.start-start.result c.stop.result c.locators-locators.result.now (omega (arith, some, c.start-start.ensures, c.stop.ensures.value)) in
+    let more = places-more c.seq-seq.result c.start-start.result c.stop.result c.places-places.result.now (omega (arith, some, c.start-start.ensures, c.stop.ensures.value)) in
     omega (arith, c.pass_starts-begun.ensures.few, more)
 
 pub overflow_sub-reached : goal.overflow_sub-reached
@@ -56,7 +56,7 @@ overflow_sub-reached g c =
     let a = c.in-Some.feature in
     let all = c.args.self.now.second in
     let number : length (hits_of all a) + c.pass_ends-ended.result ≡ c.count_starts-reached.result =
-    hits-between a all c.as_slice-ends.result.now c.locators-locators.result.now c.seq-seq.result c.start-start.result c.stop.result c.pass_ends-ended.result c.count_starts-reached.result
+    hits-between a all c.as_slice-ends.result.now c.places-places.result.now c.seq-seq.result c.start-start.result c.stop.result c.pass_ends-ended.result c.count_starts-reached.result
     c.loop-feature.invariant.ends_are c.loop-feature.invariant.starts_are c.lemma_of_interval.ensures.some c.seq-seq.ensures c.start-start.ensures c.stop.ensures.value c.pass_ends-ended.ensures c.count_starts-reached.ensures in
     omega (arith, number)
 
@@ -67,20 +67,20 @@ loop-feature-preserved g c =
     let rest = c.next.new.self in
     let steps : c.loop-feature.feature-iterator ≡ a ∷ rest = c.in-Some.ensures.steps in
     let number : length (hits_of all a) + c.pass_ends-ended.result ≡ c.count_starts-reached.result =
-    hits-between a all c.as_slice-ends.result.now c.locators-locators.result.now c.seq-seq.result c.start-start.result c.stop.result c.pass_ends-ended.result c.count_starts-reached.result
+    hits-between a all c.as_slice-ends.result.now c.places-places.result.now c.seq-seq.result c.start-start.result c.stop.result c.pass_ends-ended.result c.count_starts-reached.result
     c.loop-feature.invariant.ends_are c.loop-feature.invariant.starts_are c.lemma_of_interval.ensures.some c.seq-seq.ensures c.start-start.ensures c.stop.ensures.value c.pass_ends-ended.ensures c.count_starts-reached.ensures in
     let i = c.loop-feature.invariant in
     let order : AreInOrder (a ∷ rest) = subst AreInOrder steps i.order in
-    let locators = c.locators-locators.result.now in
-    let many = count_by (place_before c.seq-seq.result c.start-start.result) locators in
+    let places = c.places-places.result.now in
+    let many = count_by (place_before c.seq-seq.result c.start-start.result) places in
     let begun : c.pass_starts-begun.result ≡ many =
-    passes-all c.pass_starts-begun.result many (length locators) c.pass_starts-begun.ensures.few c.pass_starts-begun.ensures.all
-    (count_by-le-length (place_before c.seq-seq.result c.start-start.result) locators) in
+    passes-all c.pass_starts-begun.result many (length places) c.pass_starts-begun.ensures.few c.pass_starts-begun.ensures.all
+    (count_by-le-length (place_before c.seq-seq.result c.start-start.result) places) in
     record {
       ends_are = i.ends_are;
       starts_are = i.starts_are;
       order = order.1;
-      begun = begun-later a rest all locators c.seq-seq.result c.start-start.result c.pass_starts-begun.result order i.starts_are c.seq-seq.ensures c.start-start.ensures begun;
+      begun = begun-later a rest all places c.seq-seq.result c.start-start.result c.pass_starts-begun.result order i.starts_are c.seq-seq.ensures c.start-start.ensures begun;
       ended = ended-later a rest all c.as_slice-ends.result.now c.seq-seq.result c.start-start.result c.pass_ends-ended.result order i.ends_are c.seq-seq.ensures c.start-start.ensures
           c.pass_ends-ended.ensures;
       put = Underway-more _ _ _ _ _ _ (rw steps at i.put) (c.in_ok-put_count.ensures (hits_of all a) (omega (arith, number)));
@@ -93,7 +93,7 @@ returns-in_err-put_count g c =
     let rest = c.next.new.self in
     let steps : c.loop-feature.feature-iterator ≡ a ∷ rest = c.in-Some.ensures.steps in
     let number : length (hits_of all a) + c.pass_ends-ended.result ≡ c.count_starts-reached.result =
-    hits-between a all c.as_slice-ends.result.now c.locators-locators.result.now c.seq-seq.result c.start-start.result c.stop.result c.pass_ends-ended.result c.count_starts-reached.result
+    hits-between a all c.as_slice-ends.result.now c.places-places.result.now c.seq-seq.result c.start-start.result c.stop.result c.pass_ends-ended.result c.count_starts-reached.result
     c.loop-feature.invariant.ends_are c.loop-feature.invariant.starts_are c.lemma_of_interval.ensures.some c.seq-seq.ensures c.start-start.ensures c.stop.ensures.value c.pass_ends-ended.ensures c.count_starts-reached.ensures in
     Puts-err _ _ c.from_residual.result (pair_text (Intersect Count) c.args.genome.now c.args.self.now.first all) c.from_residual.ensures.0
     (Underway-fails _ _ _ _ _ _ (rw steps at c.loop-feature.invariant.put) (c.in_err-put_count.ensures (hits_of all a) (omega (arith, number))))

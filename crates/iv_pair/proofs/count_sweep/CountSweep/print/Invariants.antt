@@ -12,7 +12,7 @@ use Rattle.iv_pair.proofs.count_sweep.CountSweep.print.Given as goal
 abbrev pub invariant-loop-feature : goal.invariant-loop-feature
 invariant-loop-feature g l = record {
   ends_are : AreEndsOf l.ends l.self.second;
-  starts_are : AreStartsOf l.locators l.self.second;
+  starts_are : AreStartsOf l.places l.self.second;
   order : AreInOrder l.feature-iterator;
   begun : All (λ y. l.begun ≤ count_by (begins_before y.seq y.start) l.self.second) l.feature-iterator;
   ended : All (λ y. l.ended ≤ count_by (ends_by y.seq y.start) l.self.second) l.feature-iterator;

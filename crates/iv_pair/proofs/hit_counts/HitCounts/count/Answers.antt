@@ -9,8 +9,8 @@ use Rattle.iv_pair.proofs.hit_counts.HitCounts.count.Goals as goal
 
 pub count_starts-begun-requires-clause-ordered : goal.count_starts-begun-requires-clause-ordered
 count_starts-begun-requires-clause-ordered g c =
-    (AreStartsOf-rows c.locators.result.now c.self.inside.intervals.records (c.locators.ensures.spots ∙ ap (λ (l : List RecordValue). map interval_of l) c.records.ensures)
-    c.locators.ensures.some c.self.invariant.ordered).ascend
+    (AreStartsOf-rows c.places.result.now c.self.inside.intervals.records (c.places.ensures.spots ∙ ap (λ (l : List RecordValue). map interval_of l) c.records.ensures)
+    c.places.ensures.some c.self.invariant.ordered).ascend
 
 pub count_ends-ended-requires : goal.count_ends-ended-requires
 count_ends-ended-requires g c = rw c.as_slice.ensures.value c.self.invariant.ends_are.ascend
@@ -20,9 +20,9 @@ number g c =
     let a : RecordValue = record { seq = c.args.seq; start = c.args.start; stop = c.args.stop; name = []; score = []; strand = None; width = 3 } in
     let records = c.self.inside.intervals.records in
     let ends_are : AreEndsOf c.as_slice.result.now records = rw c.as_slice.ensures.value c.self.invariant.ends_are in
-    hits-between a records c.as_slice.result.now c.locators.result.now c.args.seq c.args.start c.args.stop c.count_ends-ended.result c.count_starts-begun.result
+    hits-between a records c.as_slice.result.now c.places.result.now c.args.seq c.args.start c.args.stop c.count_ends-ended.result c.count_starts-begun.result
     ends_are
-    (AreStartsOf-rows c.locators.result.now records (c.locators.ensures.spots ∙ ap (λ (l : List RecordValue). map interval_of l) c.records.ensures) c.locators.ensures.some c.self.invariant.ordered)
+    (AreStartsOf-rows c.places.result.now records (c.places.ensures.spots ∙ ap (λ (l : List RecordValue). map interval_of l) c.records.ensures) c.places.ensures.some c.self.invariant.ordered)
     c.requires refl refl refl c.count_ends-ended.ensures c.count_starts-begun.ensures
 
 pub overflow_sub-result : goal.overflow_sub-result

@@ -8,7 +8,7 @@ use Rattle.iv_pair.proofs.hit_counts.HitCounts.of.Goals as goal
 
 pub invariant_of-result : goal.invariant_of-result
 invariant_of-result g c = record {
-  ends_are = AreEndsOf-moved c.in_ok-ends.ends.items c.locators.result.now c.in_ok-intervals.intervals.records
-      (c.locators.ensures.spots ∙ ap (λ (l : List RecordValue). map interval_of l) c.records.ensures) c.in_ok-ends.ensures.moved c.in_ok-ends.ensures.ordered;
+  ends_are = AreEndsOf-moved c.in_ok-ends.ends.items c.places.result.now c.in_ok-intervals.intervals.records
+      (c.places.ensures.spots ∙ ap (λ (l : List RecordValue). map interval_of l) c.records.ensures) c.in_ok-ends.ensures.moved c.in_ok-ends.ensures.ordered;
   ordered = subst AreInOrder (sym c.in_ok-intervals.ensures) (in_order-bare c.args.second.now.records c.len-count.ensures.ordered);
 }

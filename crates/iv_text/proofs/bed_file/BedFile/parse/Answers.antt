@@ -2,7 +2,7 @@ use Rattle.std.proofs.Common.{◌∙◌, List, [], Ok, sym, ap, inl, inr}
 use Rattle.iv_lines.specs.RecordValue.{RecordValue}
 use Rattle.iv_text.specs.BedReading.{finished}
 use Rattle.iv_lines.proofs.PieceLemmas.{handed-on}
-use Rattle.iv_text.proofs.BedReadingLemmas.{rows-all, fit-all, text-whole}
+use Rattle.iv_text.proofs.BedReadingLemmas.{fit-all, text-whole}
 use Rattle.iv_text.proofs.bed_file.BedFile.parse.Goals as goal
 
 pub returns-in_err-take_piece-clause-err : goal.returns-in_err-take_piece-clause-err
@@ -28,9 +28,9 @@ pub returns-clause-ok : goal.returns-clause-ok
 returns-clause-ok g c =
     let empty = c.args.empty_width in
     text-whole c.args.genome.now c.args.limit empty c.args.text.now _ c.new-draft.ensures ∙ ap (finished empty) (c.in_ok-take_piece.ensures.ok []) ∙ c.in_ok-width.ensures.ok
-    ∙ ap (λ (records : List RecordValue). Ok (record { width = c.in_ok-width.width; records = records })) (rows-all c.in_ok-width.records ∙ sym c.in_ok-into_records.ensures ∙ sym c.in_ok-records.ensures)
+    ∙ ap (λ (records : List RecordValue). Ok (record { width = c.in_ok-width.width; records = records })) (sym c.in_ok-into_records.ensures ∙ sym c.in_ok-records.ensures)
 
 pub returns-clause-fit : goal.returns-clause-fit
 returns-clause-fit g c =
     let kept = c.in_ok-width.ensures.held in
-    rw (c.in_ok-records.ensures, c.in_ok-into_records.ensures) (fit-all c.args.genome.now c.in_ok-width.width c.in_ok-width.records (rw (rows-all c.in_ok-width.records) at kept))
+    rw (c.in_ok-records.ensures, c.in_ok-into_records.ensures) (fit-all c.args.genome.now c.in_ok-width.width c.in_ok-width.records kept)

@@ -1,35 +1,59 @@
-use Rattle.std.proofs.Common.{◌∙◌, ◌<◌, ◌^◌, ℕ, sym, ap, subst, inl, inr}
+use Rattle.std.proofs.Common.{◌∙◌, sym, subst, inl, inr}
+use Rattle.iv_lines.specs.Widths.{IsWidth}
 use Rattle.iv_lines.specs.declared.fault.LoadCause.{LoadCause}
-use Rattle.iv_text.specs.BedReading.{shown}
 use Rattle.iv_text.specs.Inside.BedReading.{RefusesLine}
 use Rattle.iv_lines.proofs.PieceLemmas.{handed-on}
-use Rattle.iv_text.proofs.BedReadingLemmas.{known-wide, fast-full, fast-taken}
+use Rattle.iv_text.proofs.BedReadingLemmas.{known-wide, fast-columns, fast-full, fast-sound, fast-taken, fast-width}
 use Rattle.iv_text.proofs.bed_lines.BedLines.take_fast.Goals as goal
+
+pub take_one-requires : goal.take_one-requires
+take_one-requires g c =
+    let h = g.H.HoldsRecords in
+    let genome = c.args.reader.now in
+    let old = c.args.self.now in
+    let w = c.in-Some.width in
+    let known = sym c.width.ensures ∙ c.in-Some.is in
+    let wide = known-wide h.projected genome c.args.limit old w c.requires.sound known in
+    let fast = c.in-Some-read_fast.ensures in
+    record {
+      alike = fast-width h.projected genome c.args.limit old w c.args.text.now c.in-Some-read_fast.record c.in-Some-read_fast.size fast wide known g.met.H.HoldsRecords.alike c.requires.sound;
+      width = subst IsWidth (sym fast.fits.width_is) wide;
+      sound = fast-columns h.projected genome c.args.limit old w c.args.text.now c.in-Some-read_fast.record c.in-Some-read_fast.size fast wide known;
+    }
 
 pub returns-in_err-take_one-clause-err : goal.returns-in_err-take_one-clause-err
 returns-in_err-take_one-clause-err g c =
-    let k = g.K.FromRecord in
+    let h = g.H.HoldsRecords in
     let genome = c.args.reader.now in
     let old = c.args.self.now in
     let w = c.in-Some.width in
     let known = sym c.width.ensures ∙ c.in-Some.is in
-    let wide = known-wide k.projected genome c.args.limit (shown k.as_record old) w c.requires.sound known in
-    handed-on c.from_residual-in_err-take_one.result _ _ c.from_residual-in_err-take_one.ensures.1
+    let wide = known-wide h.projected genome c.args.limit old w c.requires.sound known in
+    handed-on c.from_residual.result _ _ c.from_residual.ensures.1
     (elim c.in_err-take_one.ensures.err [
       | inl memory ↦ inl memory
-      | inr full ↦ inr (subst (λ (f : LoadCause). RefusesLine k.held_of genome c.args.limit old c.args.text.now f) (sym full.0)
-          (fast-full k.held_of genome c.args.limit old w c.args.text.now c.in-Some-read_fast.record c.in-Some-read_fast.size c.in-Some-read_fast.ensures wide known full.1))
+      | inr full ↦ inr (subst (λ (f : LoadCause). RefusesLine h.projected genome c.args.limit old c.args.text.now f) (sym full.0)
+          (fast-full h.projected genome c.args.limit old w c.args.text.now c.in-Some-read_fast.record c.in-Some-read_fast.size c.in-Some-read_fast.ensures wide known full.1))
     ])
+
+pub returns-clause-sound : goal.returns-clause-sound
+returns-clause-sound g c =
+    let h = g.H.HoldsRecords in
+    let genome = c.args.reader.now in
+    let old = c.args.self.now in
+    let w = c.in-Some.width in
+    let known = sym c.width.ensures ∙ c.in-Some.is in
+    let wide = known-wide h.projected genome c.args.limit old w c.requires.sound known in
+    let taken = c.in_ok-take_one.ensures in
+    fast-sound h.projected genome c.args.limit old w c.args.text.now c.in-Some-read_fast.record c.in-Some-read_fast.size c.in-Some-read_fast.ensures wide known c.take_one.new.self taken.free taken.ok c.requires.sound
 
 pub returns-clause-ok : goal.returns-clause-ok
 returns-clause-ok g c =
-    let k = g.K.FromRecord in
+    let h = g.H.HoldsRecords in
     let genome = c.args.reader.now in
     let old = c.args.self.now in
     let w = c.in-Some.width in
     let known = sym c.width.ensures ∙ c.in-Some.is in
-    let wide = known-wide k.projected genome c.args.limit (shown k.as_record old) w c.requires.sound known in
+    let wide = known-wide h.projected genome c.args.limit old w c.requires.sound known in
     let taken = c.in_ok-take_one.ensures in
-    fast-taken k.held_of genome c.args.limit old c.take_one.new.self w c.args.text.now c.in-Some-read_fast.record c.in-Some-read_fast.size c.in_ok-one.one c.in-Some-read_fast.ensures wide known
-    (c.in_ok-one.ensures.ok ∙ ap (k.held_of c.in-Some-read_fast.record) c.at-at.ensures.value)
-    (subst (λ (n : ℕ). n < 2 ^ 32) c.at-at.ensures.value c.at-at.ensures.small) taken.free taken.ok
+    fast-taken h.projected genome c.args.limit old w c.args.text.now c.in-Some-read_fast.record c.in-Some-read_fast.size c.in-Some-read_fast.ensures wide known g.met.H.HoldsRecords.again c.take_one.new.self taken.free taken.ok

@@ -1,0 +1,65 @@
+-- The rest of a sound record has no line feed.
+use Rattle.std.proofs.Common.{◌≡◌, ◌≢◌, ℕ, zero, suc, ◌-◌, ◌==◌, ◌||◌, ◌≤◌, Bool, false, List, [], ◌∷◌, ◌++◌, Option, None, Some, codes, length, take, sym, ap, subst, ◌∙◌, arith}
+use Rattle.std.specs.List.{flat_map, list_any}
+use Rattle.std.proofs.lemmas.Bool.{false≢true, or_parts}
+use Rattle.std.proofs.lemmas.List.Elements.{All-nil, All-cons, All-tail, All-append}
+use Rattle.iv_lines.specs.Lines.{HasNoFeed}
+use Rattle.iv_lines.specs.Read.{AreSoundColumns, bad_text}
+use Rattle.iv_lines.specs.RecordText.{rest_text, strand_text}
+use Rattle.iv_lines.specs.RecordValue.{RecordValue}
+use Rattle.iv_lines.specs.declared.record_ref.Strand.{Strand}
+use Rattle.iv_lines.specs.declared.record_ref.Strand.TheVariants.{Plus, Minus, Dot}
+
+-- the byte is one that a name or a score may not hold
+abbrev is_bad : ℕ → Bool
+is_bad b = b == 13 || b == 10 || b == 0
+
+plain-bytes : (bs : List ℕ) → list_any is_bad bs ≡ false → HasNoFeed bs
+plain-bytes [] none = All-nil (λ (b : ℕ). b ≢ 10)
+plain-bytes (b ∷ bs) none =
+    let parts = or_parts (is_bad b) (list_any is_bad bs) none in
+    All-cons (λ (x : ℕ). x ≢ 10) b bs (λ e. false≢true (sym parts.0 ∙ ap is_bad e)) (plain-bytes bs parts.1)
+
+-- a good name or score has none
+plain-text : (bs : List ℕ) → bad_text bs ≡ false → HasNoFeed bs
+plain-text bs good = plain-bytes bs (or_parts (length bs == 0) (list_any is_bad bs) good).1
+
+plain-byte : (b : ℕ) → b ≢ 10 → HasNoFeed (b ∷ [])
+plain-byte b other = All-cons (λ (x : ℕ). x ≢ 10) b [] other (All-nil (λ (x : ℕ). x ≢ 10))
+
+-- nor has a strand
+plain-strand : (s : Option Strand) → HasNoFeed (strand_text s)
+plain-strand None = All-nil (λ (b : ℕ). b ≢ 10)
+plain-strand (Some Plus) = plain-byte 43 (λ e. absurd (omega (arith, e)))
+plain-strand (Some Minus) = plain-byte 45 (λ e. absurd (omega (arith, e)))
+plain-strand (Some Dot) = plain-byte 46 (λ e. absurd (omega (arith, e)))
+
+-- nor has one more column with a TAB in front of it
+plain-column : (column more : List ℕ) → HasNoFeed column → HasNoFeed more → HasNoFeed ((codes "\t" ++ column) ++ more)
+plain-column column more here there =
+    All-append (λ (b : ℕ). b ≢ 10) (codes "\t" ++ column) more (All-cons (λ (b : ℕ). b ≢ 10) 9 column (λ e. absurd (omega (arith, e))) here) there
+
+-- nor have the first of no columns
+plain-none : (n : ℕ) → HasNoFeed (flat_map (λ column. codes "\t" ++ column) (take n []))
+plain-none zero = All-nil (λ (b : ℕ). b ≢ 10)
+plain-none (suc n) = All-nil (λ (b : ℕ). b ≢ 10)
+
+-- nor have the first of three
+plain-columns : (n : ℕ) (name score strand : List ℕ) → (1 ≤ n → HasNoFeed name) → (2 ≤ n → HasNoFeed score) → HasNoFeed strand
+    → HasNoFeed (flat_map (λ column. codes "\t" ++ column) (take n (name ∷ score ∷ strand ∷ [])))
+plain-columns zero name score strand first second third = All-nil (λ (b : ℕ). b ≢ 10)
+plain-columns (suc zero) name score strand first second third = plain-column name [] (first (omega arith)) (plain-none zero)
+plain-columns (suc (suc zero)) name score strand first second third =
+    plain-column name _ (first (omega arith)) (plain-column score [] (second (omega arith)) (plain-none zero))
+plain-columns (suc (suc (suc n))) name score strand first second third =
+    plain-column name _ (first (omega arith)) (plain-column score _ (second (omega arith)) (plain-column strand _ third (plain-none n)))
+
+-- so the rest of a sound record has none
+pub plain-rest : (r : RecordValue) (rest : List ℕ) → AreSoundColumns r.width r.name r.score r.strand → codes "\t" ++ rest ≡ rest_text r → HasNoFeed rest
+plain-rest r rest sound is =
+    All-tail (λ (b : ℕ). b ≢ 10) 9 rest
+    (subst HasNoFeed (sym is)
+    (plain-columns (r.width - 3) r.name r.score (strand_text r.strand)
+    (λ wide. plain-text r.name (sound.name_good (omega arith)))
+    (λ wide. plain-text r.score (sound.score_good (omega arith)))
+    (plain-strand r.strand)))
