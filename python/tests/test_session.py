@@ -660,7 +660,9 @@ class Stopped(Case):
 
     def run_until(self, is_begun, number, *words, **environment):
         """The status of Python with these words, which gets a signal once it has begun."""
-        process = subprocess.Popen([sys.executable, *map(str, words)], env={**os.environ, **environment}, stderr=subprocess.DEVNULL)
+        # The hangup may be ignored here, as below `nohup`, and would be there too.
+        process = subprocess.Popen([sys.executable, *map(str, words)], env={**os.environ, **environment}, stderr=subprocess.DEVNULL,
+                                   preexec_fn=lambda: signal.signal(signal.SIGHUP, signal.SIG_DFL))
         while not is_begun():
             self.assertIsNone(process.poll())
             time.sleep(0.01)
