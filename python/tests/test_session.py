@@ -660,7 +660,7 @@ class Stopped(Case):
 
     def run_until(self, is_begun, number, *words, **environment):
         """The status of Python with these words, which gets a signal once it has begun."""
-        # The hangup may be ignored here, as below `nohup`, and would be there too.
+        # A child ignores the signals that its parent ignores, and `nohup` ignores this one.
         process = subprocess.Popen([sys.executable, *map(str, words)], env={**os.environ, **environment}, stderr=subprocess.DEVNULL,
                                    preexec_fn=lambda: signal.signal(signal.SIGHUP, signal.SIG_DFL))
         while not is_begun():
