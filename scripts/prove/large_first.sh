@@ -47,8 +47,10 @@ await() {
     beside=''
 }
 
-prove iv_lines
-prove_beside iv_fasta iv_locators
+prove_beside iv_ledger
+prove iv_places
+await
+prove_beside iv_fasta iv_text
 prove iv_track
 prove iv_cover
 await

@@ -67,7 +67,7 @@ class Names:
 
 def definitions():
     """Each definition of specs/: its key, its text and the comment above it, with the names of its file, its file, and how many lines
-    it has without comments; and the definition that makes each case of a `data`."""
+    it has without comments; and the definition that makes each case of a `data`, or that a file passes on."""
     found, makes = {}, {}
     for path in sorted(TOP.glob("crates/iv_*/specs/**/*.antt")):
         crate, *_, folder, _ = path.relative_to(TOP / "crates").parts
@@ -75,6 +75,8 @@ def definitions():
         if module in ("Lib", INSIDE):
             continue
         names, lines, at, around, indent, above = Names(text), text.split("\n"), None, "", 0, []
+        passed_on = Names("\n".join(line for line in lines if line.startswith("pub use "))).of
+        makes.update({(crate, module, name): key for name, key in passed_on.items()})
         for line in lines:
             head = HEAD.match(line)
             comment = re.match(r" *-- ?(.*)", line)
@@ -89,7 +91,7 @@ def definitions():
                 found[at] = {"text": around, "comment": " ".join(said), "names": names, "path": path.relative_to(TOP), "lines": 0, "at": len(found)}
             elif LEMMA.match(line) and len(LEMMA.match(line)[1]) <= indent:
                 at = None
-            elif line.startswith("use ") or not line.strip():
+            elif line.startswith(("use ", "pub use ")) or not line.strip():
                 continue
             if at and not line.strip().startswith("--"):
                 found[at]["text"] += "\n" + line

@@ -6,7 +6,7 @@ block `impl From<..> for FAULT`; all other code hands it on by `?`, or by an arm
 contract cannot tell a call in which an allocation failed from one that gave up, since failures have no place in the logic.
 So the names NoMemory, Memory and AllocError may be in patterns, comparisons, types, declarations and `use` lines, and as
 values in those blocks and arms alone. AllocError itself is made in `test_faults` alone, the allocator that refuses on
-purpose, and where FULL_COUNTS says that a count would leave its number.
+purpose, and where FULL_COUNTS says that a count would leave its number, or that a record doesn't fit what is to hold its columns.
 
 Meter: steps are counted by the meter that is handed in; a call that made a meter of its own would hide its steps.
 So a meter is made only in the functions that MAKES_A_METER names, file by file, once in each and in no loop: in the calls of a
@@ -31,17 +31,17 @@ RENAMED = re.compile(r"\b(NoMemory|Memory|AllocError|Meter)\s+as\b")
 METER = re.compile(r"\bMeter\s*>?\s*::\s*new\b")
 MAKES_A_METER = {
     "iv_pair/src/hits.rt": {"of"},
-    "iv_pair/src/second.rt": {"from_batches", "hits"},
+    "iv_pair/src/second.rt": {"new", "hits"},
     "iv_session/src/line.rt": {"run_request"},
     "iv_workspace/src/session/edits.rt": {"edit"},
     "iv_workspace/src/session/lengths.rt": {"has_record_past"},
     "iv_workspace/src/session/open_views.rt": {"open_view", "print_view", "show_view", "print_all", "show_all"},
 }
-# A list of items in several vectors may be longer than any one of them, so their number is looked at before it grows. A place of a
-# record says in 32 bits where its rest begins: the program reads no file of 2^32 bytes, so it never comes to that.
+# A list of entries in several vectors may be longer than any one of them, so their number is looked at before it grows. A place of a
+# record says in 32 bits where its rest begins: no file that the program reads has 2^32 bytes, but the rests of a track, to which edits
+# add, may. And the rests are those of records of one width: no caller hands in another one, but an order has no condition for it.
 FULL_COUNTS = {
-    "iv_lines/src/batches.rt": (r"let Some\(len\) = self\.len\.checked_add\(1\) else \{", ""),
-    "iv_locators/src/places.rt": (r"let Ok\(from\) = u32::try_from\(self\.rests\.len\(\)\) else \{", ""),
+    "iv_places/src/rests.rt": (r"(?:if feature\.width\(\) != self\.width|let Ok\(from\) = u32::try_from\(self\.bytes\.len\(\)\) else) \{", ""),
     "iv_ledger/src/ledger.rt": (r"if (?:self\.)?len == MOST_ENTRIES \{", "const MOST_ENTRIES: usize = 9_223_372_036_854_775_807;"),
 }
 # Under its own name it is found wherever it is made: `C::Meter::new()` too.
@@ -238,6 +238,7 @@ PLANTED = [
     ("iv_cli", "const FAULT: CliFault = CliFault::Memory;", MADE),
     ("iv_session", "fn f() -> Result<(), AllocError> { Err(AllocError) }", MADE),
     ("iv_ledger", "fn f(len: usize) -> Result<(), AllocError> { if len == MOST_ENTRIES { return Err(AllocError); } Ok(()) }", MADE),
+    ("iv_places", "fn f(rests: &[u8]) -> Result<u32, AllocError> { let Ok(from) = u32::try_from(rests.len()) else { return Err(AllocError); }; Ok(from) }", MADE),
     ("iv_session", "fn f() -> EditFault { EditFault::from(AllocError) }", MADE),
     ("iv_session", "impl From<u8> for EditFault { fn from(_: u8) -> EditFault { EditFault::NoMemory } }", MADE),
     ("iv_session", "fn f() -> EditFault { let fault = EditFault::NoMemory; fault }", MADE),

@@ -28,8 +28,6 @@ WITHOUT = {
     "View::narrowed": "the options of a view are held without an allocation",
     "Plan::view": "the options of a view are held without an allocation",
     "Plan::view_beside": "the options of a view are held without an allocation",
-    "Batches::into_vec": "`BedFile::parse` calls it",
-    "RecordBatches::into_records": "`BedFile::parse` calls it",
     "NameMap::rehash": "`Genome::parse` calls it",
     "NameMap::push": "`Genome::parse` calls it",
     "BedLines::take_lines": "`BedReader::take_piece` calls it",

@@ -11,7 +11,7 @@ use Rattle.iv_lines.proofs.InOrderLemmas.{all-recursion, recursion-all, in_order
 use Rattle.iv_lines.proofs.ListLemmas.{Mem, mem-filter, filter-agree, filter-filter, filter-none, same_tests}
 use Rattle.iv_lines.proofs.PrecedesLemmas.{Precedes, precedes-from, equal-from, less-from, then-le}
 use Rattle.iv_cover.proofs.Groups.{mem-right}
-use Rattle.iv_locators.proofs.OrderLemmas.{nat_tied}
+use Rattle.iv_places.proofs.OrderLemmas.{nat_tied}
 use Rattle.iv_blocks.specs.Inside.MembersLeft.{MembersLeft, IsAhead}
 use Rattle.iv_blocks.specs.Inside.Groups.{is_in_group, starts_between, between_on, members_between, is_apart, is_minus}
 use Rattle.iv_blocks.specs.Groups.{is_on_side}

@@ -1,6 +1,6 @@
 -- The blocks of a walk with strands together, as they are kept.
 use Rattle.std.proofs.Common.{◌≡◌, ℕ, ◌+◌, max, Bool, true, false, List, [], ◌∷◌, ◌++◌, map, length, ◌==◌, ◌&&◌, nat_le, Some, None, refl, sym, ◌∙◌, ap, subst, append-nil, append_assoc, All}
-use Rattle.std.specs.Iterator.{Drains, YieldsFirst}
+use Rattle.std.specs.Iterator.{Drains}
 use Rattle.std.specs.List.{flat_map, range_with_len}
 use Rattle.std.proofs.lemmas.Iterator.Consumers.{YieldsList-from_shown}
 use Rattle.std.proofs.lemmas.List.Elements.{All-weaker}
@@ -127,7 +127,3 @@ module _ (g : Sequences) (summaries : List ColumnSummary) (d : ℕ) where
         ∙ append_assoc entries (kept_entry g summaries b ∷ []) (map (kept_entry g summaries) (remaining_blocks d (Some (with_members next (r ∷ []))) records))
         ∙ ap (λ (bs : List BlockWithMembers). entries ++ kept_entry g summaries b ∷ map (kept_entry g summaries) bs) (sym (remaining-begun d r records next next_is))
         ∙ ap (λ (bs : List BlockWithMembers). entries ++ map (kept_entry g summaries) bs) (sym (remaining-split_up d b r records (is_test ∙ no_test)))
-
--- entries are given one by one
-pub drained-items : (items es : Entries) → Drains (YieldsFirst (λ (l : Entries). l)) items es → es ≡ items
-drained-items items es run = given-items items es items run (YieldsList-from_shown (YieldsFirst (λ (l : Entries). l)) (λ e. e) (λ l. l) (λ s t h. ap length h.0) (λ s x t h. h) items)

@@ -44,7 +44,7 @@ impl<A: Allocator + Copy> Blocks<A> {
         let mut records = track.walk(0, 0, meter);
         while let Some(feature) = records.next(meter) {
             number += count_until(&mut ahead, feature.seq(), feature.start(), meter);
-            put_numbered(sink, genome, &feature.as_ref(), number)?;
+            put_numbered(sink, genome, &feature, number)?;
         }
         Ok(())
     }

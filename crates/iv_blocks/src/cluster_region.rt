@@ -47,7 +47,7 @@ impl<A: Allocator + Copy> Blocks<A> {
         let mut hits = track.hits(region, meter);
         while let Some(feature) = hits.next(meter) {
             number += count_until(&mut ahead, feature.seq(), feature.start(), meter);
-            put_numbered(sink, genome, &feature.as_ref(), number)?;
+            put_numbered(sink, genome, &feature, number)?;
         }
         Ok(())
     }

@@ -12,13 +12,10 @@ use crate::kept_block::KeptBlock;
 use crate::options::BlockOptions;
 use iv_cover::{BlockWalk, results_in};
 use iv_ledger::Meter;
-use iv_lines::{Batches, Genome, Interval};
-use iv_track::{Track, TrackRecord};
+use iv_lines::{Genome, Interval, RecordRef};
+use iv_track::Track;
 use std::alloc::{AllocError, Allocator};
 use std::marker::Model;
-
-/// How many entries one vector holds while they are made: 96 KiB.
-const MOST_IN_BATCH: usize = 2_048;
 
 /// The blocks of all records, strands together, each as it is kept, by key.
 pub(crate) fn entries_of<A: Allocator + Copy>(
@@ -27,11 +24,11 @@ pub(crate) fn entries_of<A: Allocator + Copy>(
     track: &Track<A>,
     genome: &Genome<A>,
     meter: &mut Meter,
-) -> Result<Batches<(Key, KeptBlock<A>), A>, AllocError>
-    ensures entries { IfOk result (λ entries. entries ≡ map (kept_entry genome.now (listed options.now.summaries)) (remaining_blocks options.now.distance None track.now.records)) }
+) -> Result<Vec<(Key, KeptBlock<A>), A>, AllocError>
+    ensures entries { IfOk result (λ entries. entries.items ≡ map (kept_entry genome.now (listed options.now.summaries)) (remaining_blocks options.now.distance None track.now.records)) }
     ensures order { OnOk result (AreInOrder track.now.records) }
 {
-    let mut entries = Batches::new(alloc);
+    let mut entries = Vec::new(alloc);
     let mut records = track.walk(0, 0, meter);
     let Some(first) = records.next(meter) else {
         return Ok(entries);
@@ -80,16 +77,16 @@ fn push_entry<A: Allocator + Copy>(
     options: &BlockOptions,
     genome: &Genome<A>,
     block: Interval,
-    members: &[TrackRecord<'_, A>],
+    members: &[RecordRef<'_>],
     memory: Vec<u8, A>,
-    entries: &mut Batches<(Key, KeptBlock<A>), A>,
+    entries: &mut Vec<(Key, KeptBlock<A>), A>,
 ) -> Result<Vec<u8, A>, AllocError>
-    ensures { OnOk result (entries.new ≡ entries.old ++ kept_entry genome.now (listed options.now.summaries) (with_members block members.now) ∷ []) }
+    ensures { OnOk result (entries.new.items ≡ entries.old.items ++ kept_entry genome.now (listed options.now.summaries) (with_members block members.now) ∷ []) }
 {
     let name = genome.name_or_empty(block.seq);
     let results = results_in(alloc, options.summaries.as_slice(), name, members, memory)?;
     let kept = KeptBlock::copy_of(alloc, block.stop, results.as_slice())?;
-    entries.push(MOST_IN_BATCH, (key_of(block), kept))?;
+    entries.push((key_of(block), kept))?;
     Ok(results)
 }
 

@@ -10,7 +10,7 @@ ghost use Rattle.iv_blocks.specs.Inside.Insertion.{key_of};
 
 use iv_ledger::Meter;
 use iv_lines::{RecordRef, Strand};
-use iv_track::{Track, TrackRecord, TrackRecords};
+use iv_track::{Track, TrackRecords};
 use std::alloc::Allocator;
 use std::marker::Model;
 
@@ -94,7 +94,7 @@ impl Group {
     }
 
     /// Whether the record is in the group.
-    pub(crate) fn has<A: Allocator + Copy>(self, feature: &TrackRecord<'_, A>) -> bool
+    pub(crate) fn has(self, feature: &RecordRef<'_>) -> bool
         ensures { result ≡ is_in_group (is_apart self.side) self.seq (is_minus_side self.side) feature.now }
     {
         feature.seq() == self.seq && self.side.has_strand(feature.strand())
@@ -155,7 +155,7 @@ impl<'a, A: Allocator + Copy> Members<'a, A> {
     /// The next record, `None` after the last.
     ///
     /// A call takes at most one step for each record of the sequence that it goes past, and one more to find the end.
-    pub(crate) fn next(&mut self, meter: &mut Meter) -> Option<TrackRecord<'a, A>>
+    pub(crate) fn next(&mut self, meter: &mut Meter) -> Option<RecordRef<'a>>
         ensures member { YieldsFirst (λ m. m.members) self.old result self.new }
         ensures steps { TakesForEach meter.old meter.new self.old self.new (end_step result) }
     {

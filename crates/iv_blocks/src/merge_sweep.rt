@@ -15,7 +15,7 @@ use crate::side_blocks::{SideBlock, SideBlocks};
 use iv_bytes::{Sink, WriteFault, put_all};
 use iv_cover::{ColumnSummary, Value, asks_distinct, put_results};
 use iv_lines::{Genome, RowBuffer};
-use iv_locators::PlacedRecords;
+use iv_places::PlacedRecords;
 use std::alloc::{AllocError, Allocator, Global};
 use std::marker::Model;
 

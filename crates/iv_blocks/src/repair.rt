@@ -18,8 +18,8 @@ use crate::group::{Group, Key, Members, Side};
 use crate::kept_block::KeptBlock;
 use iv_cover::results;
 use iv_ledger::Meter;
-use iv_lines::Genome;
-use iv_track::{Track, TrackRecord};
+use iv_lines::{Genome, RecordRef};
+use iv_track::Track;
 use std::alloc::{AllocError, Allocator};
 
 impl<A: Allocator + Copy> Blocks<A> {
@@ -134,7 +134,7 @@ impl<A: Allocator + Copy> Blocks<A> {
         let Some(first) = members.next(meter) else {
             return false;
         };
-        let (first_start, first_stop) = bounds_of(&first.as_ref());
+        let (first_start, first_stop) = bounds_of(&first);
         if first_start != start {
             return false;
         }
@@ -206,7 +206,7 @@ impl<A: Allocator + Copy> Blocks<A> {
         let Some(first) = members.next(meter) else {
             return Ok(());
         };
-        let (mut start, mut reached) = bounds_of(&first.as_ref());
+        let (mut start, mut reached) = bounds_of(&first);
         if low < from {
             start = low;
         }
@@ -214,7 +214,7 @@ impl<A: Allocator + Copy> Blocks<A> {
             let Some(feature) = members.next(meter) else {
                 return self.insert_block(track, genome, group, start, reached, meter);
             };
-            let (next_start, next_stop) = bounds_of(&feature.as_ref());
+            let (next_start, next_stop) = bounds_of(&feature);
             // If records start before `gone`, the block goes up to there without it too.
             let joined = self.reach(reached).max(u64::from(gone.0));
             if u64::from(next_start) <= joined {
@@ -309,7 +309,7 @@ fn gather<'a, A: Allocator + Copy>(
     alloc: A,
     members: Members<'a, A>,
     meter: &mut Meter,
-) -> Result<Vec<TrackRecord<'a, A>, A>, AllocError>
+) -> Result<Vec<RecordRef<'a>, A>, AllocError>
     ensures records { IfOk result (λ v. v.items ≡ members.entry.members) }
     ensures steps { TakesUpTo meter.old meter.new (1 + members.entry.passed_records) }
 {

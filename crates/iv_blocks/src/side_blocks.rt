@@ -13,7 +13,7 @@ ghost use Rattle.iv_blocks.specs.Inside.Groups.{is_on};
 use crate::group::Side;
 use iv_cover::{Column, ParsedNumber, Value, Values};
 use iv_lines::{Interval, RecordRef};
-use iv_locators::PlacedRecords;
+use iv_places::PlacedRecords;
 use std::marker::Model;
 
 /// A block, and the records that are in it, in their order.

@@ -20,7 +20,7 @@ use crate::complement::put_gaps;
 use crate::side_blocks::{SideBlocks, SideRecords};
 use iv_bytes::{Sink, WriteFault};
 use iv_lines::{Genome, Interval, put_interval, put_numbered};
-use iv_locators::PlacedRecords;
+use iv_places::PlacedRecords;
 use std::alloc::Allocator;
 use std::marker::Model;
 

@@ -10,15 +10,19 @@ use Rattle.iv_workspace.specs.States.{State, begun}
 use Rattle.iv_run.specs.declared.fault.CliFault.{CliFault}
 use Rattle.iv_run.specs.declared.fault.CliFault.TheVariants.{Memory}
 use Rattle.iv_run.specs.Loading.{IsReport, Parsed, parsed}
-use Rattle.iv_run.specs.RunFiles.{AreAllWanted, AreProjected}
-use Rattle.iv_run.specs.Inside.RunFiles.{Reports, held_files}
-use Rattle.iv_run.proofs.WantedLemmas.{held-whole}
+use Rattle.iv_run.specs.RunFiles.{AreProjected}
+use Rattle.iv_run.specs.Inside.RunFiles.{Reports}
+use Rattle.iv_run.proofs.WantedLemmas.{all-wide, held-whole}
 use Rattle.iv_cli.specs.Loading.{loaded}
 
 -- records that fit a genome
 pub fits-beside : (g : Sequences) (limit : ℕ) (o : Option Bed) → IfSome o (AreProjected (λ r. r) g limit) → IfSome o (λ file. All (Fits g file.width) file.records)
 fits-beside g limit None kept = tt
 fits-beside g limit (Some file) kept = fit-all g file.width file.records kept.held_all
+
+pub wide-beside : (g : Sequences) (limit : ℕ) (o : Option Bed) → IfSome o (AreProjected (λ r. r) g limit) → IfSome o (λ file. All (λ r. r.width ≡ file.width) file.records)
+wide-beside g limit None kept = tt
+wide-beside g limit (Some file) kept = all-wide g limit file kept
 
 pub few-beside : (g : Sequences) (limit : ℕ) (o : Option Bed) → IfSome o (AreProjected (λ r. r) g limit) → IfSome o (λ file. length file.records ≤ limit)
 few-beside g limit None kept = tt
@@ -41,13 +45,13 @@ module _ (width : ℕ) (sizes text : List ℕ) (other bases : Option (List ℕ))
   begins_at files = Ok (begun files.genome files.first files.second files.bases files.limit)
 
   -- the files are sound, and all of their records is held
-  pub begins : (files : Parsed) (r : Result State CliFault) → Reports (λ r. r) AreAllWanted (Ok files) (parsed width sizes text other bases limit)
+  pub begins : (files : Parsed) (r : Result State CliFault) → Reports (λ r. r) None (Ok files) (parsed width sizes text other bases limit)
       → IfOk r (λ s. s ≡ begun files.genome files.first files.second files.bases files.limit) → IfErr r (λ k. k ≡ Memory) → IsReport r (loaded width sizes text other bases limit)
   begins files (Ok s) all ok err =
-      ap (λ (read : Result Parsed CliFault). if_ok read begins_at) (all.2 ∙ ap Ok (sym (all.4 ∙ ap (λ w. held_files (λ r. r) w all.0) all.3 ∙ held-whole all.0))) ∙ ap Ok (sym ok)
+      ap (λ (read : Result Parsed CliFault). if_ok read begins_at) (all.1 ∙ ap Ok (sym (all.2 ∙ held-whole all.0))) ∙ ap Ok (sym ok)
   begins files (Err k) all ok err = inl err
 
   -- a file is damaged
-  pub begins-not : (k : CliFault) → Reports (λ r. r) AreAllWanted (Err k) (parsed width sizes text other bases limit) → IsReport {T = State} (Err k) (loaded width sizes text other bases limit)
+  pub begins-not : (k : CliFault) → Reports (λ r. r) None (Err k) (parsed width sizes text other bases limit) → IsReport {T = State} (Err k) (loaded width sizes text other bases limit)
   begins-not k (inl memory) = inl memory
   begins-not k (inr is) = inr (ap (λ (read : Result Parsed CliFault). if_ok read begins_at) is)

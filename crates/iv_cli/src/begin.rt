@@ -1,27 +1,25 @@
 //! The session that the files of a run begin.
-ghost use Rattle.std.specs.Prelude.{◌≡◌, ◌≤◌, ◌⊎◌, List, ℕ, Option, Ok, Err, IfOk, IfErr};
+ghost use Rattle.std.specs.Prelude.{◌≡◌, ◌≤◌, ◌⊎◌, All, List, ℕ, Option, None, Ok, Err, IfOk, IfErr, IfSome};
 ghost use Rattle.std.specs.Option.{option_copied, option_map};
 ghost use Rattle.iv_track.specs.Tracked.{most_records};
 ghost use Rattle.iv_workspace.specs.States.{begun};
 ghost use Rattle.iv_run.specs.Loading.{IsReport};
-ghost use Rattle.iv_run.specs.RunFiles.{AreAllWanted, AreOf};
+ghost use Rattle.iv_run.specs.RunFiles.{AreOf};
 ghost use Rattle.iv_cli.specs.Loading.{loaded};
 
 use iv_args::Plan;
-use iv_lines::RecordBatches;
+use iv_places::Places;
 use iv_run::{CliFault, Inputs, ParsedFile, RunFiles, SoundFiles, sound_files};
-use iv_text::BedBatches;
 use iv_workspace::Session;
 use std::alloc::Allocator;
 
 /// The records of a file that may be left out.
-fn into_bed<A: Allocator + Copy>(
-    file: Option<ParsedFile<RecordBatches<A>, A>>,
-) -> Option<BedBatches<A>>
+fn into_places<A: Allocator + Copy>(file: Option<ParsedFile<Places<A>, A>>) -> Option<Places<A>>
+    requires { IfSome file (λ f. All (λ r. r.width ≡ f.width) f.records) }
     ensures { result ≡ file }
 {
     match file {
-        Some(file) => Some(file.into_bed()),
+        Some(file) => Some(file.into_places()),
         None => None,
     }
 }
@@ -31,9 +29,7 @@ fn into_bed<A: Allocator + Copy>(
 /// # Errors
 ///
 /// An allocation failed.
-fn session_of<A: Allocator + Copy>(
-    files: SoundFiles<RecordBatches<A>, A>,
-) -> Result<Session<A>, CliFault>
+fn session_of<A: Allocator + Copy>(files: SoundFiles<Places<A>, A>) -> Result<Session<A>, CliFault>
     requires { files.limit ≤ most_records }
     ensures ok { IfOk result (λ session. session ≡ begun files.genome files.first files.second files.bases files.limit) }
     ensures err { IfErr result (λ fault. fault ≡ CliFault.Memory) }
@@ -46,16 +42,16 @@ fn session_of<A: Allocator + Copy>(
         fasta,
         limit,
     } = files;
-    let first = first.into_bed();
-    Ok(Session::from_batches(alloc, genome, first, into_bed(second), fasta, limit)?)
+    let first = first.into_places();
+    Ok(Session::from_places(alloc, genome, first, into_places(second), fasta, limit)?)
 }
 
 /// The session that the files of a run begin, with no view open, or the fault of the first damaged file.
 pub fn begin_session<A: Allocator + Copy>(
-    files: RunFiles<RecordBatches<A>, A>,
+    files: RunFiles<Places<A>, A>,
 ) -> Result<Session<A>, CliFault>
     requires { files.run_genome.limit ≤ most_records }
-    ensures { (sizes first : List ℕ) (second fasta_text : Option (List ℕ)) → AreOf (λ r. r) AreAllWanted sizes first second fasta_text files
+    ensures { (sizes first : List ℕ) (second fasta_text : Option (List ℕ)) → AreOf (λ r. r) None sizes first second fasta_text files
         → IsReport result (loaded files.run_genome.width sizes first second fasta_text files.run_genome.limit) }
 {
     let RunFiles {
@@ -85,8 +81,6 @@ pub fn load<A: Allocator + Copy>(
     ensures err { IfErr result (λ fault. (fault ≡ CliFault.Memory) ⊎
         (loaded plan.now.width inputs.now.sizes.now inputs.now.first.now (option_copied inputs.now.other) (option_map (λ text. text.items) bases) limit ≡ Err fault)) }
 {
-    let files: RunFiles<RecordBatches<A>, A> = RunFiles::of_inputs(
-        alloc, plan, inputs, bases, limit,
-    );
+    let files: RunFiles<Places<A>, A> = RunFiles::of_inputs(alloc, plan, inputs, bases, limit);
     begin_session(files)
 }

@@ -6,8 +6,8 @@ ghost use Rattle.iv_lines.specs.Read.{IsOnGenome};
 ghost use Rattle.iv_cover.specs.TrackBlocks.{blocks_of, GivesFirst};
 
 use iv_ledger::Meter;
-use iv_lines::Interval;
-use iv_track::{TrackRecord, TrackRecords};
+use iv_lines::{Interval, RecordRef};
+use iv_track::TrackRecords;
 use std::alloc::{Allocator, Global};
 use std::marker::Model;
 
@@ -20,7 +20,7 @@ use std::marker::Model;
 pub struct BlockWalk<'a, A: Allocator + Copy = Global> {
     records: TrackRecords<'a, A>,
     // The record that closed the block before.
-    ahead: Option<TrackRecord<'a, A>>,
+    ahead: Option<RecordRef<'a>>,
     distance: u32,
 }
 

@@ -9,7 +9,7 @@ use crate::column::{Column, ColumnSummary, asks_distinct};
 use crate::op::Op;
 use crate::summaries::{put_result, put_results};
 use iv_bytes::{Sink, WriteFault};
-use iv_track::TrackRecord;
+use iv_lines::RecordRef;
 use std::alloc::{AllocError, Allocator};
 
 /// What an operation gives for the values of a column, in the order of a track.
@@ -36,7 +36,7 @@ pub fn results<A: Allocator + Copy>(
     alloc: A,
     summaries: &[ColumnSummary],
     sequence: &[u8],
-    records: &[TrackRecord<'_, A>],
+    records: &[RecordRef<'_>],
 ) -> Result<Vec<u8, A>, AllocError>
     ensures { IfOk result (λ text. text.items ≡ results_over sequence.now summaries.now records.now) }
 {
@@ -49,7 +49,7 @@ pub fn results_in<A: Allocator + Copy>(
     alloc: A,
     summaries: &[ColumnSummary],
     sequence: &[u8],
-    records: &[TrackRecord<'_, A>],
+    records: &[RecordRef<'_>],
     memory: Vec<u8, A>,
 ) -> Result<Vec<u8, A>, AllocError>
     ensures { IfOk result (λ text. text.items ≡ results_over sequence.now summaries.now records.now) }

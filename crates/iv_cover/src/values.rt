@@ -8,7 +8,7 @@ ghost use Rattle.iv_cover.specs.declared.column.Column.{Column};
 use crate::column::Column;
 use crate::number::ParsedNumber;
 use crate::value::Value;
-use iv_track::TrackRecord;
+use iv_lines::RecordRef;
 use std::alloc::Allocator;
 
 /// What values are read from, one after another: the records of a block, or a list of values, in which each column is the same.
@@ -43,7 +43,7 @@ pub trait Values<'t>: Drop {
         ensures each { (name : List ℕ) (column : Column) → length (left name column self.now) ≡ size self.now };
 }
 
-impl<'t, A: Allocator + Copy> Values<'t> for &'t [TrackRecord<'t, A>] {
+impl<'t> Values<'t> for &'t [RecordRef<'t>] {
     ghost size = { λ records. length records.now };
 
     ghost left = { λ name column records. map (column_value name column) records.now };
@@ -60,14 +60,14 @@ impl<'t, A: Allocator + Copy> Values<'t> for &'t [TrackRecord<'t, A>] {
         let records = *self;
         let first = records.first()?;
         *self = &records[1..];
-        Some(Value::of(column, name, &first.as_ref()))
+        Some(Value::of(column, name, first))
     }
 
     fn next_number(&mut self, name: &'t [u8], column: Column) -> Option<ParsedNumber> {
         let records = *self;
         let first = records.first()?;
         *self = &records[1..];
-        Some(ParsedNumber::of_column(column, name, &first.as_ref()))
+        Some(ParsedNumber::of_column(column, name, first))
     }
 
     fn lemma_of_size(&self) {

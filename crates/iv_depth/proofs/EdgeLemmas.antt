@@ -18,7 +18,7 @@ use Rattle.iv_cover.proofs.DepthLemmas.{depth-cons}
 use Rattle.iv_lines.proofs.InOrderLemmas.{all-recursion}
 use Rattle.iv_lines.proofs.PrecedesLemmas.{Precedes, precedes-from}
 use Rattle.iv_lines.proofs.ListLemmas.{Mem}
-use Rattle.iv_locators.proofs.SequenceLemmas.{is_from, from-here}
+use Rattle.iv_places.proofs.SequenceLemmas.{is_from, from-here}
 use Rattle.iv_lines.specs.Inside.Intervals.{interval_records}
 use Rattle.iv_lines.specs.Intervals.{record_of_interval}
 use Rattle.iv_lines.specs.declared.interval.Interval.{Interval}

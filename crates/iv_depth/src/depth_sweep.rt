@@ -12,7 +12,7 @@ use crate::depth_rows::{DepthOutput, put_sequence};
 use crate::edges::Edges;
 use iv_bytes::{Sink, WriteFault};
 use iv_lines::{Genome, Interval};
-use iv_locators::{order_neighbors, split_sequence};
+use iv_places::{order_neighbors, split_sequence};
 use std::alloc::{AllocError, Allocator, Global};
 use std::marker::Model;
 

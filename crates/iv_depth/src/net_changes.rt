@@ -5,7 +5,7 @@ ghost use Rattle.iv_depth.specs.Inside.NetChanges.{AreEdgesOf, GivesKeyChange, k
 
 use crate::edges::Edges;
 use iv_ledger::Meter;
-use iv_locators::order_neighbors;
+use iv_places::order_neighbors;
 use iv_track::Track;
 use std::alloc::{AllocError, Allocator};
 
@@ -27,7 +27,6 @@ pub(crate) fn edges_of<A: Allocator + Copy>(
     let mut stops = Vec::with_capacity(alloc, len)?;
     let mut records = track.walk(0, 0, meter);
     while let Some(feature) = records.next(meter) {
-        let feature = feature.as_ref();
         feature.lemma_of_interval();
         starts.push(packed(feature.seq(), feature.start() as u32))?;
         stops.push(packed(feature.seq(), feature.stop() as u32))?;

@@ -288,6 +288,17 @@ impl<K: Drop, V: Drop, A: Allocator + Clone + Drop, O: Order<K> + Drop> Ledger<K
         }
     }
 
+    /// A walk over no entry.
+    pub fn none(&self) -> Walk<'_, K, V, A, O>
+        ensures { result ≡ [] }
+    {
+        Walk {
+            order: &self.order,
+            rest: &[],
+            later: &[],
+        }
+    }
+
     /// All entries, in order. Beginning is one step, and each call of the walk's `next` another.
     pub fn walk_all(&self, meter: &mut Meter) -> Walk<'_, K, V, A, O>
         ensures entries { result ≡ self.now }

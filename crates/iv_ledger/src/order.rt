@@ -3,8 +3,7 @@ ghost use Rattle.std.specs.Prelude.{◌≡◌, ⊤, refl, IfOk};
 ghost use Rattle.std.specs.Cmp.{IsTotalOrder};
 ghost use Rattle.std.specs.declared.cmp.Ordering.{Ordering};
 
-use iv_lines::{Bed3Record, Record};
-use std::alloc::{AllocError, Allocator};
+use std::alloc::AllocError;
 use std::cmp::Ordering;
 
 /// How a ledger reads its keys.
@@ -139,19 +138,5 @@ impl Abbreviated for (u32, bool, u32) {
     fn abbreviation(&self) -> u64 {
         let lower = self.2 / 2;
         halves(self.0, if self.1 { lower + 2_147_483_648 } else { lower })
-    }
-}
-
-/// Its sequence and its start.
-impl<A: Allocator> Abbreviated for Record<A> {
-    fn abbreviation(&self) -> u64 {
-        ((self.seq() as u64) << 32) | self.start()
-    }
-}
-
-/// Its sequence and its start.
-impl Abbreviated for Bed3Record {
-    fn abbreviation(&self) -> u64 {
-        ((self.seq() as u64) << 32) | self.start()
     }
 }

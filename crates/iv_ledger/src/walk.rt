@@ -1,5 +1,5 @@
 //! A walk over entries of a ledger.
-ghost use Rattle.std.specs.Prelude.{◌≡◌, [], All};
+ghost use Rattle.std.specs.Prelude.{◌≡◌, All};
 ghost use Rattle.std.specs.Map.Iter.{TakesFirst};
 ghost use Rattle.iv_ledger.specs.Inside.Chunks.{AreFilled, IsWithin, concatenated, from};
 ghost use Rattle.iv_ledger.specs.Entries.{lent_entry};
@@ -8,7 +8,7 @@ ghost use Rattle.iv_ledger.specs.Steps.{ticked};
 
 use crate::entry_index::EntryIndex;
 use crate::meter::Meter;
-use crate::order::{Abbreviated, Lends, Natural, Order};
+use crate::order::{Lends, Natural, Order};
 use std::alloc::{Allocator, Global};
 use std::marker::Model;
 
@@ -32,19 +32,6 @@ impl<'a, K, V, A: Allocator, O: Order<K>> Model for Walk<'a, K, V, A, O> {
     ghost view = { λ w. map (seen (O.read w.order.now)) (w.rest.now ++ concatenated w.later.now) };
 
     ghost invariant = { λ w. AreFilled w.later.now × All (λ e. O.IsKey w.order.now e.0) (w.rest.now ++ concatenated w.later.now) };
-}
-
-impl<'a, K: Ord + Abbreviated, V, A: Allocator> Walk<'a, K, V, A> {
-    /// A walk over no entry.
-    pub fn none() -> Walk<'a, K, V, A>
-        ensures { result ≡ [] }
-    {
-        Walk {
-            order: &Natural,
-            rest: &[],
-            later: &[],
-        }
-    }
 }
 
 impl<'a, K, V, A: Allocator, O: Order<K>> Walk<'a, K, V, A, O> {

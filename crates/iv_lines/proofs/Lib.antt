@@ -8,7 +8,6 @@ pub mod FileLemmas
 pub mod FileMeaningLemmas
 pub mod BlockLemmas
 pub mod JoinedLemmas
-pub mod BatchLemmas
 pub mod RecordLemmas
 pub mod OrderedLemmas
 pub mod ListLemmas
@@ -17,3 +16,4 @@ pub mod PrecedesLemmas
 pub mod Examples
 pub mod NumberLemmas
 pub mod PieceLemmas
+pub mod SoundLemmas

@@ -8,13 +8,15 @@ use Rattle.bstr.specs.Find.{Nowhere, NoneBefore, Passes, is_byte}
 use Rattle.iv_lines.proofs.LineLemmas.{lines-line, lines-last}
 use Rattle.iv_lines.specs.Lines.{lines, HasNoFeed}
 
-plain-front : (xs : List ℕ) (n : ℕ) → n ≤ length xs → Nowhere (Passes (is_byte 10) xs) 0 n → HasNoFeed (take n xs)
+-- no line feed is in front of the first
+pub plain-front : (xs : List ℕ) (n : ℕ) → n ≤ length xs → Nowhere (Passes (is_byte 10) xs) 0 n → HasNoFeed (take n xs)
 plain-front xs n le none = λ k d within e.
     let short : k < n = omega (arith, length-take n xs) in
     let at : get_or xs k 0 ≡ get_or (take n xs) k d = grind (arith, common_steps) in
     none k (omega arith) short (eq-eqb (get_or xs k 0) 10 (at ∙ e))
 
-plain-all : (xs : List ℕ) → Nowhere (Passes (is_byte 10) xs) 0 (length xs) → HasNoFeed xs
+-- nor in a text in which none was found
+pub plain-all : (xs : List ℕ) → Nowhere (Passes (is_byte 10) xs) 0 (length xs) → HasNoFeed xs
 plain-all xs none = λ k d within e.
     let at : get_or xs k 0 ≡ get_or xs k d = grind (arith, common_steps) in
     none k (omega arith) within (eq-eqb (get_or xs k 0) 10 (at ∙ e))

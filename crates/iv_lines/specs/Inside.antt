@@ -7,7 +7,5 @@ pub mod Intervals
 pub mod RecordText
 pub mod Ordered
 pub mod Read
-pub mod Batches
 pub mod Rests
-pub mod RecordColumns
 pub mod Pieces

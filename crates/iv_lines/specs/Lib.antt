@@ -14,8 +14,8 @@ pub mod GenomeFile
 pub mod Widths
 pub mod FileMeaning
 pub mod Ordered
-pub mod Ascending
 pub mod CoveredPositions
 pub mod RecordText
 pub mod NameHash
+pub mod Bed
 pub mod Inside

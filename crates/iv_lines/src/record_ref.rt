@@ -1,7 +1,7 @@
 //! A record that lends the rest of its line, and how it is read from one.
 ghost use Rattle.std.specs.Prelude.{◌≡◌, ◌<◌, ◌≤◌, ◌↔◌, ◌≢◌, ◌++◌, [], None, IsTrue, MatchOption, IfOk, IfSome, IsOk, IsSome, codes, cond, drop, length, nat_le};
 ghost use Rattle.iv_lines.specs.RecordText.{joined_record, rest_text};
-ghost use Rattle.iv_lines.specs.RecordValue.{strand_of, IsPlaced, IsRecord, part};
+ghost use Rattle.iv_lines.specs.RecordValue.{record_cmp, strand_of, IsPlaced, IsRecord, part};
 ghost use Rattle.iv_lines.specs.Read.{Fits, read, bad_text, column, AreSoundColumns, IsWithin};
 ghost use Rattle.iv_lines.specs.Inside.Read.{AreCells};
 ghost use Rattle.iv_lines.specs.Inside.RecordValue.{beside_cmp, strand_cmp};
@@ -9,10 +9,10 @@ ghost use Rattle.std.specs.Cmp.Lexicographic.{slice_cmp};
 ghost use Rattle.std.specs.Option.{option_cmp};
 ghost use Rattle.std.specs.Ordering.{nat_cmp, ordering_then};
 ghost use Rattle.iv_lines.specs.Intervals.{interval_of, record_of_interval};
+ghost use Rattle.iv_lines.specs.Lines.{HasNoFeed};
 ghost use Rattle.iv_lines.specs.Fields.{columns as columns_of};
 ghost use Rattle.iv_lines.specs.Widths.{IsWidth};
 
-use crate::bed3_record::Bed3Record;
 use crate::fault::RecordFault;
 use crate::genome::Genome;
 use crate::interval::Interval;
@@ -76,10 +76,12 @@ impl<'a> Model for RecordRef<'a> {
 }
 
 impl<'a> RecordRef<'a> {
-    /// The record of this width with this interval, which has a base, and with these columns after the third, as they are in a line:
-    /// as many as the width has, with a TAB between two of them; at width 3 they are empty.
+    /// The record of this width, 3 to 6, with this interval, which has a base, and with these columns after the third, as they are in a
+    /// line: as many as the width has, with a TAB between two of them; at width 3 they are empty.
     pub fn of_rest(interval: Interval, rest: &'a [u8], width: u8) -> RecordRef<'a>
         requires some { interval.start < interval.stop }
+        requires known { IsWidth width }
+        requires plain { HasNoFeed rest.now }
         requires none { width < 4 → rest.now ≡ [] }
         requires whole { 4 ≤ width → codes "\t" ++ rest.now ≡ rest_text (joined_record interval.seq interval.start interval.stop rest.now width) }
         ensures { result ≡ joined_record interval.seq interval.start interval.stop rest.now width }
@@ -102,7 +104,8 @@ impl<'a> RecordRef<'a> {
     /// All columns after the third, with a TAB between two of them, `None` at width 3.
     pub fn rest(&self) -> Option<&'a [u8]>
         ensures text { MatchOption result (rest_text self.now ≡ []) (λ rest. codes "\t" ++ rest.now ≡ rest_text self.now) }
-        ensures none { result ≡ None → self.now.width < 4 }
+        ensures none { result ≡ None → self.now.width ≡ 3 }
+        ensures plain { IfSome result (λ rest. HasNoFeed rest.now) }
         ensures some { IfSome result (λ rest. (4 ≤ self.now.width) × (joined_record self.now.seq self.now.start self.now.stop rest.now self.now.width ≡ self.now)) }
     {
         if self.width < 4 {
@@ -134,11 +137,23 @@ impl<'a> RecordRef<'a> {
     /// The order of two records by their columns after the third. It is apart from the whole order, since most records differ in
     /// their intervals, and a search compares many.
     #[inline(never)]
-    pub(crate) fn compare_beside(&self, other: &RecordRef<'_>) -> Ordering
+    fn compare_beside(&self, other: &RecordRef<'_>) -> Ordering
         ensures { result ≡ beside_cmp self.now other.now }
     {
         let (width, other_width) = (self.width, other.width);
         compare_columns(&self.others(), width, &other.others(), other_width)
+    }
+
+    /// The order of two records in a track. The columns after the third are looked at only if the intervals are equal.
+    #[inline(always)]
+    pub fn compare(&self, other: &RecordRef<'_>) -> Ordering
+        ensures { result ≡ record_cmp self.now other.now }
+    {
+        let intervals = self.interval.cmp(&other.interval);
+        if intervals.is_ne() {
+            return intervals;
+        }
+        self.compare_beside(other)
     }
 
     /// Its interval.
@@ -211,21 +226,10 @@ impl<'a> RecordRef<'a> {
 
     /// How many columns it has, 3 to 6.
     pub fn width(&self) -> u8
-        ensures { result ≡ self.now.width }
+        ensures value { result ≡ self.now.width }
+        ensures known { IsWidth result }
     {
         self.width
-    }
-
-    /// The same record in 12 bytes, if it has three columns.
-    #[inline(always)]
-    pub fn to_bed3(&self) -> Option<Bed3Record>
-        ensures same { IfSome result (λ bed3. bed3 ≡ self.now) }
-        ensures three { IsSome result ↔ (self.now.width ≡ 3) }
-    {
-        if self.width != 3 {
-            return None;
-        }
-        Some(Bed3Record::new(self.interval))
     }
 
     /// Whether it is a record of this width on this genome.

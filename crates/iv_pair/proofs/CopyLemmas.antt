@@ -6,11 +6,11 @@ use Rattle.std.proofs.lemmas.List.Sums.{length-filter}
 use Rattle.iv_lines.specs.CoveredPositions.{covers}
 use Rattle.iv_lines.specs.Ordered.{AreInOrder}
 use Rattle.iv_lines.specs.RecordValue.{RecordValue}
-use Rattle.iv_locators.specs.Cover.{is_covered}
+use Rattle.iv_places.specs.Cover.{is_covered}
 use Rattle.iv_lines.specs.Intervals.{bare}
-use Rattle.iv_locators.specs.Inside.Places.{place_at, record_at, records_at}
-use Rattle.iv_locators.specs.declared.place.Place.{Place}
-use Rattle.iv_locators.proofs.BareLemmas.{count-bare}
+use Rattle.iv_places.specs.Inside.Places.{place_at, record_at, records_at}
+use Rattle.iv_places.specs.declared.place.Place.{Place}
+use Rattle.iv_places.proofs.BareLemmas.{count-bare}
 use Rattle.iv_track.specs.Regions.{overlaps, hits}
 use Rattle.iv_pair.specs.Inside.PairPrinters.{CountAlike}
 use Rattle.iv_pair.specs.Inside.Counts.{ends_by, is_up_to}

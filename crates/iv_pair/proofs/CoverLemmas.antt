@@ -10,7 +10,7 @@ use Rattle.iv_cover.specs.Depth.{depth}
 use Rattle.iv_cover.specs.Runs.{Run}
 use Rattle.iv_cover.proofs.DepthLemmas.{depth-cons}
 use Rattle.iv_lines.proofs.ListLemmas.{all-mem, any-found, any-at, same_tests}
-use Rattle.iv_locators.specs.Cover.{is_covered}
+use Rattle.iv_places.specs.Cover.{is_covered}
 use Rattle.iv_track.specs.Regions.{overlaps}
 use Rattle.iv_pair.specs.Hits.{hits_of}
 use Rattle.iv_pair.specs.IntersectRows.{intersect_rows, record_line}

@@ -2,7 +2,7 @@
 use Rattle.std.specs.Prelude.{◌≡◌, ◌<◌, ℕ, Bool, true, false, List, All}
 use Rattle.iv_lines.specs.Genome.{Sequences}
 use Rattle.iv_lines.specs.RecordValue.{RecordValue}
-use Rattle.iv_locators.specs.Cover.{is_covered}
+use Rattle.iv_places.specs.Cover.{is_covered}
 use Rattle.iv_pair.specs.PairRows.{pair_text}
 use Rattle.iv_pair.specs.declared.intersect.IntersectOutput.TheVariants.{Shared, SharedAndHit, Whole, WholeAndHit, IfHit, IfNoHit, Count}
 use Rattle.iv_pair.specs.declared.pair_rows.PairOutput.{PairOutput}

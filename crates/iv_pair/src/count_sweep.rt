@@ -11,7 +11,7 @@ ghost use Rattle.iv_pair.specs.declared.pair_rows.PairOutput.TheVariants.{Inters
 use crate::intersect::put_count;
 use iv_bytes::{Sink, WriteFault};
 use iv_lines::{BedRecord, Genome};
-use iv_locators::{Place, PlacedRecords};
+use iv_places::{Place, PlacedRecords};
 use std::alloc::{AllocError, Allocator, Global};
 use std::marker::Model;
 

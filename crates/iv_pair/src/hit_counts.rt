@@ -7,7 +7,7 @@ use crate::count_sweep::{End, count_ends, count_starts, ends_of};
 use crate::intervals::intervals_of;
 use crate::second::Second;
 use iv_ledger::Meter;
-use iv_locators::Places;
+use iv_places::Places;
 use std::alloc::{AllocError, Allocator};
 use std::marker::Model;
 

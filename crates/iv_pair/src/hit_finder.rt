@@ -10,8 +10,8 @@ use crate::hits::{Hits, is_from};
 use crate::second::{Second, first_start};
 use arrayvec::ArrayVec;
 use iv_ledger::Meter;
-use iv_lines::BedRecord;
-use iv_track::{TrackRecord, TrackRecords};
+use iv_lines::{BedRecord, RecordRef};
+use iv_track::TrackRecords;
 use std::alloc::Allocator;
 use std::marker::Model;
 
@@ -27,7 +27,7 @@ const MOST_CARRIED: usize = 64;
 #[derive(Drop)]
 pub(crate) struct HitFinder<'a, A: Allocator + Copy> {
     second: &'a Second<A>,
-    carried: Carried<'a, A>,
+    carried: Carried<'a>,
     walk: TrackRecords<'a, A>,
     // The interval that was sought last.
     seq: u32,
@@ -155,7 +155,7 @@ fn begins_from<A: Allocator + Copy>(
 /// Goes on over records that start at this position or before it, at most so many, and carries those that reach past it. It stops
 /// at one of them if there is no room.
 fn take_begun<'a, A: Allocator + Copy>(
-    carried: &mut Carried<'a, A>,
+    carried: &mut Carried<'a>,
     walk: &mut TrackRecords<'a, A>,
     seq: u32,
     start: u64,
@@ -192,11 +192,11 @@ fn take_begun<'a, A: Allocator + Copy>(
 ///
 /// Its model is their list.
 #[derive(Drop)]
-struct Carried<'a, A: Allocator + Copy> {
-    slots: ArrayVec<Option<TrackRecord<'a, A>>, MOST_CARRIED>,
+struct Carried<'a> {
+    slots: ArrayVec<Option<RecordRef<'a>>, MOST_CARRIED>,
 }
 
-impl<'a, A: Allocator + Copy> Model for Carried<'a, A> {
+impl<'a> Model for Carried<'a> {
     ghost use Rattle.std.specs.Prelude.{List};
     ghost use Rattle.iv_lines.specs.RecordValue.{RecordValue};
     ghost use Rattle.iv_pair.specs.Inside.HitFinder.{held};
@@ -206,7 +206,7 @@ impl<'a, A: Allocator + Copy> Model for Carried<'a, A> {
     ghost view = { λ c. held c.slots.items };
 }
 
-impl<'a, A: Allocator + Copy> Carried<'a, A> {
+impl<'a> Carried<'a> {
     /// No records.
     fn none() -> Self
         ensures { result ≡ [] }
@@ -217,7 +217,7 @@ impl<'a, A: Allocator + Copy> Carried<'a, A> {
     }
 
     /// The records, each in a slot.
-    fn slots(&self) -> &[Option<TrackRecord<'a, A>>]
+    fn slots(&self) -> &[Option<RecordRef<'a>>]
         ensures held { held result.now ≡ self.now }
         ensures few { length result.now ≤ 64 }
     {
@@ -232,7 +232,7 @@ impl<'a, A: Allocator + Copy> Carried<'a, A> {
     }
 
     /// One more after them, if there is room.
-    fn push(&mut self, feature: TrackRecord<'a, A>) -> bool
+    fn push(&mut self, feature: RecordRef<'a>) -> bool
         ensures pushed { result ≡ true → self.new ≡ self.old ++ feature.entry ∷ [] }
         ensures full { result ≡ false → self.new ≡ self.old }
     {
@@ -252,7 +252,7 @@ impl<'a, A: Allocator + Copy> Carried<'a, A> {
 }
 
 /// Whether a slot has a record with this position.
-fn is_kept<A: Allocator + Copy>(slot: &Option<TrackRecord<'_, A>>, seq: u32, position: u64) -> bool
+fn is_kept(slot: &Option<RecordRef<'_>>, seq: u32, position: u64) -> bool
     ensures { result ≡ keeps (covers seq position) slot.now }
 {
     match slot {

@@ -7,8 +7,8 @@ ghost use Rattle.iv_pair.specs.Inside.HitFinder.{held};
 ghost use Rattle.iv_track.specs.Regions.{overlaps, hits};
 
 use iv_ledger::Meter;
-use iv_lines::BedRecord;
-use iv_track::{TrackRecord, TrackRecords};
+use iv_lines::{BedRecord, RecordRef};
+use iv_track::TrackRecords;
 use std::alloc::{Allocator, Global};
 use std::marker::Model;
 
@@ -18,7 +18,7 @@ use std::marker::Model;
 #[derive(Drop)]
 pub struct Hits<'a, A: Allocator + Copy = Global> {
     // Hits that are before those of the walk.
-    carried: &'a [Option<TrackRecord<'a, A>>],
+    carried: &'a [Option<RecordRef<'a>>],
     walk: TrackRecords<'a, A>,
     meter: Meter,
     seq: u32,
@@ -43,7 +43,7 @@ impl<'a, A: Allocator + Copy> Model for Hits<'a, A> {
 impl<'a, A: Allocator + Copy> Hits<'a, A> {
     /// The hits that are carried, and after them those among the records of a walk.
     pub(crate) fn of(
-        carried: &'a [Option<TrackRecord<'a, A>>],
+        carried: &'a [Option<RecordRef<'a>>],
         walk: TrackRecords<'a, A>,
         seq: u32,
         start: u64,
@@ -79,13 +79,13 @@ impl<'a, A: Allocator + Copy> Hits<'a, A> {
 }
 
 impl<'a, A: Allocator + Copy> Iterator for Hits<'a, A> {
-    type Item = TrackRecord<'a, A>;
+    type Item = RecordRef<'a>;
 
     ghost next_gives = { YieldsFirst (λ h. h) };
 
     ghost remaining = { item_count (λ h. h) };
 
-    fn next(&mut self) -> Option<TrackRecord<'a, A>> {
+    fn next(&mut self) -> Option<RecordRef<'a>> {
         while let [slot, others @ ..] = self.carried {
             self.carried = others;
             if let Some(feature) = slot {

@@ -1,13 +1,12 @@
 //! A copy of the second file that has its intervals alone.
 ghost use Rattle.std.specs.Prelude.{◌≡◌, IfOk, map};
 ghost use Rattle.iv_lines.specs.Intervals.{bare};
-ghost use Rattle.iv_locators.specs.Inside.Places.{HasBase, place_at};
+ghost use Rattle.iv_places.specs.Inside.Places.{HasBase, place_at};
 
 use crate::second::Second;
 use iv_ledger::Meter;
-use iv_lines::Interval;
-use iv_locators::{Place, Places};
-use iv_track::TrackRecord;
+use iv_lines::{Interval, RecordRef};
+use iv_places::{Place, Places};
 use std::alloc::{AllocError, Allocator};
 
 /// The intervals of a second file, in its order, copies repeated: 16 bytes for each.
@@ -26,7 +25,7 @@ pub(crate) fn intervals_of<A: Allocator + Copy>(
 }
 
 /// The place of a record of which only the interval is looked at.
-fn place_of<A: Allocator + Copy>(feature: &TrackRecord<'_, A>) -> Place
+fn place_of(feature: &RecordRef<'_>) -> Place
     ensures is { result ≡ place_at feature.now 0 }
     ensures base { HasBase result }
 {

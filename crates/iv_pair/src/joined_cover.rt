@@ -16,8 +16,7 @@ use crate::second::Second;
 use iv_bytes::{Sink, WriteFault};
 use iv_ledger::Meter;
 use iv_lines::{BedRecord, Genome, RecordRef};
-use iv_locators::{PlacedRecords, Places};
-use iv_track::TrackRecord;
+use iv_places::{PlacedRecords, Places};
 use std::alloc::{AllocError, Allocator};
 use std::marker::Model;
 
@@ -74,7 +73,7 @@ impl<A: Allocator + Copy> JoinedCover<A> {
         &mut self,
         output: PairOutput,
         genome: &Genome<A>,
-        feature: &TrackRecord<'_, A>,
+        feature: &RecordRef<'_>,
         sink: &mut S,
     ) -> Result<(), WriteFault>
         ensures text { Puts (S.state sink.old) (S.state sink.new) result (pair_rows output genome.now feature.now self.old.records) }

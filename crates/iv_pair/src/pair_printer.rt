@@ -15,8 +15,7 @@ use crate::pair_rows::{PairOutput, put_pair_rows};
 use crate::second::Second;
 use iv_bytes::{Sink, WriteFault};
 use iv_ledger::Meter;
-use iv_lines::{BedRecord, Genome};
-use iv_track::TrackRecord;
+use iv_lines::{BedRecord, Genome, RecordRef};
 use std::alloc::{AllocError, Allocator};
 use std::marker::Model;
 
@@ -77,7 +76,7 @@ impl<'a, A: Allocator + Copy> PairPrinter<'a, A> {
         &mut self,
         copy: &mut Option<FileCopy<A>>,
         genome: &Genome<A>,
-        feature: &TrackRecord<'_, A>,
+        feature: &RecordRef<'_>,
         meter: &mut Meter,
         sink: &mut S,
     ) -> Result<(), WriteFault>
@@ -113,7 +112,7 @@ impl<'a, A: Allocator + Copy> PairPrinter<'a, A> {
     fn put_by_hits<S: Sink>(
         &mut self,
         genome: &Genome<A>,
-        feature: &TrackRecord<'_, A>,
+        feature: &RecordRef<'_>,
         meter: &mut Meter,
         sink: &mut S,
     ) -> Result<(), WriteFault>
@@ -170,7 +169,7 @@ fn put_by_copy<A: Allocator + Copy, S: Sink>(
     output: PairOutput,
     copy: &mut FileCopy<A>,
     genome: &Genome<A>,
-    feature: &TrackRecord<'_, A>,
+    feature: &RecordRef<'_>,
     sink: &mut S,
 ) -> Result<(), WriteFault>
     ensures { (second : List RecordValue) → ServesAs output second copy.old → (ServesAs output second copy.new) × Puts (S.state sink.old) (S.state sink.new) result (pair_rows output genome.now feature.now second) }
@@ -191,12 +190,12 @@ fn put_by_copy<A: Allocator + Copy, S: Sink>(
 
 /// Hits of which it is counted how many are looked at: an iterator. Its model is the list of those that are left.
 #[derive(Drop)]
-struct CountedHits<'a, 'm, A: Allocator + Copy> {
+struct CountedHits<'a, A: Allocator + Copy> {
     hits: Hits<'a, A>,
-    looked: &'m mut u64,
+    looked: &'a mut u64,
 }
 
-impl<'a, 'm, A: Allocator + Copy> Model for CountedHits<'a, 'm, A> {
+impl<'a, A: Allocator + Copy> Model for CountedHits<'a, A> {
     ghost use Rattle.std.specs.Prelude.{List};
     ghost use Rattle.iv_lines.specs.RecordValue.{RecordValue};
 
@@ -205,14 +204,14 @@ impl<'a, 'm, A: Allocator + Copy> Model for CountedHits<'a, 'm, A> {
     ghost view = { λ h. h.hits };
 }
 
-impl<'a, 'm, A: Allocator + Copy> Iterator for CountedHits<'a, 'm, A> {
-    type Item = TrackRecord<'a, A>;
+impl<'a, A: Allocator + Copy> Iterator for CountedHits<'a, A> {
+    type Item = RecordRef<'a>;
 
     ghost next_gives = { YieldsFirst (λ h. h) };
 
     ghost remaining = { item_count (λ h. h) };
 
-    fn next(&mut self) -> Option<TrackRecord<'a, A>> {
+    fn next(&mut self) -> Option<RecordRef<'a>> {
         let before = self.hits.steps();
         let next = self.hits.next();
         let steps = self.hits.steps().saturating_sub(before);

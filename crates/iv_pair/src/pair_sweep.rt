@@ -13,7 +13,7 @@ use crate::hits::{is_from, overlaps};
 use crate::pair_rows::{PairOutput, put_pair_rows};
 use iv_bytes::{Sink, WriteFault};
 use iv_lines::{BedRecord, Genome, RecordRef};
-use iv_locators::PlacedRecords;
+use iv_places::PlacedRecords;
 use std::alloc::{AllocError, Allocator, Global};
 use std::marker::Model;
 

@@ -10,7 +10,8 @@ ghost use Rattle.iv_pair.specs.Inside.Lengths.{AreLengths, AreUpTo};
 use crate::hits::Hits;
 use crate::lengths::{Lengths, length_of, lengths_of, longest, lower, raise};
 use iv_ledger::Meter;
-use iv_lines::{Batches, Record, RecordBatches};
+use iv_lines::RecordRef;
+use iv_places::Places;
 use iv_track::{EditFault, Track, TrackRecords};
 use std::alloc::{AllocError, Allocator, Global};
 use std::marker::Model;
@@ -39,37 +40,14 @@ impl<A: Allocator + Copy> Model for Second<A> {
 impl<A: Allocator + Copy> Second<A> {
     /// The second file of these records.
     ///
-    /// The limit is at most 100,000,000 records. There are no more records than the limit, and each has the width, 3 to 6.
-    pub fn new(
-        alloc: A,
-        width: u8,
-        limit: u32,
-        records: Vec<Record<A>, A>,
-    ) -> Result<Self, AllocError>
+    /// The limit is at most 100,000,000 records. There are no more records than the limit.
+    pub fn new(alloc: A, limit: u32, records: Places<A>) -> Result<Self, AllocError>
         requires limit { limit ≤ most_records }
-        requires few { vec_len records ≤ limit }
-        requires width { All (λ r. r.width ≡ width) records.items }
-        ensures { IfOk result (λ s. s ≡ record { records = ordered records.items; width = width; limit = limit }) }
-    {
-        let records = RecordBatches::of(Batches::of(records));
-        Second::from_batches(alloc, width, limit, records)
-    }
-
-    /// The second file of these records, as [`Second::new`] makes it. Their vectors are freed one after the other while the track is
-    /// built.
-    pub fn from_batches(
-        alloc: A,
-        width: u8,
-        limit: u32,
-        records: RecordBatches<A>,
-    ) -> Result<Self, AllocError>
-        requires limit { limit ≤ most_records }
-        requires few { length records ≤ limit }
-        requires width { All (λ r. r.width ≡ width) records }
-        ensures { IfOk result (λ s. s ≡ record { records = ordered records; width = width; limit = limit }) }
+        requires few { length records.records ≤ limit }
+        ensures { IfOk result (λ s. s ≡ record { records = ordered records.records; width = records.width; limit = limit }) }
     {
         let mut meter = Meter::new();
-        let track = Track::from_held(alloc, width, limit, records)?;
+        let track = Track::from_places(alloc, limit, records)?;
         let lengths = lengths_of(alloc, &track, &mut meter)?;
         Ok(Second {
             alloc,
@@ -108,11 +86,11 @@ impl<A: Allocator + Copy> Second<A> {
     ///
     /// E12 exactly if there are as many records as the limit, else E22, and that only for a record without a copy.
     /// All is as before.
-    pub fn add(&mut self, feature: Record<A>, meter: &mut Meter) -> Result<(), EditFault>
-        requires { feature.width ≡ self.old.width }
+    pub fn add(&mut self, feature: &RecordRef<'_>, meter: &mut Meter) -> Result<(), EditFault>
+        requires { feature.now.width ≡ self.old.width }
         ensures room { OnOk result (length self.old.records < self.old.limit) }
-        ensures ok { OnOk result (self.new ≡ with_record feature self.old) }
-        ensures why { IfErr result (RefusesAdd self.old feature) }
+        ensures ok { OnOk result (self.new ≡ with_record feature.now self.old) }
+        ensures why { IfErr result (RefusesAdd self.old feature.now) }
         ensures err { OnErr result (self.new ≡ self.old) }
         ensures steps { TakesUpTo meter.old meter.new 16 }
     {
@@ -128,7 +106,7 @@ impl<A: Allocator + Copy> Second<A> {
     /// # Errors
     ///
     /// E11 exactly if no copy is there. All is as before.
-    pub fn remove(&mut self, feature: &Record<A>, meter: &mut Meter) -> Result<(), EditFault>
+    pub fn remove(&mut self, feature: &RecordRef<'_>, meter: &mut Meter) -> Result<(), EditFault>
         ensures there { OnOk result (0 < copies self.old.records feature.now) }
         ensures ok { OnOk result (self.new ≡ without_record feature.now self.old) }
         ensures why { IfErr result (RefusesRemove self.old feature.now) }
@@ -149,14 +127,14 @@ impl<A: Allocator + Copy> Second<A> {
     /// All is as before.
     pub fn replace(
         &mut self,
-        old: &Record<A>,
-        new: Record<A>,
+        old: &RecordRef<'_>,
+        new: &RecordRef<'_>,
         meter: &mut Meter,
     ) -> Result<(), EditFault>
-        requires { new.width ≡ self.old.width }
+        requires { new.now.width ≡ self.old.width }
         ensures there { OnOk result (0 < copies self.old.records old.now) }
-        ensures ok { OnOk result (self.new ≡ with_replaced old.now new self.old) }
-        ensures why { IfErr result (RefusesReplace self.old old.now new) }
+        ensures ok { OnOk result (self.new ≡ with_replaced old.now new.now self.old) }
+        ensures why { IfErr result (RefusesReplace self.old old.now new.now) }
         ensures err { OnErr result (self.new ≡ self.old) }
         ensures steps { TakesUpTo meter.old meter.new 16 }
     {
@@ -234,21 +212,21 @@ pub(crate) fn first_start(position: u64, longest: u64) -> u64
 fn stage<A: Allocator + Copy>(
     track: &mut Track<A>,
     lengths: &mut Lengths<A>,
-    feature: Record<A>,
+    feature: &RecordRef<'_>,
     meter: &mut Meter,
 ) -> Result<(), AllocError>
     requires counted { AreLengths lengths.old track.old.records }
     requires room { length track.old.records ≤ track.old.limit }
-    requires width { feature.width ≡ track.old.width }
-    ensures ok { OnOk result (track.new ≡ with_record feature track.old) }
-    ensures memory { OnErr result (copies track.old.records feature ≡ 0) }
+    requires width { feature.now.width ≡ track.old.width }
+    ensures ok { OnOk result (track.new ≡ with_record feature.now track.old) }
+    ensures memory { OnErr result (copies track.old.records feature.now ≡ 0) }
     ensures err { OnErr result (track.new ≡ track.old) }
     ensures counted { AreLengths lengths.new track.new.records }
     ensures steps { TakesUpTo meter.old meter.new 7 }
 {
     // 32 bits count the records of a track.
     let _few = track.len();
-    let length = length_of(&feature);
+    let length = length_of(feature);
     raise(lengths, length, meter)?;
     match track.stage(feature, meter) {
         Ok(()) => Ok(()),
@@ -267,7 +245,7 @@ fn stage<A: Allocator + Copy>(
 fn remove_record<A: Allocator + Copy>(
     track: &mut Track<A>,
     lengths: &mut Lengths<A>,
-    feature: &Record<A>,
+    feature: &RecordRef<'_>,
     meter: &mut Meter,
 ) -> Result<(), EditFault>
     requires counted { AreLengths lengths.old track.old.records }

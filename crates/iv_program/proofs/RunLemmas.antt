@@ -25,7 +25,11 @@ use Rattle.iv_args.specs.declared.plan.Slot.{Slot}
 use Rattle.iv_args.specs.declared.plan.Slot.TheVariants.{First, Other, Bases}
 use Rattle.iv_run.specs.Loading.{IsReport}
 use Rattle.iv_cli.specs.Loading.{loaded}
-use Rattle.iv_run.specs.RunFiles.{AreAllWanted, AreOf, FilesRead}
+use Rattle.iv_lines.specs.RecordValue.{RecordValue}
+use Rattle.iv_lines.specs.declared.fault.LoadFault.{LoadFault}
+use Rattle.iv_fasta.specs.Fasta.{Bases as FoundBases}
+use Rattle.iv_fasta.specs.FastaReading.{Wanted}
+use Rattle.iv_run.specs.RunFiles.{AreOf, FilesRead, IsFasta, IsIfNamed}
 use Rattle.iv_run.specs.declared.fault.CliFault.{CliFault}
 use Rattle.iv_run.specs.declared.fault.FileFault.{FileFault}
 use Rattle.iv_run.specs.declared.fault.FileFault.TheVariants as file
@@ -37,8 +41,8 @@ use Rattle.iv_program.specs.Files.{FilesState, IsText, after_one, after_reading}
 use Rattle.iv_program.specs.Limits.{most_file_bytes}
 use Rattle.iv_program.specs.Program.{Finishes, Runs, Serves, world}
 use Rattle.iv_program.specs.Runs.{World, DoesWith, HasRead, HasNotRead}
-use Rattle.iv_program.specs.Inside.Files.{HasText, IsWhy, ReadsNamed, StopsAt, StopsFile, names_of}
-use Rattle.iv_program.specs.Inside.Runs.{DoesOne, EndsRun, Flushes, HasTexts, ReadsAll, RunsPlan, StopsPlan, stopped_at}
+use Rattle.iv_program.specs.Inside.Files.{AreRead, HasText, IsWhy, ReadsNamed, StopsAt, StopsFile, names_of}
+use Rattle.iv_program.specs.Inside.Runs.{DoesOne, EndsRun, Flushes, HasBeds, HasTexts, ReadsAll, RunsPlan, StopsPlan, stopped_at}
 use Rattle.iv_program.specs.Texts.{Texts, AreTexts, IsTextIfNamed, names_before}
 use Rattle.iv_program.specs.declared.program.Ended.{Ended}
 
@@ -71,11 +75,6 @@ named-has : (files : FilesState) (name text : Option (List ℕ)) → IsTextIfNam
 named-has files None text has = All-nil (HasText files)
 named-has files (Some name) None has = absurd has
 named-has files (Some name) (Some text) has = All-cons (HasText files) name [] (text, has) (All-nil (HasText files))
-
--- the files of these names were read, one after another
-pub record AreRead (names : List (List ℕ)) (old new : FilesState) : Type 0 where
-  pub have : All (HasText old) names
-  pub after : new ≡ after_reading names old
 
 pub none-read : (files : FilesState) → AreRead [] files files
 none-read files = record { have = All-nil (HasText files); after = refl }
@@ -111,23 +110,48 @@ module _ (plan : RunPlan) {f0 f1 : FilesState} {sizes : List ℕ} (read_sizes : 
       pub before-bases : AreRead (names_before plan Bases) f0 f3
       before-bases = reads-more (names_before plan Other) before-other read_other
 
-      module _ {f4 : FilesState} {bases : Option (List ℕ)} (read_bases : ReadsNamed f3 plan.bases bases f4) where
-        pub all-read : AreRead (names_of plan) f0 f4
-        all-read = reads-more (names_before plan Bases) before-bases read_bases
+      -- the genome file and the BED files are those of their texts
+      pub has-beds : (projected : RecordValue → RecordValue) (files : FilesRead) → files.run_genome.width ≡ plan.width → files.run_genome.limit ≡ plan.limit
+          → AreOf projected None sizes first other None files → HasBeds projected plan f0 f3 files
+      has-beds projected files width limit are = record {
+        sizes = sizes;
+        first = first;
+        other = other;
+        is_sizes = read_sizes.is_text;
+        is_first = named-back (names_before plan First) f0 f1 (Some plan.first) (Some first) before-first.after read_first.is_text;
+        is_other = named-back (names_before plan Other) f0 f2 plan.other other before-other.after read_other.is_text;
+        read = before-bases;
+        width_is = width;
+        limit_is = limit;
+        are = are;
+      }
 
-        pub all-texts : AreTexts f0 plan (record { sizes = sizes; first = first; other = other; bases = bases })
-        all-texts = record {
-          sizes = read_sizes.is_text;
-          first = named-back (names_before plan First) f0 f1 (Some plan.first) (Some first) before-first.after read_first.is_text;
-          other = named-back (names_before plan Other) f0 f2 plan.other other before-other.after read_other.is_text;
-          bases = named-back (names_before plan Bases) f0 f3 plan.bases bases before-bases.after read_bases.is_text;
-        }
+-- the FASTA file of a plan was read after the others
+module _ (projected : RecordValue → RecordValue) (plan : RunPlan) {f0 f1 f2 : FilesState} {files : FilesRead} (beds : HasBeds projected plan f0 f1 files)
+    {bases : Option (List ℕ)} (read_bases : ReadsNamed f1 plan.bases bases f2) where
+  pub all-read : f2 ≡ after_reading (names_of plan) f0
+  all-read = (reads-more (names_before plan Bases) beds.read read_bases).after
+
+  abbrev pub plan-texts : Texts
+  plan-texts = record { sizes = beds.sizes; first = beds.first; other = beds.other; bases = bases }
+
+  pub all-texts : AreTexts f0 plan plan-texts
+  all-texts = record {
+    sizes = beds.is_sizes;
+    first = beds.is_first;
+    other = beds.is_other;
+    bases = named-back (names_before plan Bases) f0 f1 plan.bases bases beds.read.after read_bases.is_text;
+  }
+
+  pub has-texts : (wanted : Wanted) (fasta : Option (Result FoundBases LoadFault)) → IsIfNamed (IsFasta wanted files.run_genome.genome) bases fasta
+      → HasTexts projected wanted plan plan-texts (record files { fasta = fasta })
+  has-texts wanted fasta named = record { width_is = beds.width_is; limit_is = beds.limit_is; are = (beds.are.0, beds.are.1, beds.are.2, named) }
 
 -- ---- scripts
 
 -- the session that the files of a plan begin, once they are read
-pub report-of : (plan : RunPlan) (texts : Texts) (files : FilesRead) (r : Result State CliFault) → HasTexts (λ r. r) AreAllWanted plan texts files
-    → ((sizes first : List ℕ) (second fasta_text : Option (List ℕ)) → AreOf (λ r. r) AreAllWanted sizes first second fasta_text files
+pub report-of : (plan : RunPlan) (texts : Texts) (files : FilesRead) (r : Result State CliFault) → HasTexts (λ r. r) None plan texts files
+    → ((sizes first : List ℕ) (second fasta_text : Option (List ℕ)) → AreOf (λ r. r) None sizes first second fasta_text files
     → IsReport r (loaded files.run_genome.width sizes first second fasta_text files.run_genome.limit))
     → IsReport r (loaded plan.width texts.sizes texts.first texts.other texts.bases plan.limit)
 report-of plan texts files r has report =

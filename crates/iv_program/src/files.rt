@@ -1,15 +1,18 @@
 //! Files that are opened by their names, and reading those of a plan.
 ghost use Rattle.std.specs.Prelude.{◌≡◌, List, ℕ, Option, None, Some, IfOk, IfErr, OnOk, OnErr, true, IfSome};
-ghost use Rattle.iv_run.specs.RunFiles.{IsEnoughBeside, IsEnoughOf, IsIfNamed, IsOn, IsParsed};
+ghost use Rattle.std.specs.Option.{option_copied};
+ghost use Rattle.iv_fasta.specs.FastaReading.{Wanted};
+ghost use Rattle.iv_run.specs.RunFiles.{AreAskedFor, AreWantedOf, IsFasta, IsIfNamed, IsOn, IsParsed};
 ghost use Rattle.iv_program.specs.Files.{FilesState, opened, after_opening, after_closing, after_one, after_reading};
 ghost use Rattle.iv_program.specs.Inside.Files.{ReadsNamed, StopsAt, StopsFile, names_of};
-ghost use Rattle.iv_program.specs.Inside.Runs.{HasTexts};
+ghost use Rattle.iv_program.specs.Inside.Runs.{HasBeds, HasTexts};
 ghost use Rattle.iv_program.specs.Texts.{Texts, AreTexts};
 
 use iv_args::{Plan, Slot};
 use iv_bytes::{ReadFault, Source};
 use iv_lines::HoldsRecords;
-use iv_run::{FileFault, HeldFasta, HeldRecords, HoldsFile, RunFiles, RunGenome, read_all};
+use iv_places::Places;
+use iv_run::{FileFault, HeldFasta, HeldRecords, RunFiles, RunGenome, read_all};
 use std::alloc::Allocator;
 
 /// How many bytes a file may have.
@@ -97,14 +100,14 @@ fn read_second<H: HoldsRecords<A>, A: Allocator + Copy, F: InputFiles>(
     }
 }
 
-/// The FASTA file of this name, beside this first file.
-fn read_beside<H: HoldsFile<A>, A: Allocator + Copy, F: InputFiles>(
+/// The FASTA file of this name: the bases that the rows of this first file ask for, or without one all.
+fn read_bases<A: Allocator + Copy, F: InputFiles>(
     files: &mut F,
     name: &[u8],
     run_genome: &RunGenome<A>,
-    first: &HeldRecords<H, A>,
+    first: Option<&HeldRecords<Places<A>, A>>,
 ) -> Result<HeldFasta<A>, FileFault>
-    ensures ok { IfOk result (λ held. (text : List ℕ) × ReadsNamed (F.state files.old) (Some name.now) (Some text) (F.state files.new) × IsEnoughOf (IsEnoughBeside H.is_enough first.now) run_genome.now.genome text held) }
+    ensures ok { IfOk result (λ held. (wanted : Wanted) × (text : List ℕ) × AreAskedFor (option_copied first.entry) wanted × ReadsNamed (F.state files.old) (Some name.now) (Some text) (F.state files.new) × IsFasta wanted run_genome.now.genome text held) }
     ensures err { IfErr result (λ fault. StopsFile (F.state files.old) name.now fault (F.state files.new)) }
 {
     let mut file = files.open(name)?;
@@ -113,31 +116,34 @@ fn read_beside<H: HoldsFile<A>, A: Allocator + Copy, F: InputFiles>(
     read
 }
 
-/// The FASTA file of a plan, if it names one, beside this first file.
-fn read_fasta<H: HoldsFile<A>, A: Allocator + Copy, F: InputFiles>(
+/// The FASTA file of a plan, if it names one: the bases that the rows of this first file ask for, or without one all.
+fn read_fasta<'g, A: Allocator + Copy, F: InputFiles>(
     files: &mut F,
     plan: &Plan<'_, A>,
-    run_genome: &RunGenome<A>,
-    first: &HeldRecords<H, A>,
+    run_genome: &'g RunGenome<A>,
+    first: Option<&'g HeldRecords<Places<A>, A>>,
 ) -> Result<Option<HeldFasta<A>>, SlotFault>
-    ensures ok { IfOk result (λ held. (bases : Option (List ℕ)) × ReadsNamed (F.state files.old) plan.now.bases bases (F.state files.new) × IsIfNamed (IsEnoughOf (IsEnoughBeside H.is_enough first.now) run_genome.now.genome) bases held) }
+    ensures ok { IfOk result (λ held. (wanted : Wanted) × (bases : Option (List ℕ)) × AreAskedFor (option_copied first.entry) wanted × ReadsNamed (F.state files.old) plan.now.bases bases (F.state files.new) × IsIfNamed (IsFasta wanted run_genome.now.genome) bases held) }
     ensures err { IfErr result (λ why. (why.0 ≡ Slot.Bases)
         × ((name : List ℕ) × (plan.now.bases ≡ Some name) × StopsFile (F.state files.old) name why.1 (F.state files.new))) }
 {
     match plan.file(Slot::Bases) {
-        Some(name) => Ok(Some(in_slot(Slot::Bases, read_beside(files, name, run_genome, first))?)),
+        Some(name) => Ok(Some(in_slot(Slot::Bases, read_bases(files, name, run_genome, first))?)),
         None => Ok(None),
     }
 }
 
-/// Reads all files of a plan, in the order of their slots.
-pub(crate) fn read_files<H: HoldsFile<A>, A: Allocator + Copy, F: InputFiles>(
+/// The genome of a run, its first file, and its second one, if the plan names it.
+type Beds<H, A> = (RunGenome<A>, HeldRecords<H, A>, Option<HeldRecords<H, A>>);
+
+/// Reads the genome file and the BED files of a plan, in the order of their slots.
+fn read_beds<H: HoldsRecords<A>, A: Allocator + Copy, F: InputFiles>(
     alloc: A,
     files: &mut F,
     plan: &Plan<'_, A>,
-) -> Result<RunFiles<H, A>, SlotFault>
-    ensures ok { IfOk result (λ read. (texts : Texts) × AreTexts (F.state files.old) plan.now texts × HasTexts H.projected H.is_enough plan.now texts read) }
-    ensures after { OnOk result (F.state files.new ≡ after_reading (names_of plan.now) (F.state files.old)) }
+) -> Result<Beds<H, A>, SlotFault>
+    ensures ok { IfOk result (λ beds. HasBeds H.projected plan.now (F.state files.old) (F.state files.new) (record { run_genome = beds.0; first = beds.1; second = beds.2; fasta = None })) }
+    ensures is_on { IfOk result (λ beds. IsOn H.projected beds.0.genome beds.0.limit beds.1 × IfSome beds.2 (IsOn H.projected beds.0.genome beds.0.limit)) }
     ensures err { IfErr result (λ why. StopsAt plan.now (F.state files.old) (F.state files.new) why.0 why.1) }
 {
     let sizes = in_slot(Slot::Sizes, read_file(alloc, files, plan.sizes_file()))?;
@@ -147,7 +153,41 @@ pub(crate) fn read_files<H: HoldsFile<A>, A: Allocator + Copy, F: InputFiles>(
         read_held(files, plan.first_file(), &run_genome),
     )?;
     let second = read_second(files, plan, &run_genome)?;
-    let fasta = read_fasta(files, plan, &run_genome, &first)?;
+    Ok((run_genome, first, second))
+}
+
+/// Reads all files of a plan, in the order of their slots, with all bases of the FASTA file.
+pub(crate) fn read_files<H: HoldsRecords<A>, A: Allocator + Copy, F: InputFiles>(
+    alloc: A,
+    files: &mut F,
+    plan: &Plan<'_, A>,
+) -> Result<RunFiles<H, A>, SlotFault>
+    ensures ok { IfOk result (λ read. (texts : Texts) × AreTexts (F.state files.old) plan.now texts × HasTexts H.projected None plan.now texts read) }
+    ensures after { OnOk result (F.state files.new ≡ after_reading (names_of plan.now) (F.state files.old)) }
+    ensures err { IfErr result (λ why. StopsAt plan.now (F.state files.old) (F.state files.new) why.0 why.1) }
+{
+    let (run_genome, first, second) = read_beds(alloc, files, plan)?;
+    let fasta = read_fasta(files, plan, &run_genome, None)?;
+    Ok(RunFiles {
+        run_genome,
+        first,
+        second,
+        fasta,
+    })
+}
+
+/// Reads all files of a plan, in the order of their slots, with the bases of those sequences that a record of the first file is on.
+pub(crate) fn read_files_of_rows<A: Allocator + Copy, F: InputFiles>(
+    alloc: A,
+    files: &mut F,
+    plan: &Plan<'_, A>,
+) -> Result<RunFiles<Places<A>, A>, SlotFault>
+    ensures ok { IfOk result (λ read. (texts : Texts) × (wanted : Wanted) × AreTexts (F.state files.old) plan.now texts × HasTexts (λ r. r) wanted plan.now texts read × AreWantedOf wanted read.first) }
+    ensures after { OnOk result (F.state files.new ≡ after_reading (names_of plan.now) (F.state files.old)) }
+    ensures err { IfErr result (λ why. StopsAt plan.now (F.state files.old) (F.state files.new) why.0 why.1) }
+{
+    let (run_genome, first, second) = read_beds(alloc, files, plan)?;
+    let fasta = read_fasta(files, plan, &run_genome, Some(&first))?;
     Ok(RunFiles {
         run_genome,
         first,

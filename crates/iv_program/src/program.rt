@@ -15,18 +15,18 @@ ghost use Rattle.iv_program.specs.Outcomes.{IsSound, DoesAll, Hold, PrintsJust};
 ghost use Rattle.iv_program.specs.Program.{Runs, world};
 ghost use Rattle.iv_program.specs.Runs.{World};
 ghost use Rattle.iv_program.specs.Inside.Files.{StopsAt, names_of};
-ghost use Rattle.iv_run.specs.RunFiles.{AreAllWanted};
-ghost use Rattle.iv_run.specs.Inside.RunFiles.{AreWanted};
+ghost use Rattle.iv_fasta.specs.FastaReading.{Wanted};
+ghost use Rattle.iv_run.specs.RunFiles.{AreWantedOf};
 ghost use Rattle.iv_program.specs.Inside.Runs.{EndsRun, HasTexts, PrintsView, ReadsAll, StopsPlan};
 ghost use Rattle.iv_program.specs.Texts.{Texts, AreTexts};
 ghost use Rattle.iv_program.specs.declared.program.Ended.{Ended};
 
-use crate::files::{InputFiles, SlotFault, read_files};
+use crate::files::{InputFiles, SlotFault, read_files, read_files_of_rows};
 use crate::script_run::run_session;
 use iv_args::{Notice, Plan};
 use iv_bytes::{Flush, Sink, Source, put_all};
-use iv_lines::{Batches, Interval};
-use iv_locators::Places;
+use iv_lines::Interval;
+use iv_places::Places;
 use iv_run::{CliFault, ExitReason, IntervalsView, RunFiles, shot_of_held};
 use iv_session::SeesRefusals;
 use std::alloc::Allocator;
@@ -82,10 +82,10 @@ fn ending_of(done: Result<(), CliFault>) -> ExitReason
 /// Prints a view whose rows depend on nothing of a record except its interval, of the files that were read.
 fn shot_of_intervals<A: Allocator + Copy, W: Sink>(
     view: IntervalsView,
-    files: RunFiles<Batches<Interval, A>, A>,
+    files: RunFiles<Vec<Interval, A>, A>,
     output: &mut W,
 ) -> ExitReason
-    ensures { (plan : RunPlan) (texts : Texts) → AskForIntervals plan.view view → HasTexts bare AreAllWanted plan texts files
+    ensures { (plan : RunPlan) (texts : Texts) → AskForIntervals plan.view view → HasTexts bare None plan texts files
         → PrintsView plan texts (W.state output.old) (W.state output.new) result }
 {
     ending_of(files.print(view, output))
@@ -99,7 +99,7 @@ fn shot_of_columns<A: Allocator + Copy, W: Sink>(
     output: &mut W,
 ) -> ExitReason
     requires { AskForColumns plan.now.view }
-    ensures { (texts : Texts) → HasTexts (λ r. r) AreWanted plan.now texts files → PrintsView plan.now texts (W.state output.old) (W.state output.new) result }
+    ensures { (texts : Texts) (wanted : Wanted) → HasTexts (λ r. r) wanted plan.now texts files → AreWantedOf wanted files.first → PrintsView plan.now texts (W.state output.old) (W.state output.new) result }
 {
     ending_of(shot_of_held(alloc, plan, files, output))
 }
@@ -121,7 +121,7 @@ fn print_view<A: Allocator + Copy, F: InputFiles, W: Sink>(
         let read = read_files(alloc, files, plan)?;
         return Ok(shot_of_intervals(view, read, output));
     }
-    let read = read_files(alloc, files, plan)?;
+    let read = read_files_of_rows(alloc, files, plan)?;
     Ok(shot_of_columns(alloc, plan, read, output))
 }
 

@@ -1,6 +1,5 @@
 //! A run of a script over the session that the files of a plan begin.
-ghost use Rattle.std.specs.Prelude.{◌≡◌, ◌≤◌, IfOk, IfErr, OnOk, OnErr};
-ghost use Rattle.iv_run.specs.RunFiles.{AreAllWanted};
+ghost use Rattle.std.specs.Prelude.{◌≡◌, ◌≤◌, None, IfOk, IfErr, OnOk, OnErr};
 ghost use Rattle.iv_session.specs.Streams.{streams};
 ghost use Rattle.iv_args.specs.Arguments.{RunPlan, most_limit};
 ghost use Rattle.iv_program.specs.Files.{after_reading};
@@ -13,7 +12,7 @@ use crate::program::Ended;
 use iv_args::Plan;
 use iv_bytes::{Sink, Source};
 use iv_cli::{begin_session, ending_of_run};
-use iv_lines::RecordBatches;
+use iv_places::Places;
 use iv_run::{ExitReason, RunFiles};
 use iv_session::{RunFault, ScriptLimits, SeesRefusals, Summary, run_script};
 use std::alloc::Allocator;
@@ -35,7 +34,7 @@ fn line_of_stop(done: &Result<Summary, RunFault>) -> u64
 /// Runs the script on the input, which may have at most `limit` lines, over the session that the files of a plan begin.
 fn run_over<A: Allocator + Copy, R: Source, W: Sink, E: Sink, O: SeesRefusals>(
     alloc: A,
-    files: RunFiles<RecordBatches<A>, A>,
+    files: RunFiles<Places<A>, A>,
     limit: u32,
     input: &mut R,
     output: &mut W,
@@ -44,7 +43,7 @@ fn run_over<A: Allocator + Copy, R: Source, W: Sink, E: Sink, O: SeesRefusals>(
 ) -> Ended
     requires same { files.run_genome.limit ≡ limit }
     requires few { limit ≤ most_limit }
-    ensures { (plan : RunPlan) (texts : Texts) → HasTexts (λ r. r) AreAllWanted plan texts files
+    ensures { (plan : RunPlan) (texts : Texts) → HasTexts (λ r. r) None plan texts files
         → RunsScript plan texts
         (streams (R.state input.old) (W.state output.old) (E.state messages.old))
         (streams (R.state input.new) (W.state output.new) (E.state messages.new)) result.exit_reason result.line }

@@ -9,7 +9,7 @@ use Rattle.iv_fasta.specs.FastaReading.{Reading, Wanted, only, only_or_fault, re
 use Rattle.iv_fasta.proofs.SummaryLemmas.{only-all-or-fault}
 use Rattle.iv_run.specs.FastaPieces.{FastaSoFar}
 use Rattle.iv_run.specs.Inside.Shots.{bases_said}
-use Rattle.iv_run.specs.RunFiles.{IsEnoughOf, IsFasta, IsIfNamed}
+use Rattle.iv_run.specs.RunFiles.{IsFasta, IsIfNamed}
 use Rattle.iv_run.proofs.LoadLemmas.{IsWhy}
 
 module _ (wanted : Wanted) (g : Sequences) where
@@ -66,12 +66,6 @@ fasta-parsed g text (Ok f) ok err = only-all-or-fault (fasta_of g text) ∙ ok
 fasta-parsed g text (Err f) ok (inl memory) = inl memory
 fasta-parsed g text (Err f) ok (inr refused) = inr (only-all-or-fault (fasta_of g text) ∙ refused)
 
--- if all are held, they are enough, if all are
-pub fasta-all : (g : Sequences) (text : Option (List ℕ)) (held : Option (Result Bases LoadFault)) (P : Wanted → Type 0) → P None → IsIfNamed (IsFasta None g) text held → IsIfNamed (IsEnoughOf P g) text held
-fasta-all g None held P all none = none
-fasta-all g (Some text) None P all named = absurd named
-fasta-all g (Some text) (Some r) P all named = (None, all, named)
-
 -- ---- a FASTA file of which wanted sequences are held
 
 -- its fault is that of the whole file
@@ -83,25 +77,25 @@ whole-bases : (wanted : Wanted) (r : Result Bases LoadFault) (found : Bases) →
 whole-bases wanted (Ok fasta) found is = let same : only wanted fasta ≡ found = cc in (fasta, refl, sym same)
 whole-bases wanted (Err e) found is = cc
 
-module _ (g : Sequences) (P : Wanted → Type 0) where
-  pub wanted-why : (text : Option (List ℕ)) (held : Option (Result Bases LoadFault)) (why : LoadFault) → IsIfNamed (IsEnoughOf P g) text held → option_transpose held ≡ Err why → IsWhy why (bases_said g text)
+module _ (g : Sequences) (wanted : Wanted) where
+  pub wanted-why : (text : Option (List ℕ)) (held : Option (Result Bases LoadFault)) (why : LoadFault) → IsIfNamed (IsFasta wanted g) text held → option_transpose held ≡ Err why → IsWhy why (bases_said g text)
   wanted-why None held why named is = absurd (cc (sym (ap (λ (o : Option (Result Bases LoadFault)). option_transpose o) named) ∙ is))
   wanted-why (Some text) None why named is = absurd named
   wanted-why (Some text) (Some (Ok found)) why named is = absurd (cc is)
-  wanted-why (Some text) (Some (Err f)) why named is = let same : f ≡ why = cc is in subst (λ (k : LoadFault). IsWhy k (bases_said g (Some text))) same (by named.2)
+  wanted-why (Some text) (Some (Err f)) why named is = let same : f ≡ why = cc is in subst (λ (k : LoadFault). IsWhy k (bases_said g (Some text))) same (by named)
     where
-      by : IsWhy f (only_or_fault named.0 (fasta_of g text)) → IsWhy f (bases_said g (Some text))
+      by : IsWhy f (only_or_fault wanted (fasta_of g text)) → IsWhy f (bases_said g (Some text))
       by (inl memory) = inl memory
-      by (inr e) = inr (ap (λ (r : Result Bases LoadFault). option_transpose (Some r)) (whole-fault named.0 (fasta_of g text) f e))
+      by (inr e) = inr (ap (λ (r : Result Bases LoadFault). option_transpose (Some r)) (whole-fault wanted (fasta_of g text) f e))
 
-  pub wanted-found : P None → (text : Option (List ℕ)) (held : Option (Result Bases LoadFault)) (found : Option Bases) → IsIfNamed (IsEnoughOf P g) text held → option_transpose held ≡ Ok found
-      → (wanted : Wanted) × P wanted × ((whole : Option Bases) × (bases_said g text ≡ Ok whole) × (found ≡ option_map (only wanted) whole))
-  wanted-found all None held found named is =
+  pub wanted-found : (text : Option (List ℕ)) (held : Option (Result Bases LoadFault)) (found : Option Bases) → IsIfNamed (IsFasta wanted g) text held → option_transpose held ≡ Ok found
+      → (whole : Option Bases) × (bases_said g text ≡ Ok whole) × (found ≡ option_map (only wanted) whole)
+  wanted-found None held found named is =
       let none : None ≡ found = cc (sym (ap (λ (o : Option (Result Bases LoadFault)). option_transpose o) named) ∙ is) in
-      (None, all, (None, refl, sym none))
-  wanted-found all (Some text) None found named is = absurd named
-  wanted-found all (Some text) (Some (Err f)) found named is = absurd (cc is)
-  wanted-found all (Some text) (Some (Ok held)) found named is =
-      let whole = whole-bases named.0 (fasta_of g text) held named.2 in
+      (None, refl, sym none)
+  wanted-found (Some text) None found named is = absurd named
+  wanted-found (Some text) (Some (Err f)) found named is = absurd (cc is)
+  wanted-found (Some text) (Some (Ok held)) found named is =
+      let whole = whole-bases wanted (fasta_of g text) held named in
       let some : Some held ≡ found = cc is in
-      (named.0, named.1, (Some whole.0, ap (λ (r : Result Bases LoadFault). option_transpose (Some r)) whole.1, sym some ∙ ap Some whole.2))
+      (Some whole.0, ap (λ (r : Result Bases LoadFault). option_transpose (Some r)) whole.1, sym some ∙ ap Some whole.2)

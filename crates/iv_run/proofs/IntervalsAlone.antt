@@ -23,7 +23,7 @@ use Rattle.iv_depth.specs.Inside.Texts.{depth_text, text_by}
 use Rattle.iv_depth.specs.declared.depth_rows.DepthOutput.{DepthOutput}
 use Rattle.iv_depth.specs.declared.depth_rows.DepthOutput.TheVariants.{Covered, All, EachPosition}
 use Rattle.iv_lines.specs.Intervals.{bare}
-use Rattle.iv_locators.proofs.BareLemmas.{count-bare}
+use Rattle.iv_places.proofs.BareLemmas.{count-bare}
 use Rattle.iv_blocks.specs.IntervalOptions.{IsByIntervals}
 use Rattle.iv_view.specs.Views.{kept_text}
 use Rattle.iv_view.specs.declared.view.KeptView.TheVariants as projected

@@ -7,7 +7,7 @@ use Rattle.iv_bytes.specs.Sinks.{SinkState}
 use Rattle.iv_lines.specs.Ordered.{ordered}
 use Rattle.iv_lines.specs.declared.fault.Fault.{Fault}
 use Rattle.iv_lines.specs.declared.fault.Fault.TheVariants as refused
-use Rattle.iv_locators.proofs.BareLemmas.{ordered-bare}
+use Rattle.iv_places.proofs.BareLemmas.{ordered-bare}
 use Rattle.iv_lines.specs.Intervals.{bare}
 use Rattle.iv_blocks.specs.Groups.{listed}
 use Rattle.iv_blocks.specs.IntervalOptions.{IsByIntervals}
@@ -31,7 +31,6 @@ use Rattle.iv_run.specs.Inside.IntervalsViews.{AskForColumns, NeedsColumns}
 use Rattle.iv_run.specs.Inside.Prints.{Prints}
 use Rattle.iv_run.specs.Shots.{Shows, shown}
 use Rattle.iv_run.specs.Inside.RunFiles.{Reports}
-use Rattle.iv_run.specs.RunFiles.{AreAllWanted}
 use Rattle.iv_run.specs.declared.fault.CliFault.{CliFault}
 use Rattle.iv_run.specs.declared.intervals_view.IntervalsView.{IntervalsView}
 use Rattle.iv_run.specs.declared.intervals_view.IntervalsView.TheVariants as places
@@ -144,14 +143,14 @@ module _ (arguments : List (List ℕ)) where
 
 -- the text of the view is printed from the intervals, and so from the records
 pub shows-places : (plan : RunPlan) (sizes text : List ℕ) (other bases : Option (List ℕ)) (limit : ℕ) (files : Parsed)
-    → Reports bare AreAllWanted (Ok files) (parsed plan.width sizes text other bases limit)
+    → Reports bare None (Ok files) (parsed plan.width sizes text other bases limit)
     → (v : IntervalsView) (ask : AskForIntervals plan.view v) (old new : SinkState) (result : Result (Unit {0}) CliFault)
     → Prints old new result (kept_text None ask.asked files.genome (ordered files.first.records)) → Shows old new result (shown plan sizes text other bases limit)
 shows-places plan sizes text other bases limit files said v ask old new result prints =
     let whole = said.0 in
     let text_is : kept_text None ask.asked files.genome (ordered files.first.records) ≡ kept_text None ask.asked whole.genome (ordered whole.first.records) =
-    ap (λ (f : Parsed). kept_text None ask.asked f.genome (ordered f.first.records)) said.4
+    ap (λ (f : Parsed). kept_text None ask.asked f.genome (ordered f.first.records)) said.2
     ∙ ap (kept_text None ask.asked whole.genome) (ordered-bare whole.first.records)
     ∙ needs-places v ask.asked ask.is_view whole.genome (ordered whole.first.records) in
-    shows-text (parsed plan.width sizes text other bases limit) whole said.2 plan.view (view.Kept ask.asked) (ask.reads whole.first.width (is_some whole.second) (is_some whole.bases)) old new result
+    shows-text (parsed plan.width sizes text other bases limit) whole said.1 plan.view (view.Kept ask.asked) (ask.reads whole.first.width (is_some whole.second) (is_some whole.bases)) old new result
     (subst (Prints old new result) text_is prints)

@@ -13,7 +13,7 @@ use Rattle.iv_fasta.specs.FastaReading.{Wanted}
 use Rattle.iv_args.specs.declared.plan.Slot.TheVariants as slot
 use Rattle.iv_run.specs.Inside.Shots.{bases_said, second_of}
 use Rattle.iv_run.specs.Loading.{IsAnswer, IsReport, Parsed, parsed}
-use Rattle.iv_run.specs.RunFiles.{AreOf, FilesRead, GenomeRead, IsEnoughBeside, IsGenomeBy, IsGenomeOf, IsIfNamed, IsParsed}
+use Rattle.iv_run.specs.RunFiles.{AreOf, FilesRead, GenomeRead, IsGenomeBy, IsGenomeOf, IsIfNamed, IsParsed}
 use Rattle.iv_run.specs.Inside.RunFiles.{Reports}
 use Rattle.iv_run.specs.declared.fault.CliFault.{CliFault}
 use Rattle.iv_run.specs.declared.fault.CliFault.TheVariants.{Memory}
@@ -94,9 +94,9 @@ module _ (projected : RecordValue → RecordValue) (g : Sequences) (width limit 
       let some : Some file ≡ second = cc is in
       (Some bed.0, ap (λ (r : Result Bed LoadFault). option_transpose (Some r)) bed.1, sym some ∙ ap Some bed.2)
 
--- all files were read, and are those of these bytes; if all bases are held, they are enough
-module _ (projected : RecordValue → RecordValue) (is_enough : Wanted → List RecordValue → Type 0) (all_are : (records : List RecordValue) → is_enough None records)
-    (sizes text : List ℕ) (other bases : Option (List ℕ)) (files : FilesRead) (are : AreOf projected is_enough sizes text other bases files) where
+-- all files were read, and are those of these bytes
+module _ (projected : RecordValue → RecordValue) (wanted : Wanted) (sizes text : List ℕ) (other bases : Option (List ℕ)) (files : FilesRead)
+    (are : AreOf projected wanted sizes text other bases files) where
   abbrev run_genome : GenomeRead
   run_genome = files.run_genome
 
@@ -134,17 +134,14 @@ module _ (projected : RecordValue → RecordValue) (is_enough : Wanted → List 
         pub finish-bases : (k : CliFault) → IsDamage slot.Bases (option_transpose files.fasta) k → ReportsFault k
         finish-bases k damage =
             report-bases run_genome.width sizes text run_genome.limit run_genome.genome genome other bases bed.0 bed.1 beside.0 beside.1 (Err damage.0) k
-            (wanted-why run_genome.genome (IsEnoughBeside is_enough files.first) bases files.fasta damage.0 are.3 damage.1) (damage.0, refl, damage.2)
+            (wanted-why run_genome.genome wanted bases files.fasta damage.0 are.3 damage.1) (damage.0, refl, damage.2)
 
         -- all are sound
         pub finish-all : (g : Sequences) (found : Option Bases) (limit : ℕ) → g ≡ run_genome.genome → option_transpose files.fasta ≡ Ok found → limit ≡ run_genome.limit
-            → Reports projected is_enough (Ok (record { genome = g; first = first; second = second; bases = found; limit = limit })) (parsed run_genome.width sizes text other bases run_genome.limit)
+            → Reports projected wanted (Ok (record { genome = g; first = first; second = second; bases = found; limit = limit })) (parsed run_genome.width sizes text other bases run_genome.limit)
         finish-all g found limit same is most =
-            let enough : IsEnoughBeside is_enough files.first None = subst (λ (r : Result Bed LoadFault). IsEnoughBeside is_enough r None) (sym first_is) (all_are first.records) in
-            let held = wanted-found run_genome.genome (IsEnoughBeside is_enough files.first) enough bases files.fasta found are.3 is in (
-              record { genome = run_genome.genome; first = bed.0; second = beside.0; bases = held.2.0; limit = run_genome.limit },
-              held.0,
-              report-files run_genome.width sizes text run_genome.limit run_genome.genome genome other bases bed.0 bed.1 beside.0 beside.1 held.2.0 held.2.1,
-              subst (λ (r : Result Bed LoadFault). IsEnoughBeside is_enough r held.0) first_is held.1,
-              (λ i. record { genome = same i; first = bed.2 i; second = beside.2 i; bases = held.2.2 i; limit = most i }),
+            let held = wanted-found run_genome.genome wanted bases files.fasta found are.3 is in (
+              record { genome = run_genome.genome; first = bed.0; second = beside.0; bases = held.0; limit = run_genome.limit },
+              report-files run_genome.width sizes text run_genome.limit run_genome.genome genome other bases bed.0 bed.1 beside.0 beside.1 held.0 held.1,
+              (λ i. record { genome = same i; first = bed.2 i; second = beside.2 i; bases = held.2 i; limit = most i }),
             )

@@ -12,25 +12,26 @@ use Rattle.iv_lines.specs.Ordered.{ordered}
 use Rattle.iv_lines.specs.Read.{Fits, IsOnGenome}
 use Rattle.iv_lines.specs.RecordValue.{RecordValue}
 use Rattle.iv_lines.specs.declared.fault.Fault.{Fault}
+use Rattle.iv_lines.specs.declared.fault.LoadFault.{LoadFault}
 use Rattle.iv_lines.proofs.OrderedLemmas.{ordered-all}
 use Rattle.iv_fasta.specs.Fasta.{Bases}
 use Rattle.iv_fasta.specs.FastaReading.{Wanted, is_wanted, only}
 use Rattle.iv_fasta.proofs.RowLemmas.{row-wanted}
 use Rattle.iv_fasta.proofs.SummaryLemmas.{only-all}
 use Rattle.iv_text.specs.BedReading.{projected_bed}
-use Rattle.iv_locators.specs.Inside.Ranks.{has_rank}
-use Rattle.iv_locators.proofs.SortedLemmas.{on_genome-fit}
+use Rattle.iv_places.specs.Inside.Ranks.{has_rank}
+use Rattle.iv_places.proofs.SortedLemmas.{on_genome-fit}
 use Rattle.iv_text.proofs.BedReadingLemmas.{fit-all}
 use Rattle.iv_view.specs.Views.{read_arguments, written_rows}
 use Rattle.iv_view.specs.declared.view.View.{View}
 use Rattle.iv_view.specs.declared.view.View.TheVariants as view
 use Rattle.iv_view.specs.declared.written_view.WrittenView.{WrittenView}
 use Rattle.iv_view.specs.declared.written_view.WrittenView.TheVariants as written
-use Rattle.iv_run.specs.Inside.RunFiles.{AreWanted, Reports, held_files}
+use Rattle.iv_run.specs.Inside.RunFiles.{Reports, held_files}
 use Rattle.iv_run.specs.Inside.Prints.{Prints}
 use Rattle.iv_run.specs.Inside.Shots.{ordered_other, text_beside, view_beside}
 use Rattle.iv_run.specs.Loading.{Parsed, fault_of_arguments}
-use Rattle.iv_run.specs.RunFiles.{AreProjected}
+use Rattle.iv_run.specs.RunFiles.{AreAskedFor, AreProjected, AreWanted, AreWantedOf}
 use Rattle.iv_run.specs.Shots.{Shows}
 use Rattle.iv_run.specs.declared.fault.CliFault.{CliFault}
 use Rattle.iv_run.proofs.ShotLemmas.{shown_of, shows-fault, shows-text}
@@ -42,6 +43,16 @@ all-marked marked (r ∷ records) have =
     All-cons (λ (s : RecordValue). marked s.seq ≡ true) r records
     (have r.seq (ap (λ (b : Bool). b || list_any (has_rank r.seq) records) (eq-eqb r.seq r.seq refl)))
     (all-marked marked records (λ seq is. have seq (or_right (r.seq == seq) (list_any (has_rank seq) records) is)))
+
+-- if all sequences are wanted, so are those of a first file
+pub any-wanted : (first : Result Bed LoadFault) → AreWantedOf None first
+any-wanted (Ok file) = λ k e within. refl
+any-wanted (Err f) = tt
+
+-- they are those that are asked for, with a first file or without
+pub asked-for-all : (first : Option (Result Bed LoadFault)) → AreAskedFor first None
+asked-for-all None = refl
+asked-for-all (Some first) = any-wanted first
 
 -- ---- rows
 
@@ -103,31 +114,32 @@ some-wanted wanted (Some bases) = refl
 view-wanted : (wanted : Wanted) (whole : Parsed) (arguments : List (List ℕ)) → view_beside (with_wanted wanted whole) arguments ≡ view_beside whole arguments
 view-wanted wanted whole arguments = ap (λ (b : Bool). read_arguments whole.first.width (is_some whole.second) b arguments) (some-wanted wanted whole.bases)
 
-module _ (said : Result Parsed CliFault) (files : Parsed) (reports : Reports (λ r. r) AreWanted (Ok files) said) (arguments : List (List ℕ)) where
+module _ (said : Result Parsed CliFault) (wanted : Wanted) (files : Parsed) (reports : Reports (λ r. r) wanted (Ok files) said) (held_are : AreWanted wanted files.first.records)
+    (arguments : List (List ℕ)) where
   abbrev whole : Parsed
   whole = reports.0
 
-  held : files ≡ with_wanted reports.1 whole
-  held = reports.4 ∙ held-wanted reports.1 whole
+  held : files ≡ with_wanted wanted whole
+  held = reports.2 ∙ held-wanted wanted whole
 
-  are : AreWanted reports.1 whole.first.records
-  are = subst (λ (f : Parsed). AreWanted reports.1 f.first.records) held reports.3
+  are : AreWanted wanted whole.first.records
+  are = subst (λ (f : Parsed). AreWanted wanted f.first.records) held held_are
 
   asked-whole : (r : Result View Fault) → view_beside files arguments ≡ r → view_beside whole arguments ≡ r
-  asked-whole r asked = sym (ap (λ (f : Parsed). view_beside f arguments) held ∙ view-wanted reports.1 whole arguments) ∙ asked
+  asked-whole r asked = sym (ap (λ (f : Parsed). view_beside f arguments) held ∙ view-wanted wanted whole arguments) ∙ asked
 
   text-whole : (v : View) → text_beside files v ≡ text_beside whole v
-  text-whole v = ap (λ (f : Parsed). text_beside f v) held ∙ text-wanted v reports.1 whole are
+  text-whole v = ap (λ (f : Parsed). text_beside f v) held ∙ text-wanted v wanted whole are
 
   -- the text of the view is printed; or a prefix of it is, and the output failed; or nothing is, for out of memory
   pub wanted-text : (v : View) → view_beside files arguments ≡ Ok v → (old new : SinkState) (result : Result (Unit {0}) CliFault)
       → Prints old new result (text_beside files v) → Shows old new result (shown_of arguments said)
   wanted-text v asked old new result prints =
-      shows-text said whole reports.2 arguments v (asked-whole (Ok v) asked) old new result (subst (Prints old new result) (text-whole v) prints)
+      shows-text said whole reports.1 arguments v (asked-whole (Ok v) asked) old new result (subst (Prints old new result) (text-whole v) prints)
 
   -- or the fault of its arguments is reported
   pub wanted-fault : (f : Fault) → view_beside files arguments ≡ Err f → (old : SinkState) → Shows old old (Err (fault_of_arguments f)) (shown_of arguments said)
-  wanted-fault f asked old = shows-fault said whole reports.2 arguments f (asked-whole (Err f) asked) old
+  wanted-fault f asked old = shows-fault said whole reports.1 arguments f (asked-whole (Err f) asked) old
 
 -- ---- sound files
 

@@ -1,5 +1,5 @@
 -- The files of a run once they are read.
-use Rattle.std.specs.Prelude.{◌≡◌, ◌⊎◌, ℕ, ◌≤◌, List, Option, None, Some, All, length, Result, Ok, Err, IfOk}
+use Rattle.std.specs.Prelude.{◌≡◌, ◌⊎◌, ℕ, ◌≤◌, true, List, Option, None, Some, All, length, Result, Ok, Err, IfOk}
 use Rattle.iv_text.specs.BedFile.{Bed}
 use Rattle.iv_lines.specs.Genome.{Sequences}
 use Rattle.iv_lines.specs.GenomeFile.{genome_of}
@@ -7,7 +7,7 @@ use Rattle.iv_text.specs.BedReading.{IsProjected, projected_bed_of}
 use Rattle.iv_lines.specs.RecordValue.{RecordValue}
 use Rattle.iv_lines.specs.declared.fault.LoadFault.{LoadFault}
 use Rattle.iv_fasta.specs.Fasta.{Bases, fasta_of}
-use Rattle.iv_fasta.specs.FastaReading.{Wanted, only_or_fault}
+use Rattle.iv_fasta.specs.FastaReading.{Wanted, is_wanted, only_or_fault}
 use Rattle.iv_run.specs.Loading.{IsAnswer, parsed}
 use Rattle.iv_run.specs.declared.fault.CliFault.{CliFault}
 use Rattle.iv_run.specs.declared.fault.CliFault.TheVariants.{Memory}
@@ -47,17 +47,18 @@ IsIfNamed is_of (Some text) (Some held) = is_of text held
 abbrev pub IsFasta : Wanted → Sequences → List ℕ → Result Bases LoadFault → Type 0
 IsFasta wanted g text file = IsAnswer file (only_or_fault wanted (fasta_of g text))
 
--- so they are, and so many are wanted as are enough
-abbrev pub IsEnoughOf : (Wanted → Type 0) → Sequences → List ℕ → Result Bases LoadFault → Type 0
-IsEnoughOf is_enough g text file = (wanted : Wanted) × is_enough wanted × IsFasta wanted g text file
+-- each of these records is on a wanted sequence: a view of a first file of these asks for no other base
+abbrev pub AreWanted : Wanted → List RecordValue → Type 0
+AreWanted wanted records = All (λ r. is_wanted wanted r.seq ≡ true) records
 
--- beside a first file of which a session or a caller may ask anything only all sequences are enough
-abbrev pub AreAllWanted : Wanted → List RecordValue → Type 0
-AreAllWanted wanted first = wanted ≡ None
+-- so is each of a first file, unless it is damaged
+abbrev pub AreWantedOf : Wanted → Result Bed LoadFault → Type 0
+AreWantedOf wanted first = IfOk first (λ file. AreWanted wanted file.records)
 
--- beside a first file these sequences are enough, by its records; beside a damaged one any are
-abbrev pub IsEnoughBeside : (Wanted → List RecordValue → Type 0) → Result Bed LoadFault → Wanted → Type 0
-IsEnoughBeside is_enough first wanted = IfOk first (λ file. is_enough wanted file.records)
+-- these sequences are wanted for the rows of a first file, or without one all
+abbrev pub AreAskedFor : Option (Result Bed LoadFault) → Wanted → Type 0
+AreAskedFor None wanted = wanted ≡ None
+AreAskedFor (Some first) wanted = AreWantedOf wanted first
 
 -- the records are projections of records of the file's width on the genome, and they are not more than the limit
 pub record AreProjected (projected : RecordValue → RecordValue) (g : Sequences) (limit : ℕ) (file : Bed) : Type 0 where
@@ -72,10 +73,9 @@ IsOn projected g limit held = IfOk held (AreProjected projected g limit)
 abbrev pub IsParsed : (RecordValue → RecordValue) → Sequences → ℕ → ℕ → List ℕ → Result Bed LoadFault → Type 0
 IsParsed projected g width limit text file = IsAnswer file (projected_bed_of projected g width limit text)
 
--- the files are those of these bytes, with the records of BED files projected, and with the bases of as many sequences as are enough
--- beside the first file
-abbrev pub AreOf : (RecordValue → RecordValue) → (Wanted → List RecordValue → Type 0) → List ℕ → List ℕ → Option (List ℕ) → Option (List ℕ) → FilesRead → Type 0
-AreOf projected is_enough sizes first second fasta_text files =
+-- the files are those of these bytes, with the records of BED files projected, and with the bases of the wanted sequences
+abbrev pub AreOf : (RecordValue → RecordValue) → Wanted → List ℕ → List ℕ → Option (List ℕ) → Option (List ℕ) → FilesRead → Type 0
+AreOf projected wanted sizes first second fasta_text files =
     IsGenomeOf sizes files.run_genome × IsParsed projected files.run_genome.genome files.run_genome.width files.run_genome.limit first files.first
     × IsIfNamed (IsParsed projected files.run_genome.genome files.run_genome.width files.run_genome.limit) second files.second
-    × IsIfNamed (IsEnoughOf (IsEnoughBeside is_enough files.first) files.run_genome.genome) fasta_text files.fasta
+    × IsIfNamed (IsFasta wanted files.run_genome.genome) fasta_text files.fasta

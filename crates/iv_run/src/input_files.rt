@@ -1,26 +1,24 @@
 //! Files that are read from a source to their ends: all their bytes, or what is held of a file.
-ghost use Rattle.std.specs.Prelude.{◌≡◌, ◌↔◌, ◌<◌, ◌≤◌, ◌+◌, ◌^◌, ◌++◌, ℕ, All, List, [], false, length, None, Some, Result, IfOk, IfErr, OnOk, refl};
-ghost use Rattle.std.specs.Option.{option_map};
+ghost use Rattle.std.specs.Prelude.{◌≡◌, ◌↔◌, ◌<◌, ◌≤◌, ◌+◌, ◌^◌, ◌++◌, ℕ, All, List, [], false, length, None, Some, Result, IfOk, IfErr, OnOk};
+ghost use Rattle.std.specs.Option.{option_copied, option_map};
 ghost use Rattle.iv_bytes.specs.Sources.{SourceState};
 ghost use Rattle.iv_text.specs.BedReading.{AreSoundLines, size_of};
 ghost use Rattle.iv_lines.specs.Genome.{Sequences};
-ghost use Rattle.iv_lines.specs.RecordValue.{RecordValue};
 ghost use Rattle.iv_lines.specs.Widths.{IsWidth};
 ghost use Rattle.iv_fasta.specs.FastaReading.{Wanted};
 ghost use Rattle.iv_lines.specs.Inside.Intervals.{interval_records};
 ghost use Rattle.iv_run.specs.Files.{ReadsWhole, StopsReading};
 ghost use Rattle.iv_run.specs.Inside.Files.{EndsReading, HadMemory, IsPieceFault, IsTooLong};
-ghost use Rattle.iv_run.specs.Inside.RunFiles.{AreWanted};
 ghost use Rattle.iv_run.specs.Inside.Pieces.{SaysSoFar};
-ghost use Rattle.iv_run.specs.RunFiles.{AreAllWanted, IsEnoughBeside, IsOn, IsParsed};
+ghost use Rattle.iv_run.specs.RunFiles.{AreAskedFor, IsOn, IsParsed};
 ghost use Rattle.iv_run.specs.declared.fault.FileFault.{FileFault};
 ghost use Rattle.iv_run.specs.declared.fault.FileFault.TheVariants as fault;
 
 use crate::fault::FileFault;
 use iv_bytes::Source;
-use iv_lines::{Batches, Genome, HoldsRecords, Interval, LoadFault, RecordBatches};
-use iv_locators::Places;
-use iv_text::{BedBatches, BedReader};
+use iv_lines::{Genome, HoldsRecords, Interval, LoadFault};
+use iv_places::Places;
+use iv_text::BedReader;
 use std::alloc::{AllocError, Allocator, Global};
 use std::marker::{Model, PhantomData};
 
@@ -80,50 +78,6 @@ pub trait TakesPieces<A: Allocator + Copy>: Sized + Drop {
         requires { (wanted : Wanted) × (front : List ℕ) × has_taken wanted genome.now limit front self × (length front + length piece.now < 2 ^ 63) }
         ensures ok { IfOk result (λ next. (wanted : Wanted) (front : List ℕ) → has_taken wanted genome.now limit front self → has_taken wanted genome.now limit (front ++ piece.now) next) }
         ensures err { IfErr result (λ why. why ≡ fault.Memory) };
-}
-
-/// What is held of the records of a BED file, and of which sequences the bases have to be held beside it.
-pub trait HoldsFile<A: Allocator + Copy>: HoldsRecords<A> {
-    /// Beside a first file of these records it is enough to hold the bases of these sequences of a FASTA file.
-    ghost is_enough: { Wanted → List RecordValue → Type 0 };
-
-    /// Which sequences of a FASTA file have to be held beside this first file: those of the ranks at which a list says so, or without a
-    /// list all.
-    fn wanted(&self, alloc: A) -> Result<Option<Vec<bool, A>>, AllocError>
-        ensures { IfOk result (λ wanted. is_enough (option_map (λ ranks. ranks.items) wanted) (Self.records self.now)) };
-
-    /// The bases of all sequences are enough.
-    ghost all_are: { (records : List RecordValue) → is_enough None records };
-}
-
-impl<A: Allocator + Copy> HoldsFile<A> for RecordBatches<A> {
-    ghost is_enough = { AreAllWanted };
-
-    ghost all_are = { λ records. refl };
-
-    fn wanted(&self, _alloc: A) -> Result<Option<Vec<bool, A>>, AllocError> {
-        Ok(None)
-    }
-}
-
-impl<A: Allocator + Copy> HoldsFile<A> for Batches<Interval, A> {
-    ghost is_enough = { AreAllWanted };
-
-    ghost all_are = { λ records. refl };
-
-    fn wanted(&self, _alloc: A) -> Result<Option<Vec<bool, A>>, AllocError> {
-        Ok(None)
-    }
-}
-
-impl<A: Allocator + Copy> HoldsFile<A> for Places<A> {
-    ghost is_enough = { AreWanted };
-
-    ghost all_are = { λ records at or within. refl };
-
-    fn wanted(&self, alloc: A) -> Result<Option<Vec<bool, A>>, AllocError> {
-        Ok(Some(self.ranks(alloc)?))
-    }
 }
 
 /// What has taken a file on this genome, read from a source to its end, at most `most` bytes. A BED file may have at most `limit`
@@ -191,32 +145,18 @@ impl<H: HoldsRecords<A>, A: Allocator + Copy> ParsedFile<H, A> {
     }
 }
 
-impl<A: Allocator + Copy> ParsedFile<RecordBatches<A>, A> {
-    /// The file with its records, of which all is held.
-    pub fn into_bed(self) -> BedBatches<A>
-        ensures { result ≡ self }
-    {
-        let ParsedFile { width, held, .. } = self;
-        BedBatches::of(width, held)
-    }
-}
-
-impl<A: Allocator + Copy> ParsedFile<Batches<Interval, A>, A> {
+impl<A: Allocator + Copy> ParsedFile<Vec<Interval, A>, A> {
     /// The intervals of the file's records.
-    ///
-    /// # Errors
-    ///
-    /// An allocation failed.
-    pub(crate) fn into_intervals(self) -> Result<Vec<Interval, A>, AllocError>
-        ensures { IfOk result (λ intervals. interval_records intervals.items ≡ self.records) }
+    pub(crate) fn into_intervals(self) -> Vec<Interval, A>
+        ensures { interval_records result.items ≡ self.records }
     {
-        self.held.into_vec()
+        self.held
     }
 }
 
 impl<A: Allocator + Copy> ParsedFile<Places<A>, A> {
     /// The file's records at their places.
-    pub(crate) fn into_places(self) -> Places<A>
+    pub fn into_places(self) -> Places<A>
         requires { All (λ r. r.width ≡ self.width) self.records }
         ensures { result ≡ self }
     {
@@ -289,15 +229,21 @@ impl<H: HoldsRecords<A>, A: Allocator + Copy> TakesPieces<A>
     }
 }
 
-/// Beside a first file, or its fault, which sequences of a FASTA file have to be held.
-pub(crate) fn wanted_beside<H: HoldsFile<A>, A: Allocator + Copy>(
+/// Of which sequences of a FASTA file the bases have to be held for the rows of this first file: those of the ranks at which a list
+/// says so. Without a first file there is no list, and it is all sequences.
+///
+/// # Errors
+///
+/// An allocation failed.
+pub(crate) fn wanted_for<A: Allocator + Copy>(
     alloc: A,
-    first: &HeldRecords<H, A>,
+    first: Option<&HeldRecords<Places<A>, A>>,
 ) -> Result<Option<Vec<bool, A>>, AllocError>
-    ensures { IfOk result (λ wanted. IsEnoughBeside H.is_enough first.now (option_map (λ ranks. ranks.items) wanted)) }
+    ensures { IfOk result (λ wanted. AreAskedFor (option_copied first.entry) (option_map (λ ranks. ranks.items) wanted)) }
 {
     match first {
-        Ok(file) => file.held.wanted(alloc),
-        Err(_) => Ok(Some(Vec::new(alloc))),
+        None => Ok(None),
+        Some(Ok(file)) => Ok(Some(file.held.ranks(alloc)?)),
+        Some(Err(_)) => Ok(Some(Vec::new(alloc))),
     }
 }

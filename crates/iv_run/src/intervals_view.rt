@@ -9,7 +9,7 @@ ghost use Rattle.iv_run.specs.IntervalsViews.{AskForIntervals, IsViewOf};
 ghost use Rattle.iv_run.specs.Inside.IntervalsViews.{AskForColumns, NeedsColumns};
 ghost use Rattle.iv_run.specs.Inside.Prints.{Prints};
 ghost use Rattle.iv_run.specs.Shots.{Shows, shown};
-ghost use Rattle.iv_run.specs.RunFiles.{AreAllWanted, AreOf};
+ghost use Rattle.iv_run.specs.RunFiles.{AreOf};
 ghost use Rattle.iv_view.specs.Views.{kept_text};
 ghost use Rattle.iv_view.specs.declared.view.KeptView.{KeptView};
 
@@ -19,8 +19,8 @@ use iv_args::Plan;
 use iv_blocks::{put_complement, put_merge};
 use iv_bytes::{Buffered, Sink};
 use iv_depth::{DepthOutput, DepthSweep};
-use iv_lines::{Batches, Genome, Interval};
-use iv_locators::sort_intervals;
+use iv_lines::{Genome, Interval};
+use iv_places::sort_intervals;
 use iv_view::{KeptView, View};
 use std::alloc::Allocator;
 
@@ -117,7 +117,7 @@ impl IntervalsView {
 /// Sorts the intervals of the first file, and prints a view of them.
 fn print_files<A: Allocator + Copy, S: Sink>(
     view: IntervalsView,
-    files: SoundFiles<Batches<Interval, A>, A>,
+    files: SoundFiles<Vec<Interval, A>, A>,
     sink: &mut S,
 ) -> Result<(), CliFault>
     ensures { (asked : KeptView) → IsViewOf view asked → Prints (S.state sink.old) (S.state sink.new) result (kept_text None asked files.genome (ordered files.first.records)) }
@@ -128,12 +128,12 @@ fn print_files<A: Allocator + Copy, S: Sink>(
         first,
         ..
     } = files;
-    let mut intervals = first.into_intervals()?;
+    let mut intervals = first.into_intervals();
     sort_intervals(&mut intervals);
     view.print(alloc, intervals.as_slice(), &genome, sink)
 }
 
-impl<A: Allocator + Copy> RunFiles<Batches<Interval, A>, A> {
+impl<A: Allocator + Copy> RunFiles<Vec<Interval, A>, A> {
     /// Prints a view of the first file: all of its text, and nothing else.
     ///
     /// # Errors
@@ -141,7 +141,7 @@ impl<A: Allocator + Copy> RunFiles<Batches<Interval, A>, A> {
     /// The fault of the first damaged file, or `Memory`: then nothing was printed. `Output`, and then a prefix was.
     pub fn print<S: Sink>(self, view: IntervalsView, sink: &mut S) -> Result<(), CliFault>
         ensures { (plan : RunPlan) (sizes first : List ℕ) (second fasta_text : Option (List ℕ)) → AskForIntervals plan.view view → self.run_genome.width ≡ plan.width
-            → AreOf bare AreAllWanted sizes first second fasta_text self → Shows (S.state sink.old) (S.state sink.new) result (shown plan sizes first second fasta_text self.run_genome.limit) }
+            → AreOf bare None sizes first second fasta_text self → Shows (S.state sink.old) (S.state sink.new) result (shown plan sizes first second fasta_text self.run_genome.limit) }
     {
         let RunFiles {
             run_genome,

@@ -13,9 +13,7 @@ mod run_files;
 pub use exit_reason::{ExitReason, status};
 pub use fault::{CliFault, FileFault};
 pub use held_fasta::HeldFasta;
-pub use input_files::{
-    HeldRecords, HoldsFile, ParsedFile, TakesPieces, read_all, too_long_above_the_limit,
-};
+pub use input_files::{HeldRecords, ParsedFile, TakesPieces, read_all, too_long_above_the_limit};
 pub use intervals_view::IntervalsView;
 pub use one_shot::{shot, shot_of_held};
 pub use run_files::{Inputs, RunFiles, RunGenome, SoundFiles, sound_files};

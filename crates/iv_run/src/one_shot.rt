@@ -6,13 +6,14 @@ ghost use Rattle.iv_lines.specs.Genome.{Sequences};
 ghost use Rattle.iv_lines.specs.Ordered.{AreInOrder, ordered};
 ghost use Rattle.iv_lines.specs.Read.{IsOnGenome};
 ghost use Rattle.iv_lines.specs.RecordValue.{RecordValue};
+ghost use Rattle.iv_fasta.specs.FastaReading.{Wanted};
 ghost use Rattle.iv_fasta.specs.FastaRows.{fasta_text};
 ghost use Rattle.iv_pair.specs.CoverAlone.{DependsOnCoverAlone, HaveBases};
 ghost use Rattle.iv_pair.specs.PairRows.{pair_text};
 ghost use Rattle.iv_view.specs.Inside.Texts.{records_text};
 ghost use Rattle.iv_view.specs.Views.{kept_text};
-ghost use Rattle.iv_run.specs.RunFiles.{AreOf};
-ghost use Rattle.iv_run.specs.Inside.RunFiles.{AreWanted, Reports};
+ghost use Rattle.iv_run.specs.RunFiles.{AreOf, AreWanted, AreWantedOf};
+ghost use Rattle.iv_run.specs.Inside.RunFiles.{Reports};
 ghost use Rattle.iv_run.specs.Loading.{parsed};
 ghost use Rattle.iv_run.specs.Inside.IntervalsViews.{AskForColumns, NeedsColumns};
 ghost use Rattle.iv_run.specs.Inside.Prints.{Prints};
@@ -26,9 +27,9 @@ use iv_args::Plan;
 use iv_blocks::{MergeSweep, put_cluster};
 use iv_bytes::{Buffered, Sink, WriteFault};
 use iv_fasta::{Fasta, FastaOutput, put_fasta};
-use iv_lines::{Batches, Fault, Genome, Interval, put_line};
-use iv_locators::{PlacedRecords, Places};
+use iv_lines::{Fault, Genome, Interval, put_line};
 use iv_pair::{CountSweep, IntersectOutput, PairOutput, PairSweep, needs_cover_alone};
+use iv_places::{PlacedRecords, Places};
 use iv_view::{Available, KeptView, View, ViewFault, WrittenView};
 use std::alloc::{AllocError, Allocator};
 
@@ -272,8 +273,8 @@ fn print_files<A: Allocator + Copy, S: Sink>(
     sink: &mut S,
 ) -> Result<(), CliFault>
     requires columns { AskForColumns plan.now.view }
-    ensures { (sizes text : List ℕ) (other bases : Option (List ℕ)) (limit : ℕ) → Reports (λ r. r) AreWanted (Ok files) (parsed plan.now.width sizes text other bases limit)
-        → Shows (S.state sink.old) (S.state sink.new) result (shown plan.now sizes text other bases limit) }
+    ensures { (wanted : Wanted) (sizes text : List ℕ) (other bases : Option (List ℕ)) (limit : ℕ) → Reports (λ r. r) wanted (Ok files) (parsed plan.now.width sizes text other bases limit)
+        → AreWanted wanted files.first.records → Shows (S.state sink.old) (S.state sink.new) result (shown plan.now sizes text other bases limit) }
 {
     let view = files.view(plan)?;
     files.print(alloc, view, sink)
@@ -291,8 +292,8 @@ pub fn shot_of_held<A: Allocator + Copy, S: Sink>(
     sink: &mut S,
 ) -> Result<(), CliFault>
     requires columns { AskForColumns plan.now.view }
-    ensures { (sizes first : List ℕ) (second fasta_text : Option (List ℕ)) → files.run_genome.width ≡ plan.now.width → AreOf (λ r. r) AreWanted sizes first second fasta_text files
-        → Shows (S.state sink.old) (S.state sink.new) result (shown plan.now sizes first second fasta_text files.run_genome.limit) }
+    ensures { (wanted : Wanted) (sizes first : List ℕ) (second fasta_text : Option (List ℕ)) → files.run_genome.width ≡ plan.now.width → AreOf (λ r. r) wanted sizes first second fasta_text files
+        → AreWantedOf wanted files.first → Shows (S.state sink.old) (S.state sink.new) result (shown plan.now sizes first second fasta_text files.run_genome.limit) }
 {
     let RunFiles {
         run_genome,
@@ -325,7 +326,7 @@ pub fn shot<A: Allocator + Copy, S: Sink>(
         (shown plan.now inputs.now.sizes.now inputs.now.first.now (option_copied inputs.now.other) (option_map (λ text. text.items) bases) limit) }
 {
     if let Some(view) = IntervalsView::of_plan(plan) {
-        let files: RunFiles<Batches<Interval, A>, A> = RunFiles::of_inputs(
+        let files: RunFiles<Vec<Interval, A>, A> = RunFiles::of_inputs(
             alloc, plan, inputs, bases, limit,
         );
         return files.print(view, sink);

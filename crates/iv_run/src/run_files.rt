@@ -5,18 +5,18 @@ ghost use Rattle.iv_lines.specs.declared.fault.LoadFault.{LoadFault};
 ghost use Rattle.iv_lines.specs.Widths.{IsWidth};
 ghost use Rattle.iv_run.specs.Files.{ReadsWhole, StopsReading};
 ghost use Rattle.iv_run.specs.Loading.{damage_of, parsed};
-ghost use Rattle.iv_run.specs.RunFiles.{AreOf, IsEnoughBeside, IsEnoughOf, IsFasta, IsIfNamed, IsOn, IsParsed, IsGenomeOf};
+ghost use Rattle.iv_run.specs.RunFiles.{AreAskedFor, AreOf, IsFasta, IsIfNamed, IsOn, IsParsed, IsGenomeOf};
+ghost use Rattle.iv_fasta.specs.FastaReading.{Wanted};
 ghost use Rattle.iv_run.specs.Inside.RunFiles.{Reports};
 
 use crate::fault::{CliFault, FileFault};
 use crate::held_fasta::{HeldFasta, read_fasta};
-use crate::input_files::{
-    HeldRecords, HoldsFile, ParsedFile, finish, parse_bed, read_pieces, wanted_beside,
-};
+use crate::input_files::{HeldRecords, ParsedFile, finish, parse_bed, read_pieces, wanted_for};
 use iv_args::{Plan, Slot};
 use iv_bytes::Source;
 use iv_fasta::Fasta;
 use iv_lines::{Genome, HoldsRecords, LoadFault};
+use iv_places::Places;
 use iv_text::BedReader;
 use std::alloc::{Allocator, Global};
 use std::marker::Model;
@@ -130,23 +130,23 @@ impl<A: Allocator + Copy> RunGenome<A> {
         Ok(finish(all, &self.genome, self.empty_width, self.limit))
     }
 
-    /// The FASTA file beside this first file, read from a source to its end, at most `most` bytes. Of a sequence that the first file
-    /// doesn't need no bases are held.
+    /// The FASTA file, read from a source to its end, at most `most` bytes: the bases that the rows of this first file ask for, or
+    /// without one all.
     ///
     /// # Errors
     ///
     /// A fault of the source, or an allocation failed. That the file is damaged is no error here, but a part of what is held.
-    pub fn read_fasta<H: HoldsFile<A>, R: Source>(
+    pub fn read_fasta<R: Source>(
         &self,
-        first: &HeldRecords<H, A>,
+        first: Option<&HeldRecords<Places<A>, A>>,
         source: &mut R,
         most: u64,
     ) -> Result<HeldFasta<A>, FileFault>
         requires { most < 2 ^ 63 }
-        ensures ok { IfOk result (λ held. (text : List ℕ) × ReadsWhole (R.state source.old) (R.state source.new) most text × IsEnoughOf (IsEnoughBeside H.is_enough first.now) self.now.genome text held) }
+        ensures ok { IfOk result (λ held. (wanted : Wanted) × (text : List ℕ) × AreAskedFor (option_copied first.entry) wanted × ReadsWhole (R.state source.old) (R.state source.new) most text × IsFasta wanted self.now.genome text held) }
         ensures err { IfErr result (λ fault. StopsReading (R.state source.old) (R.state source.new) most fault) }
     {
-        let wanted = wanted_beside(self.alloc, first)?;
+        let wanted = wanted_for(self.alloc, first)?;
         read_fasta(self.alloc, &self.genome, wanted, source, most)
     }
 
@@ -211,7 +211,7 @@ impl<H: HoldsRecords<A>, A: Allocator + Copy> Model for SoundFiles<H, A> {
     ghost invariant = { λ f. AreProjected H.projected f.genome f.limit f.first × IfSome f.second (AreProjected H.projected f.genome f.limit) };
 }
 
-impl<H: HoldsFile<A>, A: Allocator + Copy> RunFiles<H, A> {
+impl<H: HoldsRecords<A>, A: Allocator + Copy> RunFiles<H, A> {
     /// The files of a run, given their bytes.
     pub fn of_inputs(
         alloc: A,
@@ -220,7 +220,7 @@ impl<H: HoldsFile<A>, A: Allocator + Copy> RunFiles<H, A> {
         fasta_text: Option<Vec<u8, A>>,
         limit: u32,
     ) -> Self
-        ensures says { AreOf H.projected H.is_enough inputs.now.sizes.now inputs.now.first.now (option_copied inputs.now.other) (option_map (λ text. text.items) fasta_text) result }
+        ensures says { AreOf H.projected None inputs.now.sizes.now inputs.now.first.now (option_copied inputs.now.other) (option_map (λ text. text.items) fasta_text) result }
         ensures width { result.run_genome.width ≡ plan.now.width }
         ensures limit { result.run_genome.limit ≡ limit }
     {
@@ -241,7 +241,7 @@ impl<H: HoldsFile<A>, A: Allocator + Copy> RunFiles<H, A> {
 }
 
 /// All files of a run, or the fault of the first damaged one, given what is held of each.
-pub fn sound_files<H: HoldsFile<A>, A: Allocator + Copy>(
+pub fn sound_files<H: HoldsRecords<A>, A: Allocator + Copy>(
     run_genome: RunGenome<A>,
     first: HeldRecords<H, A>,
     second: Option<HeldRecords<H, A>>,
@@ -249,8 +249,9 @@ pub fn sound_files<H: HoldsFile<A>, A: Allocator + Copy>(
 ) -> Result<SoundFiles<H, A>, CliFault>
     requires first { IsOn H.projected run_genome.genome run_genome.limit first }
     requires second { IfSome second (IsOn H.projected run_genome.genome run_genome.limit) }
-    ensures says { (sizes text : List ℕ) (other bases : Option (List ℕ)) → AreOf H.projected H.is_enough sizes text other bases (record { run_genome = run_genome; first = first; second = second; fasta = fasta })
-        → Reports H.projected H.is_enough result (parsed run_genome.width sizes text other bases run_genome.limit) }
+    ensures says { (wanted : Wanted) (sizes text : List ℕ) (other bases : Option (List ℕ)) → AreOf H.projected wanted sizes text other bases (record { run_genome = run_genome; first = first; second = second; fasta = fasta })
+        → Reports H.projected wanted result (parsed run_genome.width sizes text other bases run_genome.limit) }
+    ensures first { IfOk result (λ files. first ≡ Ok files.first) }
     ensures limit { IfOk result (λ files. files.limit ≡ run_genome.limit) }
 {
     let (alloc, limit) = (run_genome.alloc, run_genome.limit);

@@ -1,5 +1,5 @@
 -- The reading of a BED file in pieces.
-use Rattle.std.proofs.Common.{◌≡◌, ℕ, ◌+◌, ◌<◌, ◌≤◌, Bool, true, false, cond, nat_le, List, [], ◌∷◌, ◌++◌, Option, Some, None, Result, Ok, Err, length, map, take, drop, refl, sym, ap, subst, ◌∙◌, arith, append_assoc, append-nil, take-append-drop, unwrap_or}
+use Rattle.std.proofs.Common.{◌≡◌, ℕ, ◌+◌, ◌<◌, ◌≤◌, Bool, true, false, cond, nat_le, List, [], ◌∷◌, ◌++◌, Option, Some, None, Result, Ok, Err, length, map, take, drop, refl, sym, ap, subst, ◌∙◌, arith, append_assoc, append-nil, take-append-drop, unwrap_or, get_or}
 use Rattle.std.specs.Prelude.{All, MatchOption}
 use Rattle.std.proofs.lemmas.Bool.{cond-true, le-leb}
 use Rattle.std.proofs.lemmas.Bool.Decides.{nat_tests}
@@ -10,7 +10,8 @@ use Rattle.iv_text.specs.Inside.BedFile.{width_at, with_row}
 use Rattle.iv_lines.specs.Fields.{columns}
 use Rattle.iv_lines.specs.Genome.{Sequences}
 use Rattle.iv_lines.specs.Lines.{lines}
-use Rattle.iv_lines.specs.Read.{read, AreSoundColumns, Fits}
+use Rattle.iv_lines.specs.Intervals.{bare}
+use Rattle.iv_lines.specs.Read.{read, AreSoundColumns, Fits, IsOnGenome}
 use Rattle.iv_lines.specs.RecordValue.{RecordValue}
 use Rattle.iv_lines.specs.declared.fault.Fault.{Fault}
 use Rattle.iv_lines.specs.declared.fault.LoadCause.{LoadCause}
@@ -328,3 +329,11 @@ fit-all g w [] all = All-nil (Fits g w)
 fit-all g w (k ∷ records) all =
     let first : IsProjected (λ r. r) g w k = All-head (IsProjected (λ r. r) g w) k records all in
     All-cons (Fits g w) k records (subst (Fits g w) (sym first.2) first.1) (fit-all g w records (All-tail (IsProjected (λ r. r) g w) k records all))
+
+-- ---- on the genome
+
+-- records that fit it lie on it, if only their intervals are held
+pub kept-on_genome : (g : Sequences) (w : ℕ) (records : List RecordValue) → All (IsProjected bare g w) records → All (IsOnGenome g) records
+kept-on_genome g w records kept k e within =
+    let one : IsProjected bare g w (get_or records k e) = kept k e within in
+    subst (IsOnGenome g) (sym one.2) (record { some = one.1.is_placed.some; within = one.1.is_placed.within })

@@ -1,6 +1,6 @@
 -- A line of a record at the front of a text.
-use Rattle.std.proofs.Common.{◌≢◌, ◌≡◌, ℕ, ◌+◌, ◌-◌, ◌<◌, ◌≤◌, Bool, true, false, not, nat_lt, ◌==◌, ◌||◌, ◌⊎◌, inl, inr, ◌&&◌, List, [], ◌∷◌, ◌++◌, Option, None, Some, unwrap_or, slice_get, length, take, drop, get_or, refl, sym, ap, subst, ◌∙◌, arith, append_assoc, codes, append-nil}
-use Rattle.std.proofs.lemmas.Bool.{and_parts, false≢true, ne_eqb, false_from_ne_true, not-true, or_from, or_parts}
+use Rattle.std.proofs.Common.{◌≢◌, ◌≡◌, ℕ, ◌+◌, ◌-◌, ◌<◌, ◌≤◌, Bool, true, false, not, nat_le, nat_lt, ◌==◌, ◌||◌, ◌⊎◌, inl, inr, ◌&&◌, List, [], ◌∷◌, ◌++◌, Option, None, Some, unwrap_or, slice_get, length, take, drop, get_or, refl, sym, ap, subst, ◌∙◌, arith, append_assoc, codes, append-nil}
+use Rattle.std.proofs.lemmas.Bool.{and_parts, false≢true, leb-false, leb-true, ne_eqb, false_from_ne_true, not-true, or_from, or_parts}
 use Rattle.std.proofs.lemmas.Bool.Decides.{nat_tests}
 use Rattle.std.proofs.lemmas.Grind.{common_steps}
 use Rattle.std.proofs.lemmas.Option.{slice_get_within}
@@ -342,3 +342,22 @@ fast-line g w text next at size left rest end few place begins feed size_is =
         by : (o : Option (List ℕ × ℕ)) → slice_get h rank ≡ o → option_map (λ s. s.1) o ≡ Some len → rank < length h
         by None at e = cc
         by (Some s) at e = slice_get_within h rank s at
+
+-- ---- no line feed is in a rest
+
+-- none is in a cell
+plain-cell : (cell : List ℕ) → IsCell cell → HasNoFeed cell
+plain-cell cell is = λ k d within e. false≢true (sym (is k d within) ∙ ap ends_cell e)
+
+plain-laid : (cells : List (List ℕ)) → All IsCell cells → HasNoFeed (laid cells)
+plain-laid [] all = All-nil (λ (b : ℕ). b ≢ 10)
+plain-laid (cell ∷ cells) all =
+    All-cons (λ (b : ℕ). b ≢ 10) 9 (cell ++ laid cells) (λ e. absurd (omega (arith, e)))
+    (All-append (λ (b : ℕ). b ≢ 10) cell (laid cells) (plain-cell cell (All-head IsCell cell cells all)) (plain-laid cells (All-tail IsCell cell cells all)))
+
+pub plain-begins : (w : ℕ) (text rest end : List ℕ) → BeginsWithRest w text rest end → HasNoFeed rest
+plain-begins w text rest end begins = by (nat_le 4 w) refl
+  where
+    by : (b : Bool) → nat_le 4 w ≡ b → HasNoFeed rest
+    by true wide = All-tail (λ (b : ℕ). b ≢ 10) 9 rest (subst HasNoFeed (sym (begins.2 (leb-true 4 w wide))) (plain-laid begins.0.cells begins.0.plain))
+    by false low = subst HasNoFeed (sym (begins.1 (leb-false 4 w low))) (All-nil (λ (b : ℕ). b ≢ 10))

@@ -1,7 +1,6 @@
 //! The reader of BED files. Genome files and records, of `iv_lines`, and the sinks and sources of `iv_bytes` are re-exported.
 #![tactic(auto)]
 
-mod bed_batches;
 mod bed_file;
 mod bed_lines;
 mod bed_reader;
@@ -10,7 +9,6 @@ mod lemmas;
 mod number_prefix;
 mod record_reader;
 
-pub use bed_batches::BedBatches;
 pub use bed_file::BedFile;
 pub use bed_lines::BedLines;
 pub use bed_reader::BedReader;
@@ -20,13 +18,12 @@ pub use iv_bytes::{
     WriteFault, put_all, put_pieces,
 };
 pub use iv_lines::{
-    BatchItems, Batches, Bed3Record, BedRecord, ContentSeed, Fault, Fields, Genome, HoldsRecords,
-    Interval, LoadCause, LoadFault, MOST_LENGTH, NameHasher, NameMap, Record, RecordBatches,
-    RecordFault, RecordRef, RowBuffer, Strand, columns, fault_text, first_line_ends_at_feed,
-    genome_or_first_fault, is_bad_name, last_line_ends_at_end, lines_of, load_text,
-    one_length_changes, one_ordered_list, put_interval, put_line, put_numbered, put_record,
-    put_row, read_digits, read_number, read_record, read_strand, split_first_column, split_line,
-    strand_bytes,
+    BedRecord, ContentSeed, Fault, Fields, Genome, HoldsRecords, Interval, LoadCause, LoadFault,
+    MOST_LENGTH, NameHasher, NameMap, Record, RecordFault, RecordRef, RowBuffer, Strand, columns,
+    fault_text, first_line_ends_at_feed, genome_or_first_fault, is_bad_name, last_line_ends_at_end,
+    lines_of, load_text, one_length_changes, one_ordered_list, put_interval, put_line,
+    put_numbered, put_record, put_row, read_digits, read_number, read_record, read_strand,
+    split_first_column, split_line, strand_bytes,
 };
 pub use lemmas::bed_or_first_fault;
 pub use record_reader::RecordReader;

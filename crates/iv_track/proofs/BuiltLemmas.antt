@@ -3,14 +3,14 @@ use Rattle.std.proofs.Common.{◌≡◌, ℕ, ◌<◌, ◌≤◌, List, [], ◌�
 use Rattle.std.specs.Prelude.{All, replicate}
 use Rattle.std.specs.List.{AllByRecursion}
 use Rattle.std.specs.Map.{keys_of, values_of}
-use Rattle.std.proofs.lemmas.List.Elements.{All-head, All-tail, All-from_recursion, recursion_from_All}
+use Rattle.std.proofs.lemmas.List.Elements.{All-head, All-tail, All-weaker, All-from_recursion, recursion_from_All}
 use Rattle.iv_lines.specs.Ordered.{ordered}
 use Rattle.iv_lines.specs.RecordValue.{RecordValue, IsPlaced, record_cmp, records_total}
 use Rattle.iv_lines.proofs.OrderedLemmas.{rows-alone, ordered-in_order, ordered-copies, all-all_added, length-all_added}
 use Rattle.iv_track.specs.Copies.{expanded}
 use Rattle.iv_track.specs.Tracked.{most_records}
 use Rattle.iv_track.specs.Inside.Counted.{AreCounted}
-use Rattle.iv_track.specs.Inside.Tracked.{IsTrack}
+use Rattle.iv_track.specs.Inside.Tracked.{HasColumns, IsTrack}
 use Rattle.iv_track.proofs.Counts.{in_order-expanded, length-expanded}
 
 module _ {K : Type 0} (P : K → Type 0) where
@@ -30,6 +30,11 @@ module _ {K : Type 0} (P : K → Type 0) where
     keys-expanded es (All-tail (λ n. 0 < n) e.1 (values_of es) some) (rest-of e.1 e.0 (expanded es) h),
   )
 
+-- records in order stay so
+pub ordered-again : (records : List RecordValue) → ordered (ordered records) ≡ ordered records
+ordered-again records =
+    rows-alone (ordered (ordered records)) (ordered records) (ordered-in_order (ordered records)) (ordered-in_order records) (λ r. ordered-copies (ordered records) r)
+
 -- the counted entries of records
 module _ (es : List (RecordValue × ℕ)) (records : List RecordValue) (c : AreCounted record_cmp es records) where
   -- they mean the records in order
@@ -48,11 +53,12 @@ module _ (es : List (RecordValue × ℕ)) (records : List RecordValue) (c : AreC
       (keys-expanded P es c.present (subst (AllByRecursion P) (sym counted-ordered) (all-all_added record_cmp P records [] (recursion_from_All P records h) tt)))
 
   -- they are the map of a track
-  pub counted_track : (len width limit : ℕ) → len ≡ length records → All (λ (q : RecordValue). q.width ≡ width) records → All IsPlaced (keys_of es) → len ≤ limit → limit ≤ most_records → IsTrack es len width limit
-  counted_track len width limit is widths placed room bounded = record {
+  pub counted_track : (len width limit : ℕ) → len ≡ length records → All (λ (q : RecordValue). q.width ≡ width) records → 3 ≤ width → All IsPlaced (keys_of es) → len ≤ limit → limit ≤ most_records → IsTrack es len width limit
+  counted_track len width limit is widths columns placed room bounded = record {
     ordered = c.ordered;
     present = c.present;
     widths = counted-keys (λ (q : RecordValue). q.width ≡ width) widths;
+    wide = All-weaker (λ (q : RecordValue). q.width ≡ width) HasColumns (λ q at. omega (arith, at, columns)) (keys_of es) (counted-keys (λ (q : RecordValue). q.width ≡ width) widths);
     placed = placed;
     len_is = omega (arith, is, counted-length, length-expanded es);
     room = omega arith;

@@ -1,31 +1,26 @@
 -- A list in order, its equal neighbours taken as one entry each.
-use Rattle.std.proofs.Common.{◌≡◌, ℕ, ◌+◌, ◌<◌, ◌^◌, Bool, true, false, cond, List, [], ◌∷◌, length, refl, sym, ap, ◌∙◌, subst, arith, suc}
-use Rattle.std.specs.Prelude.{IfOk, IfSome, Ok, Err, Option, Result, unwrap_or}
-use Rattle.std.specs.BTreeMap.{is_at}
-use Rattle.std.specs.Cmp.{IsTotalOrder, Equal-is, alike_right, eq_by_cmp_equiv}
+use Rattle.std.proofs.Common.{◌≡◌, ℕ, ◌+◌, ◌<◌, Bool, true, false, cond, List, [], ◌∷◌, length, refl, sym, ap, ◌∙◌, arith}
+use Rattle.std.specs.Prelude.{Option}
+use Rattle.std.specs.Cmp.{IsTotalOrder, Equal-is, alike_right}
 use Rattle.std.specs.Iterator.{Drains, YieldsFirst}
 use Rattle.std.specs.List.{AllByRecursion}
-use Rattle.std.specs.List.Sorted.{IsPermutation, IsSorted, IsStrictlySortedBy}
+use Rattle.std.specs.List.Sorted.{IsStrictlySortedBy}
 use Rattle.std.specs.Map.{keys_of, values_of}
 use Rattle.std.specs.Ordering.{is_eq, is_le, ordering_reverse}
 use Rattle.std.specs.declared.cmp.Ordering.{Ordering}
 use Rattle.std.specs.declared.cmp.Ordering.TheVariants.{Less, Equal, Greater}
-use Rattle.std.proofs.lemmas.Bool.{cond-true, cond-false, cond_both}
+use Rattle.std.proofs.lemmas.Bool.{cond_both}
 use Rattle.std.proofs.lemmas.Iterator.{YieldsList, items_from_drains}
 use Rattle.std.proofs.lemmas.Iterator.Consumers.{YieldsList-from_shown}
 use Rattle.std.proofs.lemmas.List.Elements.{All-from_recursion}
 use Rattle.std.proofs.lemmas.List.Sums.{sum_by-cons}
-use Rattle.std.proofs.lemmas.Map.Keys.{IsDistinct-from_sorted}
-use Rattle.std.proofs.lemmas.Map.Views.{All-values_from_lookup, IfSome-lookup_from_All}
 use Rattle.std.proofs.lemmas.List.{map-id}
 use Rattle.iv_lines.specs.Ordered.{InOrder}
 use Rattle.iv_lines.specs.Inside.Ordered.{copies_by}
-use Rattle.iv_lines.proofs.BatchLemmas.{strictly-apart}
-use Rattle.iv_lines.proofs.OrderedLemmas.{copies-permutation, in_order-sorted}
 use Rattle.iv_track.specs.Copies.{expanded}
-use Rattle.iv_ledger.specs.Entries.{IsLedger, value_at}
-use Rattle.iv_track.specs.Inside.Counted.{grouped_from, grouped, AreCounted, AreDistinct}
-use Rattle.iv_track.proofs.Counts.{copies-expanded, count-front}
+use Rattle.iv_ledger.specs.Entries.{IsLedger}
+use Rattle.iv_track.specs.Inside.Counted.{grouped_from, grouped, AreCounted}
+use Rattle.iv_track.proofs.Counts.{count-front}
 
 one-more : (b : Bool) (n : ℕ) → cond {A = ℕ} b (n + 1) 0 ≡ cond {A = ℕ} b n 0 + cond {A = ℕ} b 1 0
 one-more true n = refl
@@ -95,9 +90,9 @@ module _ {K : Type 0} (cmp : K → K → Ordering) (total : IsTotalOrder cmp) wh
   in_order-ledger [] order = tt
   in_order-ledger (k ∷ ks) order = from-ordered k 1 ks order
 
-  grouped-counted : (ks : List K) → IsSorted cmp ks → AreCounted cmp (grouped cmp ks) ks
-  grouped-counted ks up = record {
-    ordered = in_order-ledger ks (in_order-sorted cmp total ks up);
+  pub grouped-counted : (ks : List K) → InOrder cmp ks → AreCounted cmp (grouped cmp ks) ks
+  grouped-counted ks order = record {
+    ordered = in_order-ledger ks order;
     present = All-from_recursion (λ n. 0 < n) (values_of (grouped cmp ks)) (present ks);
     counted = grouped-copies ks;
   }
@@ -112,66 +107,6 @@ module _ {K : Type 0} (cmp : K → K → Ordering) (total : IsTotalOrder cmp) wh
 pub given-items : {S X : Type 0} {gives : S → Option X → S → Type 0} (s : S) (xs all : List X) → Drains gives s xs → YieldsList gives (λ x. x) s all → xs ≡ all
 given-items s xs all run list = sym (map-id xs) ∙ items_from_drains xs (run.1.0, run.1.1, λ _. (run.0, run.1.2)) list
 
-given-entries : {X : Type 0} (all xs : List X) → Drains (YieldsFirst (λ (es : List X). es)) all xs → xs ≡ all
+pub given-entries : {X : Type 0} (all xs : List X) → Drains (YieldsFirst (λ (es : List X). es)) all xs → xs ≡ all
 given-entries {X} all xs run =
     given-items all xs all run (YieldsList-from_shown (YieldsFirst (λ (es : List X). es)) (λ e. e) (λ es. es) (λ s t h. ap length h.0) (λ s x t h. h) all)
-
-module _ {K : Type 0} (cmp : K → K → Ordering) (total : IsTotalOrder cmp) where
-  pub given-ordered : (ks : List K) (left xs : List (K × ℕ)) → left ≡ grouped cmp ks → IsSorted cmp ks → Drains (YieldsFirst (λ (es : List (K × ℕ)). es)) left xs → IsLedger cmp xs
-  given-ordered ks left xs is up run = subst (IsLedger cmp) (sym (given-entries left xs run ∙ is)) (grouped-counted cmp total ks up).ordered
-
-  -- a map with the values of counted entries
-  built : (gs es : List (K × ℕ)) (ks : List K) → AreCounted cmp es ks → IsLedger cmp gs → ((k : K) → value_at cmp gs k ≡ value_at cmp es k) → AreCounted cmp gs ks
-  built gs es ks c s same = record {
-    ordered = s;
-    present = All-values_from_lookup (eq_by_cmp_equiv total) (λ n. 0 < n) gs (IsDistinct-from_sorted cmp (keys_of gs) s)
-        (λ k. subst (λ o. IfSome o (λ n. 0 < n)) (sym (same k)) (IfSome-lookup_from_All (λ n. 0 < n) (is_at (cmp k)) es c.present));
-    counted = λ k. copies-expanded cmp total gs k s ∙ ap (λ o. unwrap_or o 0) (same k) ∙ sym (copies-expanded cmp total es k c.ordered) ∙ c.counted k;
-  }
-
-  -- the map that was built from the entries of keys that were sorted, if it was
-  pub given-built : {E : Type 0} (keys ks : List K) (left : List (K × ℕ)) → left ≡ grouped cmp ks → IsPermutation keys ks → IsSorted cmp ks → (r : Result (List (K × ℕ)) E)
-      → IfOk r (λ gs. (es : List (K × ℕ)) × Drains (YieldsFirst (λ (l : List (K × ℕ)). l)) left es × ((k : K) → value_at cmp gs k ≡ value_at cmp es k))
-      → IfOk r (λ gs. IsLedger cmp gs) → IfOk r (λ gs. AreCounted cmp gs keys)
-  given-built keys ks left is moved up (Ok gs) values s =
-      let c : AreCounted cmp values.0 ks = subst (λ es. AreCounted cmp es ks) (sym (given-entries left values.0 values.1 ∙ is)) (grouped-counted cmp total ks up) in
-      let b = built gs values.0 ks c s values.2 in
-      record { ordered = s; present = b.present; counted = λ k. b.counted k ∙ copies-permutation cmp keys ks k moved }
-  given-built keys ks left is moved up (Err e) values s = tt
-
--- ---- one entry
-
-module _ {K : Type 0} (cmp : K → K → Ordering) where
-  -- the first of distinct keys is an entry of its own
-  pub distinct-first : (k : K) (ks : List K) → AreDistinct cmp (k ∷ ks) → grouped cmp (k ∷ ks) ≡ (k, 1) ∷ grouped cmp ks
-  distinct-first k [] up = refl
-  distinct-first k (q ∷ qs) up = cond-false (is_eq (cmp q k)) (grouped_from cmp k 2 qs) ((k, 1) ∷ grouped_from cmp q 1 qs) (strictly-apart cmp k q qs up)
-
-  -- n neighbours alike `held` were taken, and these keys are left: with them, all entries that were left before
-  pub record IsCounting (all : List (K × ℕ)) (held : K) (n : ℕ) (rest : List K) : Type 0 where
-    pub all_is : all ≡ grouped_from cmp held n rest
-    pub few : n + length rest < 2 ^ 32
-
-  pub counting-begins : (all : List (K × ℕ)) (keys : List K) (held : K) (rest : List K) → grouped cmp keys ≡ all → length keys < 2 ^ 32 → keys ≡ held ∷ rest → IsCounting all held 1 rest
-  counting-begins all keys held rest are few is = record {
-    all_is = sym are ∙ ap (grouped cmp) is;
-    few = omega (arith, few, ap length is);
-  }
-
-  -- one more that is alike
-  pub counting-more : (all : List (K × ℕ)) (held key : K) (n : ℕ) (rest : List K) → is_eq (cmp key held) ≡ true → IsCounting all held n (key ∷ rest) → IsCounting all held (n + 1) rest
-  counting-more all held key n rest alike h =
-      let few : n + suc (length rest) < 2 ^ 32 = h.few in
-      record {
-        all_is = h.all_is ∙ cond-true (is_eq (cmp key held)) (grouped_from cmp held (n + 1) rest) ((held, n) ∷ grouped_from cmp key 1 rest) alike;
-        few = omega (arith, few);
-      }
-
-  -- one that is not
-  pub counting-ends : (all : List (K × ℕ)) (held key : K) (n : ℕ) (rest : List K) → is_eq (cmp key held) ≡ false → IsCounting all held n (key ∷ rest) → all ≡ (held, n) ∷ grouped cmp (key ∷ rest)
-  counting-ends all held key n rest apart h =
-      h.all_is ∙ cond-false (is_eq (cmp key held)) (grouped_from cmp held (n + 1) rest) ((held, n) ∷ grouped_from cmp key 1 rest) apart
-
-  -- none
-  pub counting-last : (all : List (K × ℕ)) (held : K) (n : ℕ) (rest : List K) → rest ≡ [] → IsCounting all held n rest → all ≡ (held, n) ∷ []
-  counting-last all held n rest none h = h.all_is ∙ ap (grouped_from cmp held n) none

@@ -1,7 +1,7 @@
 -- Where a search from a position begins.
 use Rattle.std.proofs.Common.{◌≡◌, ℕ, ◌+◌, ◌<◌, Bool, true, false, cond, nat_eq, List, [], ◌∷◌, Option, Some, None, refl, ap, ◌∙◌, arith, zero, suc}
 use borrow.Author.Tests.{lt-ltb}
-use Rattle.std.proofs.lemmas.List.Elements.{All-head, All-tail}
+use Rattle.std.proofs.lemmas.List.Elements.{All-nil, All-cons, All-head, All-tail}
 use Rattle.std.proofs.lemmas.Map.Lookups.{exact_unsigned}
 use Rattle.std.specs.Prelude.{filter, find, All, ◌≤◌}
 use Rattle.std.specs.Map.{keys_of}
@@ -14,7 +14,7 @@ use Rattle.iv_lines.specs.declared.record_ref.Strand.{Strand}
 use Rattle.iv_lines.specs.RecordValue.{RecordValue, IsPlaced, record_cmp}
 use Rattle.iv_lines.specs.Inside.RecordValue.{strand_cmp}
 use Rattle.iv_track.specs.Tracked.{is_from}
-use Rattle.iv_track.specs.Inside.Tracked.{BeginsFrom}
+use Rattle.iv_track.specs.Inside.Tracked.{BeginsFrom, HasColumns}
 use Rattle.iv_track.proofs.NumberOrder.{le-cmp}
 
 from_least : (a b r : Ordering) → (b ≡ Equal → is_le r ≡ true) → is_le (ordering_then a (ordering_then b r)) ≡ is_le (ordering_then a b)
@@ -51,9 +51,21 @@ least-is_from w seq start q some narrow =
     from_least (nat_cmp seq q.seq) (nat_cmp start q.start) _ (λ tied.
     (le_then (nat_cmp (start + 1) q.stop) _ (le-cmp (start + 1) q.stop (omega (arith, some, exact_unsigned start q.start tied))) (empty-before w q narrow)))
 
+-- what is known of both
+both : (es : List (RecordValue × ℕ)) → All IsPlaced (keys_of es) → All HasColumns (keys_of es) → All (λ (q : RecordValue). IsPlaced q × HasColumns q) (keys_of es)
+both [] placed wide = All-nil _
+both (e ∷ es) placed wide =
+    All-cons (λ (q : RecordValue). IsPlaced q × HasColumns q) e.0 (keys_of es)
+    (All-head IsPlaced e.0 (keys_of es) placed, All-head HasColumns e.0 (keys_of es) wide)
+    (both es (All-tail IsPlaced e.0 (keys_of es) placed) (All-tail HasColumns e.0 (keys_of es) wide))
+
+-- the least record at a position
+abbrev pub least : ℕ → ℕ → RecordValue
+least seq start = record { seq = seq; start = start; stop = start + 1; name = []; score = []; strand = None; width = 3 }
+
 -- it is where a search from there begins
-begins-least : (seq start : ℕ) (q : RecordValue) → IsPlaced q → is_le (record_cmp (record { seq = seq; start = start; stop = start + 1; name = []; score = []; strand = None; width = 0 }) q) ≡ is_from seq start q
-begins-least seq start q p = least-is_from 0 seq start q p.some (omega arith)
+begins-least : (seq start : ℕ) (q : RecordValue) → IsPlaced q × HasColumns q → is_le (record_cmp (least seq start) q) ≡ is_from seq start q
+begins-least seq start q h = least-is_from 3 seq start q h.0.some h.1
 
 -- tests that agree on some records find the same among them
 pub find-alike : (P : RecordValue → Type 0) (p r : RecordValue → Bool) → ((q : RecordValue) → P q → p q ≡ r q) → (es : List (RecordValue × ℕ)) → All P (keys_of es) → find (λ e. p e.0) es ≡ find (λ e. r e.0) es
@@ -66,9 +78,10 @@ pub find-begun : (seq start : ℕ) (p : ℕ × ℕ) (es : List (RecordValue × �
 find-begun seq start p es begins = find-alike IsPlaced (is_from p.0 p.1) (is_from seq start) begins.1 es
 
 -- the first entry from the least record at a position on is that of the first record from there on
-pub find-least : (seq start : ℕ) (es : List (RecordValue × ℕ)) → All IsPlaced (keys_of es)
-    → find (λ e. is_le (record_cmp (record { seq = seq; start = start; stop = start + 1; name = []; score = []; strand = None; width = 0 }) e.0)) es ≡ find (λ e. is_from seq start e.0) es
-find-least seq start es = find-alike IsPlaced (λ q. is_le (record_cmp (record { seq = seq; start = start; stop = start + 1; name = []; score = []; strand = None; width = 0 }) q)) (is_from seq start) (begins-least seq start) es
+pub find-least : (seq start : ℕ) (es : List (RecordValue × ℕ)) → All IsPlaced (keys_of es) → All HasColumns (keys_of es)
+    → find (λ e. is_le (record_cmp (least seq start) e.0)) es ≡ find (λ e. is_from seq start e.0) es
+find-least seq start es placed wide =
+    find-alike (λ (q : RecordValue). IsPlaced q × HasColumns q) (λ q. is_le (record_cmp (least seq start) q)) (is_from seq start) (begins-least seq start) es (both es placed wide)
 
 find-nothing : (es : List (RecordValue × ℕ)) → find (λ (e : RecordValue × ℕ). false) es ≡ None
 find-nothing [] = refl
@@ -98,6 +111,7 @@ filter-nowhere seq start es begins h = filter-alike IsPlaced (is_from seq start)
     filter-all_false (e ∷ es) = filter-all_false es
 
 -- the entries from the least record at a position on are those of the records from there on
-pub filter-least : (seq start : ℕ) (es : List (RecordValue × ℕ)) → All IsPlaced (keys_of es)
-    → filter (λ e. is_le (record_cmp (record { seq = seq; start = start; stop = start + 1; name = []; score = []; strand = None; width = 0 }) e.0)) es ≡ filter (λ e. is_from seq start e.0) es
-filter-least seq start es = filter-alike IsPlaced (λ q. is_le (record_cmp (record { seq = seq; start = start; stop = start + 1; name = []; score = []; strand = None; width = 0 }) q)) (is_from seq start) (begins-least seq start) es
+pub filter-least : (seq start : ℕ) (es : List (RecordValue × ℕ)) → All IsPlaced (keys_of es) → All HasColumns (keys_of es)
+    → filter (λ e. is_le (record_cmp (least seq start) e.0)) es ≡ filter (λ e. is_from seq start e.0) es
+filter-least seq start es placed wide =
+    filter-alike (λ (q : RecordValue). IsPlaced q × HasColumns q) (λ q. is_le (record_cmp (least seq start) q)) (is_from seq start) (begins-least seq start) es (both es placed wide)

@@ -1,4 +1,5 @@
 pub mod CountedLemmas
+pub mod ToldLemmas
 pub mod BuiltLemmas
 pub mod ClassLemmas
 pub mod Counts
@@ -8,7 +9,6 @@ pub mod Edits
 pub mod NumberOrder
 pub mod EntryIndexLemmas
 pub mod StepLemmas
-pub mod StoredLemmas
 pub mod TrackLemmas
 pub mod WalkLemmas
 pub mod PlaceLemmas

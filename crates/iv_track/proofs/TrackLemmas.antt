@@ -13,7 +13,7 @@ use Rattle.iv_track.specs.Copies.{expanded}
 use Rattle.iv_lines.specs.Ordered.{copies, added}
 use Rattle.iv_lines.proofs.OrderedLemmas.{length-added}
 use Rattle.iv_track.specs.Tracked.{with_copies, removed}
-use Rattle.iv_track.specs.Inside.Tracked.{IsTrack}
+use Rattle.iv_track.specs.Inside.Tracked.{HasColumns, IsTrack}
 use Rattle.iv_track.proofs.Counts.{find-expanded, copies-found, copies-expanded, length-expanded, expanded-insert, expanded-remove_entry, expanded-set_value, length-removed}
 
 -- the number of copies in the map
@@ -33,6 +33,7 @@ pub record IsLowered (es gs : List (RecordValue × ℕ)) (r : RecordValue) (widt
   pub records : expanded gs ≡ removed (expanded es) r
   pub present : All (λ m. 0 < m) (values_of gs)
   pub widths : All (λ (q : RecordValue). q.width ≡ width) (keys_of gs)
+  pub wide : All HasColumns (keys_of gs)
   pub placed : All IsPlaced (keys_of gs)
   pub ordered : IsLedger record_cmp gs
 
@@ -43,11 +44,12 @@ module _ (es fs : List (RecordValue × ℕ)) (len width limit : ℕ) (r : Record
         ap expanded (put ∙ ap (λ m. insert_entry record_cmp es r (m + 1)) count)
         ∙ expanded-insert record_cmp records_total rows_exact es r t.ordered t.present
 
-    pub staged_track : IsLedger record_cmp fs → r.width ≡ width → IsPlaced r → len ≤ limit → IsTrack fs (len + 1) width limit
-    staged_track ordered fits place room = record {
+    pub staged_track : IsLedger record_cmp fs → r.width ≡ width → HasColumns r → IsPlaced r → len ≤ limit → IsTrack fs (len + 1) width limit
+    staged_track ordered fits columns place room = record {
       ordered = ordered;
       present = subst (λ gs. All (λ m. 0 < m) (values_of gs)) (sym put) (All-values-insert_entry record_cmp r (n + 1) (λ m. 0 < m) es t.present (omega arith));
       widths = subst (λ gs. All (λ (q : RecordValue). q.width ≡ width) (keys_of gs)) (sym put) (All-keys-insert_entry record_cmp r (n + 1) (λ (q : RecordValue). q.width ≡ width) es t.widths fits);
+      wide = subst (λ gs. All HasColumns (keys_of gs)) (sym put) (All-keys-insert_entry record_cmp r (n + 1) HasColumns es t.wide columns);
       placed = subst (λ gs. All IsPlaced (keys_of gs)) (sym put) (All-keys-insert_entry record_cmp r (n + 1) IsPlaced es t.placed place);
       len_is = omega (arith, length-expanded fs, ap length staged_rows, length-added record_cmp (expanded es) r, length-expanded es, t.len_is);
       room = omega arith;
@@ -69,6 +71,7 @@ module _ (es fs : List (RecordValue × ℕ)) (len width limit : ℕ) (r : Record
       records = ap expanded is ∙ expanded-remove_entry record_cmp es r (count ∙ ap Some one);
       present = subst (λ gs. All (λ m. 0 < m) (values_of gs)) (sym is) (All-map-remove_entry (is_at (record_cmp r)) (λ e. e.1) (λ m. 0 < m) es t.present);
       widths = subst (λ gs. All (λ (q : RecordValue). q.width ≡ width) (keys_of gs)) (sym is) (All-map-remove_entry (is_at (record_cmp r)) (λ e. e.0) (λ (q : RecordValue). q.width ≡ width) es t.widths);
+      wide = subst (λ gs. All HasColumns (keys_of gs)) (sym is) (All-map-remove_entry (is_at (record_cmp r)) (λ e. e.0) HasColumns es t.wide);
       placed = subst (λ gs. All IsPlaced (keys_of gs)) (sym is) (All-map-remove_entry (is_at (record_cmp r)) (λ e. e.0) IsPlaced es t.placed);
       ordered = ordered;
     }
@@ -81,6 +84,7 @@ module _ (es fs : List (RecordValue × ℕ)) (len width limit : ℕ) (r : Record
           records = ap expanded is ∙ expanded-set_value record_cmp es r (n - 1) (count ∙ ap Some e);
           present = subst (λ gs. All (λ m. 0 < m) (values_of gs)) (sym is) (All-values-set_value (is_at (record_cmp r)) (λ m. 0 < m) es (n - 1) t.present below);
           widths = subst (λ gs. All (λ (q : RecordValue). q.width ≡ width) (keys_of gs)) (sym is) (subst (All (λ (q : RecordValue). q.width ≡ width)) (sym (keys-set_value (is_at (record_cmp r)) es (n - 1))) t.widths);
+          wide = subst (λ gs. All HasColumns (keys_of gs)) (sym is) (subst (All HasColumns) (sym (keys-set_value (is_at (record_cmp r)) es (n - 1))) t.wide);
           placed = subst (λ gs. All IsPlaced (keys_of gs)) (sym is) (subst (All IsPlaced) (sym (keys-set_value (is_at (record_cmp r)) es (n - 1))) t.placed);
           ordered = ordered;
         }
@@ -90,6 +94,7 @@ module _ (es fs : List (RecordValue × ℕ)) (len width limit : ℕ) (r : Record
       ordered = low.ordered;
       present = low.present;
       widths = low.widths;
+      wide = low.wide;
       placed = low.placed;
       len_is = omega (arith, length-expanded fs, ap length low.records, length-removed record_cmp (expanded es) r found, length-expanded es, t.len_is);
       room = omega (arith, t.room);

@@ -1,15 +1,8 @@
--- A record that a track lends, however the track holds it.
+-- The copies of a record that a walk lends.
 use Rattle.std.specs.Prelude.{ℕ, List, [], replicate, Option, Some, None}
 use Rattle.iv_lines.specs.RecordValue.{RecordValue}
-use Rattle.iv_track.specs.declared.track_record.Lent.{Lent}
-use Rattle.iv_track.specs.declared.track_record.Lent.TheVariants.{Bed3, Full}
-
--- the record that is lent
-abbrev pub value_of : {A : Type 0} → Lent A → RecordValue
-value_of (Bed3 feature) = feature.now
-value_of (Full feature) = feature.now
 
 -- the copies that are held
-abbrev pub again : {A : Type 0} → Option (Lent A × ℕ) → List RecordValue
+abbrev pub again : Option (RecordValue × ℕ) → List RecordValue
 again None = []
-again (Some p) = replicate p.1 (value_of p.0)
+again (Some p) = replicate p.1 p.0

@@ -5,30 +5,19 @@ ghost use Rattle.std.specs.Map.{keys_of};
 ghost use Rattle.iv_lines.specs.RecordValue.{IsPlaced};
 ghost use Rattle.iv_track.specs.Copies.{expanded};
 ghost use Rattle.iv_track.specs.Inside.LengthClasses.{AreClasses, length_class};
-ghost use Rattle.iv_track.specs.Lent.{value_of};
 
-use crate::entries::EntriesWalk;
-use crate::track_record::{Lent, TrackRecord};
-use iv_lines::Record;
+use crate::by_rest::ByRest;
+use iv_ledger::Walk;
+use iv_lines::RecordRef;
+use iv_places::Place;
 use std::alloc::Allocator;
 use std::marker::Model;
 
 /// How many binary digits the number of a record's positions has, 1 to 32.
-pub(crate) fn length_class<A: Allocator + Copy>(feature: &Record<A>) -> usize
+pub(crate) fn length_class(feature: &RecordRef<'_>) -> usize
     ensures is { result ≡ length_class feature.now }
     ensures within { result < 33 }
 {
-    feature.lemma_of_interval();
-    class_of_length(feature.stop() - feature.start())
-}
-
-/// How many binary digits the number of a lent record's positions has, 1 to 32.
-fn lent_class<A: Allocator + Copy>(lent: Lent<'_, A>) -> usize
-    ensures is { result ≡ length_class (value_of lent.entry) }
-    ensures within { result < 33 }
-    ensures placed { IsPlaced (value_of lent.entry) }
-{
-    let feature = TrackRecord::of(lent);
     feature.lemma_of_interval();
     class_of_length(feature.stop() - feature.start())
 }
@@ -68,15 +57,16 @@ impl LengthClasses {
     }
 
     /// The classes of the records of a map, each with the number of its copies.
-    pub(crate) fn of<A: Allocator + Copy>(entries: EntriesWalk<'_, A>) -> Self
+    pub(crate) fn of<A: Allocator + Copy>(entries: Walk<'_, Place, u32, A, ByRest<A>>) -> Self
         requires { length (expanded entries) < 2 ^ 32 }
         ensures classes { AreClasses result (expanded entries.entry) }
         ensures placed { All IsPlaced (keys_of entries.entry) }
     {
         let mut classes = LengthClasses::new();
         let mut entries = entries;
-        while let Some((lent, copies)) = entries.advance() {
-            classes.add(lent_class(lent), copies);
+        while let Some((feature, copies)) = entries.advance() {
+            feature.lemma_of_interval();
+            classes.add(length_class(&feature), *copies);
         }
         classes
     }

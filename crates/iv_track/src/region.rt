@@ -3,8 +3,7 @@ ghost use Rattle.std.specs.Prelude.{◌≡◌};
 ghost use Rattle.iv_track.specs.Regions.{overlaps};
 ghost use Rattle.iv_track.specs.Tracked.{is_from};
 
-use crate::track_record::TrackRecord;
-use std::alloc::Allocator;
+use iv_lines::RecordRef;
 
 /// An interval of the sequence of this rank, 0-based and half-open.
 #[derive(Clone, Copy, Debug, PartialEq, Eq)]
@@ -19,14 +18,14 @@ pub struct Region {
 
 impl Region {
     /// Whether a record is on the region's sequence and shares a position with the region.
-    pub(crate) fn overlaps<A: Allocator + Copy>(&self, feature: &TrackRecord<'_, A>) -> bool
+    pub(crate) fn overlaps(&self, feature: &RecordRef<'_>) -> bool
         ensures { result ≡ overlaps self.now.seq self.now.start self.now.stop feature.now }
     {
         feature.seq() == self.seq && feature.start() < self.stop && self.start < feature.stop()
     }
 
     /// Whether a record starts at the region's end or after it, or is on a later sequence.
-    pub(crate) fn ends_before<A: Allocator + Copy>(&self, feature: &TrackRecord<'_, A>) -> bool
+    pub(crate) fn ends_before(&self, feature: &RecordRef<'_>) -> bool
         ensures { result ≡ is_from self.now.seq self.now.stop feature.now }
     {
         self.seq

@@ -2,6 +2,7 @@
 ghost use Rattle.std.specs.Prelude.{◌≡◌, ◌+◌, ◌-◌, ◌*◌, ◌^◌, ◌<◌, ◌≤◌, [], length, Some, None, IfOk, IfErr, OnOk, OnErr, All, vec_len};
 ghost use Rattle.std.specs.List.{filter};
 ghost use Rattle.iv_lines.specs.Ordered.{AreInOrder, copies, ordered};
+ghost use Rattle.iv_lines.specs.Intervals.{record_of_interval};
 ghost use Rattle.iv_track.specs.Regions.{hits, longest, near};
 ghost use Rattle.iv_track.specs.Edits.{RefusesAdd, RefusesRemove, RefusesReplace, with_record, without_record, with_replaced};
 ghost use Rattle.iv_ledger.specs.Steps.{TakesUpTo, ticked};
@@ -9,15 +10,16 @@ ghost use Rattle.iv_track.specs.Copies.{expanded};
 ghost use Rattle.iv_track.specs.Tracked.{different_records, most_records};
 ghost use Rattle.iv_track.specs.Inside.Tracked.{BeginsFrom};
 
-use crate::entries::Entries;
+use crate::by_rest::ByRest;
+use crate::counted::count_copies;
 use crate::length_classes::{LengthClasses, length_class};
 use crate::region::Region;
 use crate::track_entries::TrackEntries;
 use crate::track_hits::TrackHits;
-use crate::track_record::TrackRecord;
 use crate::track_records::TrackRecords;
-use iv_ledger::Meter;
-use iv_lines::{Batches, Fault, Record, RecordBatches};
+use iv_ledger::{Ledger, Meter};
+use iv_lines::{Fault, Interval, Record, RecordRef};
+use iv_places::{Place, Places, Rests};
 use std::alloc::{AllocError, Allocator, Global};
 use std::marker::Model;
 
@@ -29,7 +31,7 @@ pub type EditFault = Fault;
 /// Its model is the one ordered list of its records, with copies repeated, with the width and the limit.
 #[derive(Drop)]
 pub struct Track<A: Allocator + Copy = Global> {
-    ledger: Entries<A>,
+    ledger: Ledger<Place, u32, A, ByRest<A>>,
     len: u32,
     limit: u32,
     width: u8,
@@ -60,7 +62,7 @@ impl<A: Allocator + Copy> Track<A> {
         ensures { result ≡ record { records = []; width = width; limit = limit } }
     {
         Track {
-            ledger: Entries::new(alloc),
+            ledger: Ledger::with_order(alloc, ByRest::of(Rests::new(alloc, width))),
             len: 0,
             limit,
             width,
@@ -83,25 +85,27 @@ impl<A: Allocator + Copy> Track<A> {
         requires width { All (λ r. r.width ≡ width) records.items }
         ensures { IfOk result (λ t. t ≡ record { records = ordered records.items; width = width; limit = limit }) }
     {
-        Track::from_held(alloc, width, limit, RecordBatches::of(Batches::of(records)))
+        let Some(first) = records.as_slice().first() else {
+            return Ok(Track::new(alloc, width, limit));
+        };
+        let width = first.as_ref().width();
+        let places = Places::of_records(alloc, width, records.as_slice())?;
+        Track::from_places(alloc, limit, places)
     }
 
-    /// The track of these records, as [`Track::from_records`] makes it. If they are in order, each of their vectors is freed as
-    /// soon as its records are in the map.
+    /// The track of these records, which are sorted, unless they are in order.
     ///
-    /// The limit is at most 100,000,000 records. There are no more records than the limit, and each has the width.
-    pub fn from_held(
-        alloc: A,
-        width: u8,
-        limit: u32,
-        records: RecordBatches<A>,
-    ) -> Result<Self, AllocError>
+    /// The limit is at most 100,000,000 records. There are no more records than the limit.
+    pub fn from_places(alloc: A, limit: u32, places: Places<A>) -> Result<Self, AllocError>
         requires limit { limit ≤ most_records }
-        requires few { length records ≤ limit }
-        requires width { All (λ r. r.width ≡ width) records }
-        ensures { IfOk result (λ t. t ≡ record { records = ordered records; width = width; limit = limit }) }
+        requires few { length places.records ≤ limit }
+        ensures { IfOk result (λ t. t ≡ record { records = ordered places.records; width = places.width; limit = limit }) }
     {
-        let (ledger, len) = Entries::of(alloc, width, records)?;
+        let mut places = places;
+        places.sort(alloc)?;
+        let width = places.width();
+        let len = places.records().len() as u32;
+        let ledger = count_copies(alloc, places)?;
         let lengths = LengthClasses::of(ledger.all());
         Ok(Track {
             ledger,
@@ -139,12 +143,12 @@ impl<A: Allocator + Copy> Track<A> {
     }
 
     /// How many copies of the record are there, 0 if it is absent. At most 2 steps.
-    pub fn copies(&self, feature: &Record<A>, meter: &mut Meter) -> u32
+    pub fn copies(&self, feature: &RecordRef<'_>, meter: &mut Meter) -> u32
         ensures value { result ≡ copies self.now.records feature.now }
         ensures ordered { AreInOrder self.now.records }
         ensures steps { TakesUpTo meter.old meter.new 2 }
     {
-        self.ledger.get(feature, meter).unwrap_or(0)
+        self.ledger.get(feature, meter).copied().unwrap_or(0)
     }
 
     /// Adds a record without a look at the limit. At most 3 steps.
@@ -157,18 +161,20 @@ impl<A: Allocator + Copy> Track<A> {
     /// # Errors
     ///
     /// E22: an allocation failed, which happens for a record without a copy alone. The track is unchanged.
-    pub fn stage(&mut self, feature: Record<A>, meter: &mut Meter) -> Result<(), AllocError>
+    pub fn stage(&mut self, feature: &RecordRef<'_>, meter: &mut Meter) -> Result<(), AllocError>
         requires room { length self.old.records ≤ self.old.limit }
-        requires width { feature.width ≡ self.old.width }
-        ensures ok { OnOk result (self.new ≡ with_record feature self.old) }
-        ensures memory { OnErr result (copies self.old.records feature ≡ 0) }
+        requires width { feature.now.width ≡ self.old.width }
+        ensures ok { OnOk result (self.new ≡ with_record feature.now self.old) }
+        ensures memory { OnErr result (copies self.old.records feature.now ≡ 0) }
         ensures err { OnErr result (self.new ≡ self.old) }
         ensures steps { TakesUpTo meter.old meter.new 3 }
     {
         feature.lemma_of_interval();
-        let class = length_class(&feature);
-        let count = self.ledger.get(&feature, meter).unwrap_or(0);
-        self.ledger.put(feature, count + 1, meter)?;
+        // After this read the width is known to be one of a record.
+        let _width = feature.width();
+        let class = length_class(feature);
+        let count = self.ledger.get(feature, meter).copied().unwrap_or(0);
+        self.ledger.put(feature.again(), count + 1, meter)?;
         self.lengths.add(class, 1);
         self.len += 1;
         Ok(())
@@ -180,11 +186,11 @@ impl<A: Allocator + Copy> Track<A> {
     ///
     /// E12 exactly if the track holds its limit or more, else E22, and that only for a record without a
     /// copy. The track is unchanged.
-    pub fn add(&mut self, feature: Record<A>, meter: &mut Meter) -> Result<(), EditFault>
-        requires { feature.width ≡ self.old.width }
+    pub fn add(&mut self, feature: &RecordRef<'_>, meter: &mut Meter) -> Result<(), EditFault>
+        requires { feature.now.width ≡ self.old.width }
         ensures room { OnOk result (length self.old.records < self.old.limit) }
-        ensures ok { OnOk result (self.new ≡ with_record feature self.old) }
-        ensures why { IfErr result (RefusesAdd self.old feature) }
+        ensures ok { OnOk result (self.new ≡ with_record feature.now self.old) }
+        ensures why { IfErr result (RefusesAdd self.old feature.now) }
         ensures err { OnErr result (self.new ≡ self.old) }
         ensures steps { TakesUpTo meter.old meter.new 8 }
     {
@@ -204,25 +210,25 @@ impl<A: Allocator + Copy> Track<A> {
         seq: u32,
         start: u64,
         meter: &mut Meter,
-    ) -> Option<(TrackRecord<'_, A>, u32)>
+    ) -> Option<(RecordRef<'_>, u32)>
         ensures next { result ≡ next_from self.now.records seq start }
         ensures steps { TakesUpTo meter.old meter.new 2 }
     {
         // After this read what the map is is known.
         let _len = self.len;
         let (seq, start) = first_place(seq, start)?;
-        let (lent, count) = self.ledger.at_or_after(seq, start, meter)?;
-        Some((TrackRecord::of(lent), count))
+        let (feature, count) = self.ledger.at_or_after(&least_at(seq, start), meter)?;
+        Some((feature, *count))
     }
 
     /// The first record after this one, and how many copies of it there are. At most 2 steps, and no memory.
     /// It is for callers outside this repository.
-    pub fn after(&self, feature: &Record<A>, meter: &mut Meter) -> Option<(TrackRecord<'_, A>, u32)>
+    pub fn after(&self, feature: &RecordRef<'_>, meter: &mut Meter) -> Option<(RecordRef<'_>, u32)>
         ensures next { result ≡ next_after self.now.records feature.now }
         ensures steps { TakesUpTo meter.old meter.new 2 }
     {
-        let (lent, count) = self.ledger.after(feature, meter)?;
-        Some((TrackRecord::of(lent), count))
+        let (next, count) = self.ledger.after(feature, meter)?;
+        Some((next, *count))
     }
 
     /// The records on this sequence from this start on, and on later sequences, copies repeated.
@@ -236,7 +242,7 @@ impl<A: Allocator + Copy> Track<A> {
         ensures steps { TakesUpTo meter.old meter.new 1 }
     {
         TrackRecords {
-            entries: self.ledger.walk(seq, start as u32, meter),
+            entries: self.ledger.walk(&least_at(seq, start as u32), meter),
             held: None,
         }
     }
@@ -251,7 +257,7 @@ impl<A: Allocator + Copy> Track<A> {
         ensures step { meter.new ≡ ticked meter.old }
     {
         TrackEntries {
-            entries: self.ledger.walk(seq, start as u32, meter),
+            entries: self.ledger.walk(&least_at(seq, start as u32), meter),
         }
     }
 
@@ -304,10 +310,13 @@ impl<A: Allocator + Copy> Track<A> {
         // After this read what the map is is known.
         let _len = self.len;
         let Some((seq, start)) = first_place(seq, start) else {
-            return TrackRecords::none();
+            return TrackRecords {
+                entries: self.ledger.none(),
+                held: None,
+            };
         };
         TrackRecords {
-            entries: self.ledger.walk(seq, start, meter),
+            entries: self.ledger.walk(&least_at(seq, start), meter),
             held: None,
         }
     }
@@ -325,7 +334,7 @@ impl<A: Allocator + Copy> Track<A> {
     /// # Errors
     ///
     /// E11 exactly if no copy is there. The track is unchanged.
-    pub fn remove(&mut self, feature: &Record<A>, meter: &mut Meter) -> Result<(), EditFault>
+    pub fn remove(&mut self, feature: &RecordRef<'_>, meter: &mut Meter) -> Result<(), EditFault>
         ensures there { OnOk result (0 < copies self.old.records feature.now) }
         ensures ok { OnOk result (self.new ≡ without_record feature.now self.old) }
         ensures why { IfErr result (RefusesRemove self.old feature.now) }
@@ -333,7 +342,7 @@ impl<A: Allocator + Copy> Track<A> {
         ensures was_ordered { AreInOrder self.old.records }
         ensures steps { TakesUpTo meter.old meter.new 3 }
     {
-        let Some(count) = self.ledger.get(feature, meter) else {
+        let Some(count) = self.ledger.get(feature, meter).copied() else {
             return Err(EditFault::Absent);
         };
         self.lengths.remove(length_class(feature));
@@ -357,15 +366,15 @@ impl<A: Allocator + Copy> Track<A> {
     /// copy. The track is unchanged.
     pub fn replace(
         &mut self,
-        old: &Record<A>,
-        new: Record<A>,
+        old: &RecordRef<'_>,
+        new: &RecordRef<'_>,
         meter: &mut Meter,
     ) -> Result<(), EditFault>
         requires room { length self.old.records ≤ self.old.limit }
-        requires width { new.width ≡ self.old.width }
+        requires width { new.now.width ≡ self.old.width }
         ensures there { OnOk result (0 < copies self.old.records old.now) }
-        ensures ok { OnOk result (self.new ≡ with_replaced old.now new self.old) }
-        ensures why { IfErr result (RefusesReplace self.old old.now new) }
+        ensures ok { OnOk result (self.new ≡ with_replaced old.now new.now self.old) }
+        ensures why { IfErr result (RefusesReplace self.old old.now new.now) }
         ensures err { OnErr result (self.new ≡ self.old) }
         ensures steps { TakesUpTo meter.old meter.new 8 }
     {
@@ -378,6 +387,19 @@ impl<A: Allocator + Copy> Track<A> {
             Err(_) => unreachable!(),
         }
     }
+}
+
+/// A bound for searches: in the order of a track no record that starts at this position of a sequence or after it comes before it, and
+/// each that starts before it does.
+fn least_at<'a>(seq: u32, start: u32) -> RecordRef<'a>
+    requires { start < 2 ^ 32 - 1 }
+    ensures { result ≡ record_of_interval (record { seq = seq; start = start; stop = start + 1 }) }
+{
+    RecordRef::of_interval(Interval {
+        seq,
+        start,
+        stop: start + 1,
+    })
 }
 
 /// From which start of which sequence the records are that are on this sequence from this start on, or on a later one. `None` if

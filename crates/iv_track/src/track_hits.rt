@@ -3,9 +3,9 @@ ghost use Rattle.std.specs.Iterator.{YieldsFirst};
 ghost use Rattle.iv_track.specs.Regions.{TakesForPassed, end_step};
 
 use crate::region::Region;
-use crate::track_record::TrackRecord;
 use crate::track_records::TrackRecords;
 use iv_ledger::Meter;
+use iv_lines::RecordRef;
 use std::alloc::{Allocator, Global};
 use std::marker::Model;
 
@@ -36,7 +36,7 @@ impl<'a, A: Allocator + Copy> Model for TrackHits<'a, A> {
 impl<'a, A: Allocator + Copy> TrackHits<'a, A> {
     /// The next record, `None` after the last. A call is at most one step for each record that it passes, and the last call
     /// at most another.
-    pub fn next(&mut self, meter: &mut Meter) -> Option<TrackRecord<'a, A>>
+    pub fn next(&mut self, meter: &mut Meter) -> Option<RecordRef<'a>>
         ensures feature { YieldsFirst (λ h. h.records) self.old result self.new }
         ensures steps { TakesForPassed meter.old meter.new self.old self.new (end_step result) }
     {

@@ -1,11 +1,13 @@
 //! A walk over the records of a track.
-ghost use Rattle.std.specs.Prelude.{◌≡◌, []};
+ghost use Rattle.std.specs.Prelude.{◌≡◌};
 ghost use Rattle.std.specs.Iterator.{YieldsFirst};
 ghost use Rattle.iv_ledger.specs.Steps.{TakesUpTo};
+ghost use Rattle.iv_track.specs.Lent.{again};
 
-use crate::entries::EntriesWalk;
-use crate::track_record::{Lent, TrackRecord};
-use iv_ledger::Meter;
+use crate::by_rest::ByRest;
+use iv_ledger::{Meter, Walk};
+use iv_lines::RecordRef;
+use iv_places::Place;
 use std::alloc::{Allocator, Global};
 use std::marker::Model;
 
@@ -14,8 +16,9 @@ use std::marker::Model;
 /// A record comes once for each of its copies. Its model is the list of the records that are left.
 #[derive(Drop)]
 pub struct TrackRecords<'a, A: Allocator + Copy = Global> {
-    pub(crate) entries: EntriesWalk<'a, A>,
-    pub(crate) held: Option<(Lent<'a, A>, u32)>,
+    pub(crate) entries: Walk<'a, Place, u32, A, ByRest<A>>,
+    // The record that came last, and how many copies of it remain.
+    pub(crate) held: Option<(RecordRef<'a>, u32)>,
 }
 
 impl<'a, A: Allocator + Copy> Model for TrackRecords<'a, A> {
@@ -33,30 +36,17 @@ impl<'a, A: Allocator + Copy> Model for TrackRecords<'a, A> {
 }
 
 impl<'a, A: Allocator + Copy> TrackRecords<'a, A> {
-    /// A walk over no record.
-    pub(crate) fn none() -> TrackRecords<'a, A>
-        ensures { result ≡ [] }
-    {
-        TrackRecords {
-            entries: EntriesWalk::none(),
-            held: None,
-        }
-    }
-
     /// The next record, `None` after the last. A call is at most one step.
-    pub fn next(&mut self, meter: &mut Meter) -> Option<TrackRecord<'a, A>>
+    pub fn next(&mut self, meter: &mut Meter) -> Option<RecordRef<'a>>
         ensures feature { YieldsFirst (λ records. records) self.old result self.new }
         ensures steps { TakesUpTo meter.old meter.new 1 }
     {
-        if let Some((lent, left)) = self.held {
-            if left > 0 {
-                self.held = Some((lent, left - 1));
-                return Some(TrackRecord::of(lent));
-            }
+        if let Some(next) = next_held(&mut self.held) {
+            return Some(next);
         }
-        let (lent, count) = self.entries.next(meter)?;
-        self.held = Some((lent, count - 1));
-        Some(TrackRecord::of(lent))
+        let (feature, count) = self.entries.next(meter)?;
+        self.held = Some((feature.again(), *count - 1));
+        Some(feature)
     }
 
     /// The same walk once more, from where it is now. It is no step, and takes no memory.
@@ -65,7 +55,23 @@ impl<'a, A: Allocator + Copy> TrackRecords<'a, A> {
     {
         TrackRecords {
             entries: self.entries.again(),
-            held: self.held,
+            held: match &self.held {
+                Some((feature, left)) => Some((feature.again(), *left)),
+                None => None,
+            },
         }
     }
+}
+
+/// The next copy of the record that came last, if there is one.
+fn next_held<'a>(held: &mut Option<(RecordRef<'a>, u32)>) -> Option<RecordRef<'a>>
+    ensures { YieldsFirst again held.old result held.new }
+{
+    let (feature, left) = held.take()?;
+    if left == 0 {
+        return None;
+    }
+    let next = feature.again();
+    *held = Some((feature, left - 1));
+    Some(next)
 }

@@ -7,8 +7,8 @@ ghost use Rattle.iv_view.specs.Inside.Texts.{records_text};
 
 use iv_bytes::{Sink, WriteFault};
 use iv_ledger::Meter;
-use iv_lines::{Genome, put_line};
-use iv_track::{Track, TrackRecord};
+use iv_lines::{Genome, RecordRef, put_line};
+use iv_track::Track;
 use std::alloc::Allocator;
 
 /// Puts the rows of the track: every record with all its columns, in its order.
@@ -34,14 +34,14 @@ pub(crate) fn print_records<A: Allocator + Copy, S: Sink>(
 /// Puts the row of a record, once for each of its copies.
 fn put_copies<A: Allocator + Copy, S: Sink>(
     genome: &Genome<A>,
-    feature: &TrackRecord<'_, A>,
+    feature: &RecordRef<'_>,
     copies: u32,
     sink: &mut S,
 ) -> Result<(), WriteFault>
     ensures { Puts (S.state sink.old) (S.state sink.new) result (records_text genome.now (replicate copies feature.now)) }
 {
     'copies: for _ in 0..copies {
-        put_line(sink, genome, &feature.as_ref())?;
+        put_line(sink, genome, &feature)?;
     }
     Ok(())
 }

@@ -13,9 +13,9 @@ use crate::records::print_records;
 use iv_bytes::{Sink, WriteFault};
 use iv_fasta::{Fasta, FastaOutput, put_fasta};
 use iv_ledger::Meter;
-use iv_lines::{BedRecord, Genome, put_line};
+use iv_lines::{BedRecord, Genome, RecordRef, put_line};
 use iv_pair::{PairOutput, Second, print_fasta, print_pairs, put_pair_rows};
-use iv_track::{Region, Track, TrackRecord};
+use iv_track::{Region, Track};
 use std::alloc::Allocator;
 
 /// A view that is written from the records at each print.
@@ -91,7 +91,7 @@ impl WrittenView {
     /// Puts the rows of one record.
     fn put_rows<A: Allocator + Copy, S: Sink>(
         self,
-        feature: &TrackRecord<'_, A>,
+        feature: &RecordRef<'_>,
         second: Option<&Second<A>>,
         fasta: Option<&Fasta<A>>,
         genome: &Genome<A>,
@@ -110,7 +110,7 @@ impl WrittenView {
                 Some(fasta) => put_fasta(shown, genome, feature, fasta, sink),
                 None => Ok(()),
             },
-            WrittenView::Records => put_line(sink, genome, &feature.as_ref()),
+            WrittenView::Records => put_line(sink, genome, &feature),
         }
     }
 }
@@ -118,7 +118,7 @@ impl WrittenView {
 /// Puts the rows of one record beside its hits.
 fn put_pair<A: Allocator + Copy, S: Sink>(
     output: PairOutput,
-    feature: &TrackRecord<'_, A>,
+    feature: &RecordRef<'_>,
     second: &Second<A>,
     genome: &Genome<A>,
     sink: &mut S,

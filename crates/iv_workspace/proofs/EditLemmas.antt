@@ -53,30 +53,26 @@ pub record Changed (change : Change) (g : Sequences) (old new : Tracked) (r : Re
   pub fit : All (Fits g new.width) new.records
   pub fits : Fits g new.width r
 
-pub changed-added : (g : Sequences) (old new : Tracked) (x r : RecordValue)
-    → x ≡ r → All (Fits g old.width) old.records → Fits g old.width r → new ≡ with_record x old → Changed Added g old new r
-changed-added g old new x r same fit fits is =
-    subst (λ (t : Tracked). Changed Added g old t r) (sym (is ∙ ap (λ (q : RecordValue). with_record q old) same))
-    (record { changed = refl; fit = All-added (Fits g old.width) old.records r fit fits; fits = fits })
+pub changed-added : (g : Sequences) (old new : Tracked) (r : RecordValue)
+    → All (Fits g old.width) old.records → Fits g old.width r → new ≡ with_record r old → Changed Added g old new r
+changed-added g old new r fit fits is =
+    subst (λ (t : Tracked). Changed Added g old t r) (sym is) (record { changed = refl; fit = All-added (Fits g old.width) old.records r fit fits; fits = fits })
 
-pub changed-removed : (g : Sequences) (old new : Tracked) (x r : RecordValue)
-    → x ≡ r → All (Fits g old.width) old.records → Fits g old.width r → AreInOrder old.records → 0 < copies old.records x → new ≡ without_record x old → Changed Removed g old new r
-changed-removed g old new x r same fit fits order there is =
-    let some : 0 < copies old.records r = subst (λ (q : RecordValue). 0 < copies old.records q) same there in
-    subst (λ (t : Tracked). Changed Removed g old t r) (sym (is ∙ ap (λ (q : RecordValue). without_record q old) same))
-    (record { changed = added-removed old.records r order some; fit = All-removed (Fits g old.width) old.records r fit; fits = fits })
+pub changed-removed : (g : Sequences) (old new : Tracked) (r : RecordValue)
+    → All (Fits g old.width) old.records → Fits g old.width r → AreInOrder old.records → 0 < copies old.records r → new ≡ without_record r old → Changed Removed g old new r
+changed-removed g old new r fit fits order there is =
+    subst (λ (t : Tracked). Changed Removed g old t r) (sym is)
+    (record { changed = added-removed old.records r order there; fit = All-removed (Fits g old.width) old.records r fit; fits = fits })
 
 pub staged-there : (old mid : Tracked) (r q : RecordValue) → 0 < copies old.records r → mid ≡ with_record q old → 0 < copies mid.records r
 staged-there old mid r q there is = subst (λ (t : Tracked). 0 < copies t.records r) (sym is) (omega (arith, there, copies-added record_cmp old.records q r))
 
 -- a record was added, and then one copy of another taken out
-pub replaced-is : (old mid new : Tracked) (before r after q : RecordValue) → before ≡ r → after ≡ q → AreInOrder old.records → 0 < copies old.records before
-    → mid ≡ with_record after old → new ≡ without_record before mid → new ≡ with_replaced r q old
-replaced-is old mid new before r after q first next order there staged taken =
-    taken ∙ ap (without_record before) staged
-    ∙ ap (λ (l : List RecordValue). record old { records = l }) (removed-added record_cmp records_total rows_exact old.records after before order there)
-    ∙ ap (λ (x : RecordValue). with_replaced x after old) first
-    ∙ ap (λ (x : RecordValue). with_replaced r x old) next
+pub replaced-is : (old mid new : Tracked) (r q : RecordValue) → AreInOrder old.records → 0 < copies old.records r
+    → mid ≡ with_record q old → new ≡ without_record r mid → new ≡ with_replaced r q old
+replaced-is old mid new r q order there staged taken =
+    taken ∙ ap (without_record r) staged
+    ∙ ap (λ (l : List RecordValue). record old { records = l }) (removed-added record_cmp records_total rows_exact old.records q r order there)
 
 -- ---- the second file
 

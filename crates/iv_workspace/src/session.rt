@@ -15,7 +15,8 @@ pub use edits::{Accepted, Edit, Target};
 use iv_fasta::Fasta;
 use iv_lines::{Genome, RecordFault, RecordRef, read_record};
 use iv_pair::Second;
-use iv_text::{BedBatches, BedFile};
+use iv_places::Places;
+use iv_text::BedFile;
 use iv_track::Track;
 use std::alloc::{AllocError, Allocator, Global};
 use std::marker::Model;
@@ -51,7 +52,7 @@ impl<A: Allocator + Copy> Model for Session<A> {
 /// The second file of the records of a BED file, if there is one.
 fn second_of<A: Allocator + Copy>(
     alloc: A,
-    file: Option<BedBatches<A>>,
+    file: Option<Places<A>>,
     limit: u32,
 ) -> Result<Option<Second<A>>, AllocError>
     requires widths { IfSome file (λ f. All (λ r. r.width ≡ f.width) f.records) }
@@ -63,18 +64,19 @@ fn second_of<A: Allocator + Copy>(
     let Some(file) = file else {
         return Ok(None);
     };
-    let width = file.width();
-    let second = Second::from_batches(alloc, width, limit, file.into_records())?;
+    let second = Second::new(alloc, limit, file)?;
     Ok(Some(second))
 }
 
-/// A file that may be left out, its records in batches.
-fn into_batches<A: Allocator + Copy>(file: Option<BedFile<A>>) -> Option<BedBatches<A>>
-    ensures { result ≡ file }
+/// A file that may be left out, its records at places.
+fn into_places<A: Allocator + Copy>(
+    file: Option<BedFile<A>>,
+) -> Result<Option<Places<A>>, AllocError>
+    ensures { IfOk result (λ places. places ≡ file) }
 {
     match file {
-        Some(file) => Some(file.into_batches()),
-        None => None,
+        Some(file) => Ok(Some(file.into_places()?)),
+        None => Ok(None),
     }
 }
 
@@ -95,17 +97,17 @@ impl<A: Allocator + Copy> Session<A> {
         requires bounded { limit ≤ most_records }
         ensures { IfOk result (λ s. s ≡ begun genome first second fasta limit) }
     {
-        let first = first.into_batches();
-        Session::from_batches(alloc, genome, first, into_batches(second), fasta, limit)
+        let first = first.into_places()?;
+        let second = into_places(second)?;
+        Session::from_places(alloc, genome, first, second, fasta, limit)
     }
 
-    /// A session of the same, as [`Session::new`] makes it. The vectors of each file's records are freed one after the other while
-    /// its track is built.
-    pub fn from_batches(
+    /// A session of the same, as [`Session::new`] makes it.
+    pub fn from_places(
         alloc: A,
         genome: Genome<A>,
-        first: BedBatches<A>,
-        second: Option<BedBatches<A>>,
+        first: Places<A>,
+        second: Option<Places<A>>,
         fasta: Option<Fasta<A>>,
         limit: u32,
     ) -> Result<Session<A>, AllocError>
@@ -116,8 +118,9 @@ impl<A: Allocator + Copy> Session<A> {
         requires bounded { limit ≤ most_records }
         ensures { IfOk result (λ s. s ≡ begun genome first second fasta limit) }
     {
-        let width = first.width();
-        let track = Track::from_held(alloc, width, limit, first.into_records())?;
+        // After this read the width is known to be one of a record.
+        let _width = first.width();
+        let track = Track::from_places(alloc, limit, first)?;
         let second = second_of(alloc, second, limit)?;
         Ok(Session {
             alloc,

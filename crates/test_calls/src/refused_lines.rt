@@ -121,33 +121,62 @@ const EDITS: [Around<'static>; 8] = [
     (b"replaceb\tchr1\t10\t20\tn\t0\t+\t", b""),
 ];
 
-/// Whether the damaged records are answered by their faults in an edit, and a sound one by the allocation that fails.
-fn is_edit_reported<'a>(
+/// Edits that take out a record that no file has, and their fault. The record is looked up as it is in its line.
+const ABSENT: [Refusal<'static>; 4] = [
+    (b"remove\tchr1\t10\t20\tm\t0\t+", b"no such record"),
+    (
+        b"replace\tchr1\t10\t20\tn\t0\t-\tchr1\t10\t20\tm\t0\t+",
+        b"no such record",
+    ),
+    (b"removeb\tchr1\t10\t20\tn\t1\t+", b"no such record"),
+    (
+        b"replaceb\tchr1\t11\t20\tn\t0\t+\tchr1\t10\t20\tm\t0\t+",
+        b"no such record",
+    ),
+];
+
+/// What is before a record in a line of a script that adds it.
+const ADDITIONS: [&[u8]; 4] = [
+    b"add\t",
+    b"replace\tchr1\t10\t20\tn\t0\t+\t",
+    b"addb\t",
+    b"replaceb\tchr1\t10\t20\tn\t0\t+\t",
+];
+
+/// A record that no file has, with a longer rest of its line than there is room for beside that of one record.
+const NEW: &[u8] = b"chr1\t10\t20\tnnnnnnnnnnnnnnnnnnnnnnnnnnnnnnnnnnnnnnnnnnnnnnnnnnnnnnnn\t0\t+";
+
+/// Whether the addition of that record is answered by the allocation that fails, for the rest of its line.
+fn is_addition_refused<'a>(
     rt: &HostRuntime,
     memory: Memory<'a>,
     session: &mut Session<&'a RefusesNth<Global>>,
-    edit: Around<'_>,
+    front: &[u8],
 ) -> Result<bool, Fail> {
-    let (front, later) = edit;
-    let damaged = are_reported(rt, memory, session, &DAMAGED, edit)?;
     let before = memory.session.refusals();
-    let line = joined(rt, &[front, b"chr1\t10\t20\tn\t0\t+", later])?;
-    let sound = is_reported(rt, memory, session, line.as_slice(), b"no memory")?;
-    Ok(damaged && sound && before < memory.session.refusals())
+    let line = joined(rt, &[front, NEW])?;
+    let refused = is_reported(rt, memory, session, line.as_slice(), b"no memory")?;
+    Ok(refused && before < memory.session.refusals())
 }
 
-/// Whether that is so in each edit, and the session has the record that it had.
+/// Whether damaged and absent records are answered by their faults in each edit, and the session has the record that it had.
 fn are_edits_reported<'a>(
     rt: &HostRuntime,
     memory: Memory<'a>,
     session: &mut Session<&'a RefusesNth<Global>>,
 ) -> Result<bool, Fail> {
     for edit in EDITS {
-        if !is_edit_reported(rt, memory, session, edit)? {
+        if !are_reported(rt, memory, session, &DAMAGED, edit)? {
             return Ok(false);
         }
     }
-    Ok(session.len() == 1)
+    for front in ADDITIONS {
+        if !is_addition_refused(rt, memory, session, front)? {
+            return Ok(false);
+        }
+    }
+    let absent = are_reported(rt, memory, session, &ABSENT, (b"", b""))?;
+    Ok(absent && session.len() == 1)
 }
 
 /// The same over a session of one record in either file.
@@ -230,7 +259,7 @@ fn beside() -> Files<'static> {
     }
 }
 
-/// Lines that are refused beside two open views, and the fault of each. Records of three columns take no memory of their own.
+/// Lines that are refused beside two open views, and the fault of each.
 const REFUSED: [Refusal<'static>; 28] = [
     (b"paint\tm", b"no such command or wrong fields"),
     (b"open\tb", b"no such command or wrong fields"),

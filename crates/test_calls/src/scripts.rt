@@ -231,8 +231,7 @@ const NO_RECORD: Files<'static> = Files {
     limit: 0,
 };
 
-/// Sessions, and scripts that meet their limit of records. A record of more than three columns takes memory, but it is the limit that
-/// is reported.
+/// Sessions, and scripts that meet their limit of records, of three columns and of more.
 const FULL: [(Files<'static>, Script<'static>, Done<'static>); 5] = [
     (
         NO_RECORD,

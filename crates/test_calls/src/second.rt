@@ -16,8 +16,7 @@ fn second_of(rt: &HostRuntime, genome: &Genome, limit: u32, text: &[u8]) -> Resu
     requires { limit ≤ most_records }
 {
     let file = BedFile::parse(rt.alloc(), genome, 3, limit, text)?;
-    let width = file.width();
-    Ok(Second::new(rt.alloc(), width, limit, file.into_records())?)
+    Ok(Second::new(rt.alloc(), limit, file.into_places()?)?)
 }
 
 /// An interval, and where its hits start and stop.

@@ -2,17 +2,16 @@
 ghost use Rattle.std.specs.Prelude.{◌≡◌, ◌≤◌, IfOk, length};
 
 use crate::fixtures::{SIZES, holds, holds_of};
-use iv_lines::{Genome, Record, read_record};
+use iv_lines::{Genome, RecordRef, read_record};
 use iv_text::BedFile;
 use iv_track::{EditFault, Meter, Region, Track};
-use std::alloc::Global;
 use std::test::Fail;
 
 /// The record of a line of four columns.
-fn record(rt: &HostRuntime, genome: &Genome, line: &[u8]) -> Result<Record, Fail>
+fn record<'a>(genome: &Genome, line: &'a [u8]) -> Result<RecordRef<'a>, Fail>
     ensures { IfOk result (λ r. r.width ≡ 4) }
 {
-    Ok(read_record(genome, 4, line)?.to_record(rt.alloc())?)
+    Ok(read_record(genome, 4, line)?)
 }
 
 /// An edit by the records of lines.
@@ -25,9 +24,9 @@ enum Edit<'a> {
 }
 
 /// Stages a record.
-fn stage(track: &mut Track, feature: Record) -> Result<(), EditFault>
+fn stage(track: &mut Track, feature: &RecordRef<'_>) -> Result<(), EditFault>
     requires room { length track.old.records ≤ track.old.limit }
-    requires width { feature.width ≡ track.old.width }
+    requires width { feature.now.width ≡ track.old.width }
 {
     match track.stage(feature, &mut Meter::new()) {
         Ok(()) => Ok(()),
@@ -48,13 +47,13 @@ fn fault_of(
     let has_room = track.len() <= track.limit();
     let mut meter = Meter::new();
     let done = match edit {
-        Edit::Add(line) => track.add(record(rt, genome, line)?, &mut meter),
-        Edit::Remove(line) => track.remove(&record(rt, genome, line)?, &mut meter),
-        Edit::Stage(line) if has_room => stage(track, record(rt, genome, line)?),
+        Edit::Add(line) => track.add(&record(genome, line)?, &mut meter),
+        Edit::Remove(line) => track.remove(&record(genome, line)?, &mut meter),
+        Edit::Stage(line) if has_room => stage(track, &record(genome, line)?),
         Edit::Replace(old, new) if has_room => {
-            let old = record(rt, genome, old)?;
-            let new = record(rt, genome, new)?;
-            track.replace(&old, new, &mut meter)
+            let old = record(genome, old)?;
+            let new = record(genome, new)?;
+            track.replace(&old, &new, &mut meter)
         }
         _ => return Err(Fail::new("more records than the limit")),
     };
@@ -105,7 +104,7 @@ fn limit_of_a_track(rt: HostRuntime) -> Result<(), Fail> {
 }
 
 /// The first letter of a record's name and its copies, of the record after this one, or of the first one on its sequence.
-fn next_on(alloc: Global, track: &Track, record: &Record, after: bool) -> Option<(u8, u32)> {
+fn next_on(track: &Track, record: &RecordRef<'_>, after: bool) -> Option<(u8, u32)> {
     let mut meter = Meter::new();
     let (feature, copies) = if after {
         track.after(record, &mut meter)?
@@ -113,8 +112,7 @@ fn next_on(alloc: Global, track: &Track, record: &Record, after: bool) -> Option
         track.at_or_after(record.seq(), 0, &mut meter)?
     };
     let letter = feature.name().first()?;
-    let same = feature.as_ref().to_record(alloc).ok()?;
-    (track.copies(&same, &mut meter) == copies).then_some((*letter, copies))
+    (track.copies(&feature, &mut meter) == copies).then_some((*letter, copies))
 }
 
 /// Adds records to a track.
@@ -140,7 +138,7 @@ fn are_found(rt: &HostRuntime, genome: &Genome, track: &mut Track) -> Result<boo
         (A, true, Some((b'b', 1))),
         (B, true, None),
     ] {
-        if next_on(rt.alloc(), track, &record(rt, genome, line)?, after) != want {
+        if next_on(track, &record(genome, line)?, after) != want {
             return Ok(false);
         }
     }
@@ -274,13 +272,12 @@ fn depths_around(
     track: &mut Track,
 ) -> Result<[(u64, u64); 3], Fail> {
     let before = depth_in(track, 0, 95);
-    let feature = read_record(genome, 3, b"chr1\t0\t100")?.to_record(rt.alloc())?;
-    let again = read_record(genome, 3, b"chr1\t0\t100")?.to_record(rt.alloc())?;
-    if feature.width() != track.width() || track.add(feature, &mut Meter::new()).is_err() {
+    let feature = read_record(genome, 3, b"chr1\t0\t100")?;
+    if feature.width() != track.width() || track.add(&feature, &mut Meter::new()).is_err() {
         return Err(Fail::new("a record is refused"));
     }
     let between = depth_in(track, 0, 95);
-    if track.remove(&again, &mut Meter::new()).is_err() {
+    if track.remove(&feature, &mut Meter::new()).is_err() {
         return Err(Fail::new("a record is absent"));
     }
     Ok([before, between, depth_in(track, 0, 95)])

@@ -1,6 +1,5 @@
-//! Puts into ledgers and into batches, each allocation refused in turn: a refused one leaves all as it was.
+//! Puts into ledgers, each allocation refused in turn: a refused one leaves all as it was.
 use crate::session_files::Refusing;
-use iv_lines::Batches;
 use iv_track::{Ledger, Meter};
 use std::test::Fail;
 use test_faults::{RefusesNth, refused};
@@ -60,55 +59,5 @@ fn puts(rt: HostRuntime) -> Result<(), Fail> {
         growing = growing.saturating_add(u32::from(allocations(&rt, count)? > 0));
     }
     assert!(rt; 1 < growing);
-    Ok(())
-}
-
-/// Numbers below a count in batches of three.
-fn batches_of<'a>(alloc: Refusing<'a>, count: u32) -> Result<Batches<u32, Refusing<'a>>, Fail> {
-    let mut batches = Batches::new(alloc);
-    for number in 0..count {
-        batches.push(3, number)?;
-    }
-    Ok(batches)
-}
-
-/// Fails unless batches have just the numbers below a count.
-fn check_batches(batches: &Batches<u32, Refusing<'_>>, count: u32) -> Result<(), Fail> {
-    if batches.len() == count as usize && batches.is_sorted() {
-        Ok(())
-    } else {
-        Err(Fail::new("other numbers"))
-    }
-}
-
-/// Pushes one more number. Whether that was refused.
-fn is_push_refused(batches: &mut Batches<u32, Refusing<'_>>, count: u32) -> Result<bool, Fail> {
-    Ok(batches.push(3, count).is_err())
-}
-
-/// How many allocations the push of one more number has: `Batches::push`.
-fn pushes_by(alloc: Refusing<'_>, count: u32) -> Result<u64, Fail> {
-    refused(
-        alloc,
-        || batches_of(alloc, count),
-        |batches| is_push_refused(batches, count),
-        |batches, is_refused| {
-            check_batches(batches, count.saturating_add(u32::from(!is_refused)))
-        },
-    )
-}
-
-/// The same with an allocator of its own.
-fn pushes(rt: &HostRuntime, count: u32) -> Result<u64, Fail> {
-    let alloc = RefusesNth::new(rt.alloc(), u64::MAX);
-    pushes_by(&alloc, count)
-}
-
-/// A batch takes memory once, and the list of the full ones as it grows.
-#[test]
-fn pushes_to_batches(rt: HostRuntime) -> Result<(), Fail> {
-    for count in 0..30 {
-        assert!(rt; (0 < pushes(&rt, count)?) == (count % 3 == 0));
-    }
     Ok(())
 }

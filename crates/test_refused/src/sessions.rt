@@ -20,11 +20,11 @@ pub(crate) struct Place<'t> {
 /// A call of a session that allocates.
 #[derive(Clone, Copy)]
 pub(crate) enum Call<'t> {
-    /// `Session::new`, `Session::from_batches`, `Genome::parse`, `BedFile::parse`, `Fasta::parse`
+    /// `Session::new`, `Session::from_places`, `Genome::parse`, `BedFile::parse`, `BedFile::into_places`, `Fasta::parse`
     Begin,
     /// `Session::open_view`, `results_in`
     Open(Open<'t>),
-    /// `Session::add`, `Session::edit`, `Track::add`, `results`
+    /// `Session::add`, `Session::edit`, `Track::add`, `Rests::keep`, `results`
     Add(&'t [u8]),
     /// `Session::remove`, `Track::remove`
     Remove(&'t [u8]),

@@ -2,7 +2,7 @@
 ghost use Rattle.std.specs.Prelude.{◌≡◌, IfOk};
 
 use crate::session_files::Refusing;
-use iv_lines::{BedRecord, Genome, Interval, Record};
+use iv_lines::{BedRecord, Genome, Interval, RecordRef};
 use iv_pair::Second;
 use iv_text::BedFile;
 use iv_track::{EditFault, Meter, Track};
@@ -12,7 +12,7 @@ use test_faults::{RefusesNth, begun, put, refused};
 /// A call on a track or a second file.
 #[derive(Clone, Copy)]
 enum Call {
-    /// `Track::from_records`, `Track::from_held`, `Second::new`, `Second::from_batches`, after `Genome::parse` and `BedFile::parse`
+    /// `Track::from_records`, `Track::from_places`, `Places::of_records`, `Second::new`, after `Genome::parse` and `BedFile::parse`
     Build,
     /// `Track::add`
     Add,
@@ -42,8 +42,8 @@ fn place(number: u32) -> (u32, u32) {
     (start, start.saturating_add(number).saturating_add(1))
 }
 
-/// That record, which takes no memory.
-fn record(alloc: Refusing<'_>, number: u32) -> Result<Record<Refusing<'_>>, Fail>
+/// That record.
+fn record<'a>(number: u32) -> Result<RecordRef<'a>, Fail>
     ensures { IfOk result (λ r. r.width ≡ 3) }
 {
     let (start, stop) = place(number);
@@ -51,7 +51,7 @@ fn record(alloc: Refusing<'_>, number: u32) -> Result<Record<Refusing<'_>>, Fail
         return Err(Fail::new("no base"));
     }
     let seq = 0;
-    Ok(Record::of_interval(alloc, Interval { seq, start, stop }))
+    Ok(RecordRef::of_interval(Interval { seq, start, stop }))
 }
 
 /// The lines of the records below a number, the last one first.
@@ -79,7 +79,7 @@ fn second_of<'a>(alloc: Refusing<'a>, text: &[u8]) -> Option<Second<Refusing<'a>
     let Ok(file) = BedFile::parse(alloc, &genome, 3, MOST, text) else {
         return None;
     };
-    Second::new(alloc, file.width(), MOST, file.into_records()).ok()
+    Second::new(alloc, MOST, file.into_places().ok()?).ok()
 }
 
 /// Whether an edit was refused because an allocation failed.
@@ -101,12 +101,12 @@ fn edit<'a>(
     if track.width() != 3 || track.len() > track.limit() {
         return Err(Fail::new("another width, or no room"));
     }
-    let new = record(alloc, count)?;
+    let new = record(count)?;
     let mut meter = Meter::new();
     match call {
-        Call::Stage => Ok(track.stage(new, &mut meter).is_err()),
-        Call::Replace => is_memory(track.replace(&record(alloc, 0)?, new, &mut meter)),
-        _ => is_memory(track.add(new, &mut meter)),
+        Call::Stage => Ok(track.stage(&new, &mut meter).is_err()),
+        Call::Replace => is_memory(track.replace(&record(0)?, &new, &mut meter)),
+        _ => is_memory(track.add(&new, &mut meter)),
     }
 }
 
@@ -120,11 +120,11 @@ fn edit_second<'a>(
     if second.width() != 3 {
         return Err(Fail::new("another width"));
     }
-    let new = record(alloc, count)?;
+    let new = record(count)?;
     let mut meter = Meter::new();
     match call {
-        Call::ReplaceSecond => is_memory(second.replace(&record(alloc, 0)?, new, &mut meter)),
-        _ => is_memory(second.add(new, &mut meter)),
+        Call::ReplaceSecond => is_memory(second.replace(&record(0)?, &new, &mut meter)),
+        _ => is_memory(second.add(&new, &mut meter)),
     }
 }
 

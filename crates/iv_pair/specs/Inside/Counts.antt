@@ -3,7 +3,7 @@ use Rattle.std.specs.Prelude.{◌≡◌, ◌<◌, ℕ, ◌==◌, ◌&&◌, ◌||
 use Rattle.std.specs.List.Sorted.{IsPartitionedBy}
 use Rattle.iv_lines.specs.Ordered.{AreInOrder}
 use Rattle.iv_lines.specs.RecordValue.{RecordValue}
-use Rattle.iv_locators.specs.declared.place.Place.{Place}
+use Rattle.iv_places.specs.declared.place.Place.{Place}
 use Rattle.iv_pair.specs.declared.count_sweep.End.{End}
 
 -- whether position p of the sequence of rank s is before position `at` of the sequence of rank `seq`

@@ -33,6 +33,11 @@ pub record ReadsNamed (old : FilesState) (name text : Option (List ℕ)) (new : 
   pub is_text : IsTextIfNamed old name text
   pub after : new ≡ after_reading (option_to_list name) old
 
+-- the files of these names were read, one after another
+pub record AreRead (names : List (List ℕ)) (old new : FilesState) : Type 0 where
+  pub have : All (HasText old) names
+  pub after : new ≡ after_reading names old
+
 -- the files of a plan before the one of this slot were read, in the order of their slots, and none of them failed; then the one of this
 -- slot was opened, and not read to its end; no other file was opened
 pub record StopsAt (plan : RunPlan) (old new : FilesState) (slot : Slot) (fault : FileFault) : Type 0 where

@@ -1,5 +1,5 @@
 -- What is known of the files of a plan, what their texts mean, and what a run of it does.
-use Rattle.std.specs.Prelude.{◌≡◌, ◌⊎◌, ℕ, Bool, true, false, List, [], Result, Ok, Err, MatchResult}
+use Rattle.std.specs.Prelude.{◌≡◌, ◌⊎◌, ℕ, Bool, true, false, List, [], Option, None, Result, Ok, Err, MatchResult}
 use Rattle.iv_bytes.specs.Sinks.{SinkState, Takes, FailsIn, waiting}
 use Rattle.iv_lines.specs.RecordValue.{RecordValue}
 use Rattle.iv_fasta.specs.FastaReading.{Wanted}
@@ -8,6 +8,7 @@ use Rattle.iv_session.specs.declared.script.RunFault.{RunFault}
 use Rattle.iv_session.specs.declared.script.Summary.{Summary}
 use Rattle.iv_args.specs.Arguments.{RunPlan, is_session}
 use Rattle.iv_args.specs.declared.plan.Slot.{Slot}
+use Rattle.iv_args.specs.declared.plan.Slot.TheVariants.{Bases}
 use Rattle.iv_args.specs.declared.subcommand.Subcommand.TheVariants as kind
 use Rattle.iv_run.specs.Shots.{Shows, shown}
 use Rattle.iv_run.specs.RunFiles.{AreOf, FilesRead}
@@ -16,17 +17,31 @@ use Rattle.iv_run.specs.declared.fault.FileFault.{FileFault}
 use Rattle.iv_run.specs.ExitReasons.{ending_after, ending_of, ending_of_file, is_through, line_of}
 use Rattle.iv_run.specs.declared.exit_reason.ExitReason.{ExitReason}
 use Rattle.iv_run.specs.declared.exit_reason.ExitReason.TheVariants as exit_reason
-use Rattle.iv_program.specs.Files.{after_reading}
-use Rattle.iv_program.specs.Inside.Files.{StopsAt, names_of}
+use Rattle.iv_program.specs.Files.{FilesState, IsText, after_reading}
+use Rattle.iv_program.specs.Inside.Files.{AreRead, StopsAt, names_of}
 use Rattle.iv_program.specs.Runs.{World, DoesWith, HasRead, HasNotRead}
-use Rattle.iv_program.specs.Texts.{Texts, AreTexts}
+use Rattle.iv_program.specs.Texts.{Texts, AreTexts, IsTextIfNamed, names_before}
 
--- the files of a plan, once they are read, are those of these texts, with the records of BED files projected, and with the bases of as
--- many sequences as are enough beside the first file
-pub record HasTexts (projected : RecordValue → RecordValue) (is_enough : Wanted → List RecordValue → Type 0) (plan : RunPlan) (texts : Texts) (files : FilesRead) : Type 0 where
+-- the files of a plan, once they are read, are those of these texts, with the records of BED files projected, and with the bases of the
+-- wanted sequences
+pub record HasTexts (projected : RecordValue → RecordValue) (wanted : Wanted) (plan : RunPlan) (texts : Texts) (files : FilesRead) : Type 0 where
   pub width_is : files.run_genome.width ≡ plan.width
   pub limit_is : files.run_genome.limit ≡ plan.limit
-  pub are : AreOf projected is_enough texts.sizes texts.first texts.other texts.bases files
+  pub are : AreOf projected wanted texts.sizes texts.first texts.other texts.bases files
+
+-- the genome file and the BED files of a plan were read, in the order of their slots, and these are their texts, with the records of BED
+-- files projected
+pub record HasBeds (projected : RecordValue → RecordValue) (plan : RunPlan) (old new : FilesState) (files : FilesRead) : Type 0 where
+  pub sizes : List ℕ
+  pub first : List ℕ
+  pub other : Option (List ℕ)
+  pub is_sizes : IsText old plan.sizes sizes
+  pub is_first : IsText old plan.first first
+  pub is_other : IsTextIfNamed old plan.other other
+  pub read : AreRead (names_before plan Bases) old new
+  pub width_is : files.run_genome.width ≡ plan.width
+  pub limit_is : files.run_genome.limit ≡ plan.limit
+  pub are : AreOf projected None sizes first other None files
 
 -- the view of a plan was printed for its texts, or its first fault is reported
 abbrev pub PrintsView : RunPlan → Texts → SinkState → SinkState → ExitReason → Type 0

@@ -13,11 +13,17 @@ abbrev pub BeginsFrom : ℕ → ℕ → Option (ℕ × ℕ) → Type 0
 BeginsFrom seq start (Some p) = (p.1 < 2 ^ 32 - 1) × ((q : RecordValue) → IsPlaced q → is_from p.0 p.1 q ≡ is_from seq start q)
 BeginsFrom seq start None = (q : RecordValue) → IsPlaced q → is_from seq start q ≡ false
 
--- the map of a track: it is in order, each record in it is placed and has a copy and the width, and `len` counts the copies
+-- the record has the three columns that each has
+abbrev pub HasColumns : RecordValue → Type 0
+HasColumns q = 3 ≤ q.width
+
+-- the map of a track: it is in order, each record in it is placed and has a copy and the width, which is 3 or more, and `len` counts
+-- the copies
 pub record IsTrack (es : List (RecordValue × ℕ)) (len width limit : ℕ) : Type 0 where
   pub ordered : IsLedger record_cmp es
   pub present : All (λ n. 0 < n) (values_of es)
   pub widths : All (λ q. q.width ≡ width) (keys_of es)
+  pub wide : All HasColumns (keys_of es)
   pub placed : All IsPlaced (keys_of es)
   pub len_is : len ≡ sum (values_of es)
   pub room : len ≤ limit + 1

@@ -96,7 +96,6 @@ impl<A: Allocator + Copy> Session<A> {
                     &mut self.views,
                     &self.genome,
                     edit,
-                    self.alloc,
                     &mut meter,
                 )?;
                 Ok(Accepted::of(&meter, &self.views))
@@ -105,7 +104,7 @@ impl<A: Allocator + Copy> Session<A> {
                 let Some(second) = &mut self.second else {
                     unreachable!()
                 };
-                edit_second(second, edit, self.alloc, &mut meter)?;
+                edit_second(second, edit, &mut meter)?;
                 Ok(Accepted::of(&meter, &self.views))
             }
         }
@@ -113,15 +112,15 @@ impl<A: Allocator + Copy> Session<A> {
 
     /// Adds a record, and then repairs each view. A view whose repair runs out of memory becomes stale.
     ///
-    /// `Full` comes exactly if the track holds its limit, unless memory runs out. A record of width 3 needs no
-    /// memory for its own copy, and the track needs none for a record that is there. A refusal changes nothing.
+    /// `Full` comes exactly if the track holds its limit, unless memory runs out, which a record that is there needs none of.
+    /// A refusal changes nothing.
     pub fn add(&mut self, feature: &RecordRef<'_>) -> Result<Accepted, EditFault>
         requires { Fits self.old.genome self.old.track.width feature.now }
         ensures ok { IfOk result (IsDone Target.First (Edit.Add feature.now) self.old self.new) }
         ensures why { IfErr result (RefusesIn Target.First (Edit.Add feature.now) self.old) }
         ensures err { OnErr result (self.new ≡ self.old) }
     {
-        self.edit(Target::First, &Edit::Add(copy_of(feature)))
+        self.edit(Target::First, &Edit::Add(feature.again()))
     }
 
     /// Takes one copy of a record out, and then repairs each view. A view whose repair runs out of memory becomes stale.
@@ -134,7 +133,7 @@ impl<A: Allocator + Copy> Session<A> {
         ensures why { IfErr result (RefusesIn Target.First (Edit.Remove feature.now) self.old) }
         ensures err { OnErr result (self.new ≡ self.old) }
     {
-        self.edit(Target::First, &Edit::Remove(copy_of(feature)))
+        self.edit(Target::First, &Edit::Remove(feature.again()))
     }
 
     /// Adds the new record, in a full track too, and repairs each view; then takes one copy of the old record out, and
@@ -153,7 +152,7 @@ impl<A: Allocator + Copy> Session<A> {
         ensures why { IfErr result (RefusesIn Target.First (Edit.Replace old.now new.now) self.old) }
         ensures err { OnErr result (self.new ≡ self.old) }
     {
-        let edit = Edit::Replace(copy_of(old), copy_of(new));
+        let edit = Edit::Replace(old.again(), new.again());
         self.edit(Target::First, &edit)
     }
 
@@ -187,15 +186,15 @@ impl<A: Allocator + Copy> Session<A> {
 
     /// Adds a record to the second file, which exists. No view has a state of it, so none becomes stale. At most 16 steps.
     ///
-    /// `Full` comes exactly if the second file holds its limit, unless memory runs out. A record of width 3 needs no
-    /// memory for its own copy, and the second file needs none for a record that is there. A refusal changes nothing.
+    /// `Full` comes exactly if the second file holds its limit, unless memory runs out, which a record that is there needs none of.
+    /// A refusal changes nothing.
     pub fn add_second(&mut self, feature: &RecordRef<'_>) -> Result<Accepted, EditFault>
         requires { FitsSecond self.old feature.now }
         ensures ok { IfOk result (IsDone Target.Second (Edit.Add feature.now) self.old self.new) }
         ensures why { IfErr result (RefusesIn Target.Second (Edit.Add feature.now) self.old) }
         ensures err { OnErr result (self.new ≡ self.old) }
     {
-        self.edit(Target::Second, &Edit::Add(copy_of(feature)))
+        self.edit(Target::Second, &Edit::Add(feature.again()))
     }
 
     /// Takes one copy of a record out of the second file, which exists. No view becomes stale. At most 16 steps.
@@ -208,7 +207,7 @@ impl<A: Allocator + Copy> Session<A> {
         ensures why { IfErr result (RefusesIn Target.Second (Edit.Remove feature.now) self.old) }
         ensures err { OnErr result (self.new ≡ self.old) }
     {
-        self.edit(Target::Second, &Edit::Remove(copy_of(feature)))
+        self.edit(Target::Second, &Edit::Remove(feature.again()))
     }
 
     /// Takes one copy of the old record out of the second file, which exists, and adds the new one, even if it is full. No view
@@ -227,16 +226,9 @@ impl<A: Allocator + Copy> Session<A> {
         ensures why { IfErr result (RefusesIn Target.Second (Edit.Replace old.now new.now) self.old) }
         ensures err { OnErr result (self.new ≡ self.old) }
     {
-        let edit = Edit::Replace(copy_of(old), copy_of(new));
+        let edit = Edit::Replace(old.again(), new.again());
         self.edit(Target::Second, &edit)
     }
-}
-
-/// A second one of a record: it has its columns in the same line.
-fn copy_of<'a>(feature: &RecordRef<'a>) -> RecordRef<'a>
-    ensures { result ≡ feature.now }
-{
-    feature.part(feature.start(), feature.stop())
 }
 
 /// Does an edit of a session's own track, and repairs the views after each record that is added or taken out.
@@ -245,7 +237,6 @@ fn edit_track<A: Allocator + Copy>(
     views: &mut Views<A>,
     genome: &Genome<A>,
     edit: &Edit<'_>,
-    alloc: A,
     meter: &mut Meter,
 ) -> Result<(), EditFault>
     requires on { IsTrackOn genome.now track.old }
@@ -259,26 +250,22 @@ fn edit_track<A: Allocator + Copy>(
 {
     match edit {
         Edit::Add(feature) => {
-            let record = feature.to_record(alloc)?;
-            track.add(record, meter)?;
+            track.add(feature, meter)?;
             views.repair(Change::Added, track, genome, feature, meter);
             Ok(())
         }
         Edit::Remove(feature) => {
-            let record = feature.to_record(alloc)?;
-            track.remove(&record, meter)?;
+            track.remove(feature, meter)?;
             views.repair(Change::Removed, track, genome, feature, meter);
             Ok(())
         }
         Edit::Replace(old, new) => {
-            let before = old.to_record(alloc)?;
-            let after = new.to_record(alloc)?;
-            if track.copies(&before, meter) == 0 {
+            if track.copies(old, meter) == 0 {
                 return Err(EditFault::Absent);
             }
-            track.stage(after, meter)?;
+            track.stage(new, meter)?;
             views.repair(Change::Added, track, genome, new, meter);
-            let Ok(()) = track.remove(&before, meter) else {
+            let Ok(()) = track.remove(old, meter) else {
                 unreachable!()
             };
             views.repair(Change::Removed, track, genome, old, meter);
@@ -291,7 +278,6 @@ fn edit_track<A: Allocator + Copy>(
 fn edit_second<A: Allocator + Copy>(
     second: &mut Second<A>,
     edit: &Edit<'_>,
-    alloc: A,
     meter: &mut Meter,
 ) -> Result<(), EditFault>
     requires low { 3 ≤ second.old.width }
@@ -303,18 +289,8 @@ fn edit_second<A: Allocator + Copy>(
     ensures steps { TakesUpTo meter.old meter.new 16 }
 {
     match edit {
-        Edit::Add(feature) => {
-            let record = feature.to_record(alloc)?;
-            second.add(record, meter)
-        }
-        Edit::Remove(feature) => {
-            let record = feature.to_record(alloc)?;
-            second.remove(&record, meter)
-        }
-        Edit::Replace(old, new) => {
-            let before = old.to_record(alloc)?;
-            let after = new.to_record(alloc)?;
-            second.replace(&before, after, meter)
-        }
+        Edit::Add(feature) => second.add(feature, meter),
+        Edit::Remove(feature) => second.remove(feature, meter),
+        Edit::Replace(old, new) => second.replace(old, new, meter),
     }
 }

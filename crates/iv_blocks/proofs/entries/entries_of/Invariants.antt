@@ -7,7 +7,7 @@ use Rattle.iv_blocks.proofs.entries.entries_of.Given as goal
 -- the entries that are made, with those of the open block and of the records that are left
 abbrev pub invariant-loop-record : goal.invariant-loop-record
 invariant-loop-record g l =
-    entries_with l.genome (listed l.options.summaries) l.options.distance l.entries l.block l.members.items l.records
+    entries_with l.genome (listed l.options.summaries) l.options.distance l.entries.items l.block l.members.items l.records
     ≡ map (kept_entry l.genome (listed l.options.summaries)) (remaining_blocks l.options.distance None l.track.records)
 
 abbrev pub decreases-loop-record : goal.decreases-loop-record

@@ -7,7 +7,7 @@ use Rattle.iv_cover.specs.Depth.{depth}
 use Rattle.iv_lines.specs.Inside.Intervals.{interval_records}
 use Rattle.iv_lines.specs.Intervals.{record_of_interval}
 use Rattle.std.proofs.lemmas.List.{length-map}
-use Rattle.iv_locators.proofs.SequenceLemmas.{all-from, from-in, from-order, from-later}
+use Rattle.iv_places.proofs.SequenceLemmas.{all-from, from-in, from-order, from-later}
 use Rattle.iv_depth.proofs.EdgeLemmas.{places-few, IsAhead-begin}
 use Rattle.iv_depth.proofs.Genomes.{texts-next, texts-all}
 use Rattle.iv_depth.proofs.depth_sweep.put_genome.Goals as goal

@@ -1,7 +1,7 @@
 use Rattle.std.proofs.Common.{◌≡◌, length, filter}
 use Rattle.iv_bytes.proofs.PutLemmas.{Underway}
 use Rattle.iv_cover.specs.Depth.{depth}
-use Rattle.iv_locators.proofs.SequenceLemmas.{is_from}
+use Rattle.iv_places.proofs.SequenceLemmas.{is_from}
 use Rattle.iv_lines.specs.Inside.Intervals.{interval_records}
 use Rattle.iv_depth.specs.Inside.Texts.{depth_text}
 use Rattle.iv_depth.proofs.Genomes.{texts_from}

@@ -13,12 +13,12 @@ loop-feature-init g c = gathered-begin c.args.track.now.records _ _ _ (c.walk-re
 
 pub loop-feature-preserved : goal.loop-feature-preserved
 loop-feature-preserved g c =
-    let r : RecordValue = c.as_ref-feature.result in
+    let r : RecordValue = c.in-Some.feature in
     let first = c.packed.ensures ∙ ap (λ (s : ℕ). key_of s c.start.result) c.seq.ensures ∙ ap (λ (p : ℕ). key_of r.seq p) c.start.ensures in
     let last = c.packed-in-Some.ensures ∙ ap (λ (s : ℕ). key_of s c.stop.result) c.seq-in-Some.ensures ∙ ap (λ (p : ℕ). key_of r.seq p) c.stop.ensures.value in
     gathered-next c.args.track.now.records c.loop-feature.records c.next.new.self r
     c.loop-feature.starts.items c.loop-feature.stops.items c.push.new.self.items c.push-in-Some.new.self.items c.packed.result c.packed-in-Some.result
-    c.lemma_of_interval.ensures (c.in-Some.ensures.feature ∙ ap (λ (q : RecordValue). q ∷ c.next.new.self) (sym c.as_ref-feature.ensures)) first last
+    c.lemma_of_interval.ensures c.in-Some.ensures.feature first last
     c.in_ok-push.ensures.items c.in_ok-push-2.ensures.items c.loop-feature.invariant
 
 pub returns : goal.returns

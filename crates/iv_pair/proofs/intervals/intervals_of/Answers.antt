@@ -3,8 +3,8 @@ use Rattle.std.proofs.lemmas.List.Elements.{All-nil, All-append, All-cons}
 use Rattle.iv_text.specs.BedFile.{Bed}
 use Rattle.iv_lines.specs.RecordValue.{RecordValue}
 use Rattle.iv_lines.specs.Intervals.{bare}
-use Rattle.iv_locators.specs.Inside.Places.{HasBase, place_at, records_at}
-use Rattle.iv_locators.specs.declared.place.Place.{Place}
+use Rattle.iv_places.specs.Inside.Places.{HasBase, place_at, records_at}
+use Rattle.iv_places.specs.declared.place.Place.{Place}
 use Rattle.iv_track.proofs.WalkLemmas.{filter-from_first}
 use Rattle.iv_pair.proofs.CopyLemmas.{copied-next}
 use Rattle.iv_pair.proofs.intervals.intervals_of.Goals as goal

@@ -1,6 +1,6 @@
 use Rattle.std.proofs.Common.{◌≡◌, ◌++◌, [], All, length, map}
 use Rattle.iv_lines.specs.Intervals.{bare}
-use Rattle.iv_locators.specs.Inside.Places.{HasBase, records_at}
+use Rattle.iv_places.specs.Inside.Places.{HasBase, records_at}
 use Rattle.iv_pair.proofs.intervals.intervals_of.Given as goal
 
 -- the records so far are copied, and those that are left remain

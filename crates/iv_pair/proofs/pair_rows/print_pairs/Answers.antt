@@ -1,4 +1,4 @@
-use Rattle.std.proofs.Common.{◌≡◌, ◌∙◌, rules}
+use Rattle.std.proofs.Common.{◌≡◌, ◌∙◌}
 use Rattle.iv_bytes.proofs.PutLemmas.{Underway-begin, Underway-more, Underway-fails, Puts-err}
 use Rattle.iv_track.proofs.WalkLemmas.{filter-from_first}
 use Rattle.iv_pair.proofs.pair_rows.print_pairs.Goals as goal
@@ -9,7 +9,7 @@ loop-feature-init g c =
     record { printer = c.of-printer.ensures; serves = tt; put = rw all (Underway-begin _ _) }
 
 pub put_rows-requires : goal.put_rows-requires
-put_rows-requires g c = (search rules, rw c.loop-feature.invariant.printer c.loop-feature.invariant.serves)
+put_rows-requires g c = rw c.loop-feature.invariant.printer c.loop-feature.invariant.serves
 
 pub loop-feature-preserved : goal.loop-feature-preserved
 loop-feature-preserved g c =

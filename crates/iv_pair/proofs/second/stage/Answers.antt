@@ -19,13 +19,13 @@ lower-requires-clause-there g c = raised-there c.args.lengths.now c.raise.new.le
 pub returns-in_err-raise-clause-memory : goal.returns-in_err-raise-clause-memory
 returns-in_err-raise-clause-memory g c =
     always_on_err c.from_residual.result
-    (absent-uncounted c.args.lengths.now c.args.track.now.records c.args.feature c.requires.counted c.len-few.ensures.ordered
+    (absent-uncounted c.args.lengths.now c.args.track.now.records c.args.feature.now c.requires.counted c.len-few.ensures.ordered
     (ap (λ (k : ℕ × ℕ). copies_by pair_cmp (expanded c.args.lengths.now) k) (sym c.length_of-length.ensures.is) ∙ c.in_err-raise.ensures.memory))
 
 pub returns-in-Ok-clause-counted : goal.returns-in-Ok-clause-counted
 returns-in-Ok-clause-counted g c =
     subst (λ (t : Tracked). AreLengths c.raise.new.lengths t.records) (sym c.in-Ok.ensures.ok)
-    (AreLengths-added c.args.lengths.now c.raise.new.lengths c.args.track.now.records c.args.feature c.requires.counted c.in_ok-raise.ensures.ok.0
+    (AreLengths-added c.args.lengths.now c.raise.new.lengths c.args.track.now.records c.args.feature.now c.requires.counted c.in_ok-raise.ensures.ok.0
     (c.in_ok-raise.ensures.ok.1 ∙ ap (added_by pair_cmp (expanded c.args.lengths.now)) c.length_of-length.ensures.is))
 
 pub returns-in-Err-clause-counted : goal.returns-in-Err-clause-counted

@@ -5,7 +5,7 @@ use Rattle.iv_lines.specs.Read.{IsOnGenome}
 use Rattle.iv_lines.specs.RecordValue.{RecordValue}
 use Rattle.iv_lines.proofs.OrderedLemmas.{ordered-in_order, ordered-all}
 use Rattle.iv_lines.specs.Inside.Intervals.{interval_records}
-use Rattle.iv_locators.proofs.BareLemmas.{kept-on_genome}
+use Rattle.iv_text.proofs.BedReadingLemmas.{kept-on_genome}
 use Rattle.iv_view.specs.Views.{kept_text}
 use Rattle.iv_run.specs.Loading.{Parsed}
 use Rattle.iv_run.specs.Inside.Prints.{Prints}
@@ -13,18 +13,18 @@ use Rattle.iv_run.proofs.intervals_view.print_files.Goals as goal
 
 pub print-requires-clause-order : goal.print-requires-clause-order
 print-requires-clause-order g c =
-    let records = ap interval_records c.as_slice.ensures.value ∙ c.sort_intervals.ensures ∙ ap ordered c.in_ok-intervals.ensures in
+    let records = ap interval_records c.as_slice.ensures.value ∙ c.sort_intervals.ensures ∙ ap ordered c.into_intervals-intervals.ensures in
     subst AreInOrder (sym records) (ordered-in_order c.files.inside.first.records)
 
 pub print-requires-clause-on_genome : goal.print-requires-clause-on_genome
 print-requires-clause-on_genome g c =
-    let records = ap interval_records c.as_slice.ensures.value ∙ c.sort_intervals.ensures ∙ ap ordered c.in_ok-intervals.ensures in
+    let records = ap interval_records c.as_slice.ensures.value ∙ c.sort_intervals.ensures ∙ ap ordered c.into_intervals-intervals.ensures in
     let inside = c.files.inside in
     subst (All (IsOnGenome inside.genome)) (sym records)
     (ordered-all (IsOnGenome inside.genome) inside.first.records (kept-on_genome inside.genome inside.first.width inside.first.records c.files.invariant.0.held_all))
 
 pub returns : goal.returns
 returns g c = λ asked is.
-    let records = ap interval_records c.as_slice.ensures.value ∙ c.sort_intervals.ensures ∙ ap ordered c.in_ok-intervals.ensures in
+    let records = ap interval_records c.as_slice.ensures.value ∙ c.sort_intervals.ensures ∙ ap ordered c.into_intervals-intervals.ensures in
     subst (λ (files : Parsed). Prints (g.S.Sink.state c.args.sink.now) (g.S.Sink.state c.print.new.sink) c.print.result (kept_text None asked files.genome (ordered files.first.records))) c.files.view_is
     (subst (λ (l : List RecordValue). Prints (g.S.Sink.state c.args.sink.now) (g.S.Sink.state c.print.new.sink) c.print.result (kept_text None asked c.files.inside.genome l)) records (c.print.ensures asked is))

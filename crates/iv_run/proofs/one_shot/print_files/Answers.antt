@@ -7,10 +7,10 @@ pub print-requires : goal.print-requires
 print-requires g c = (c.args.plan.now.view, c.requires.columns, sym c.in_ok-view.ensures)
 
 pub returns-in_err-view : goal.returns-in_err-view
-returns-in_err-view g c = λ sizes text other bases limit reports.
+returns-in_err-view g c = λ wanted sizes text other bases limit reports are.
     let p = err_from_is_err_and c.from_residual.result c.from_residual.ensures.1 in
-    rw (p.1, p.2) (wanted-fault _ c.args.files reports c.args.plan.now.view _ (sym c.in_err-view.ensures) _)
+    rw (p.1, p.2) (wanted-fault _ wanted c.args.files reports are c.args.plan.now.view _ (sym c.in_err-view.ensures) _)
 
 pub returns : goal.returns
-returns g c = λ sizes text other bases limit reports.
-    wanted-text _ c.args.files reports c.args.plan.now.view c.in_ok-view.view (sym c.in_ok-view.ensures) _ _ c.print.result c.print.ensures
+returns g c = λ wanted sizes text other bases limit reports are.
+    wanted-text _ wanted c.args.files reports are c.args.plan.now.view c.in_ok-view.view (sym c.in_ok-view.ensures) _ _ c.print.result c.print.ensures

@@ -1,7 +1,7 @@
 use Rattle.std.proofs.Common.{◌∙◌, ap}
 use Rattle.iv_text.specs.BedFile.{Bed}
 use Rattle.iv_pair.specs.PairRows.{pair_text}
-use Rattle.iv_locators.proofs.SortedLemmas.{order-sorted}
+use Rattle.iv_places.proofs.SortedLemmas.{order-sorted}
 use Rattle.iv_run.proofs.one_shot.sort_beside.Goals as goal
 
 pub returns-then-not-needs_cover_alone-clause-text : goal.returns-then-not-needs_cover_alone-clause-text

@@ -17,13 +17,13 @@ copies-init g c =
 pub copies-preserved : goal.copies-preserved
 copies-preserved g c =
     let next = one-more c.args.copies c.copies.counter c.args.feature.now c.copies-test.true in
-    Underway-more _ _ _ _ _ _ (rw next at c.copies.invariant) (rw c.as_ref.ensures at c.in_ok-put_line.ensures)
+    Underway-more _ _ _ _ _ _ (rw next at c.copies.invariant) c.in_ok-put_line.ensures
 
 pub returns-in_err-put_line : goal.returns-in_err-put_line
 returns-in_err-put_line g c =
     let next = one-more c.args.copies c.copies.counter c.args.feature.now c.copies-test.true in
     Puts-err _ _ c.from_residual.result _ c.from_residual.ensures.0
-    (Underway-fails _ _ _ _ _ _ (rw next at c.copies.invariant) (rw c.as_ref.ensures at c.in_err-put_line.ensures))
+    (Underway-fails _ _ _ _ _ _ (rw next at c.copies.invariant) c.in_err-put_line.ensures)
 
 pub returns : goal.returns
 returns g c =

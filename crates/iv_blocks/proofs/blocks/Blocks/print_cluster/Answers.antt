@@ -50,10 +50,9 @@ loop-feature-preserved g c =
     let number = number-is c.loop-feature.number c.count_until-number.result _ c.loop-feature.ahead c.count_until-number.new.ahead c.loop-feature.records c.next.new.self r i.passed first counted past in
     let next = rows-next c.args.self.now.options c.args.genome.now c.args.track.now.width c.args.track.now.records c.args.self.now.entries c.requires.right c.requires.fit (ap (λ (o : BlockOptions). o.stranded) c.requires.joined)
     c.loop-feature.records c.next.new.self r (c.loop-feature.number + c.count_until-number.result) first number in
-    let feature : c.as_ref.result ≡ r = c.as_ref.ensures in
     let sorted : AreInOrder (r ∷ c.next.new.self) = subst (λ (l : List RecordValue). AreInOrder l) first i.ordered in
     record {
-      put = Underway-more _ _ _ _ _ _ (rw next at i.put) (rw feature at c.in_ok-put_numbered.ensures);
+      put = Underway-more _ _ _ _ _ _ (rw next at i.put) c.in_ok-put_numbered.ensures;
       ordered = sorted.1;
       passed = IsPassed-next c.loop-feature.number c.count_until-number.result _ c.loop-feature.ahead c.count_until-number.new.ahead c.loop-feature.records c.next.new.self r i.passed first counted past i.ordered;
       no_less = omega (arith, i.no_less, c.in-Some.ensures.steps, c.count_until-number.ensures.steps);
@@ -70,9 +69,8 @@ returns-in_err-put_numbered-clause-text g c =
     let number = number-is c.loop-feature.number c.count_until-number.result _ c.loop-feature.ahead c.count_until-number.new.ahead c.loop-feature.records c.next.new.self r i.passed first counted past in
     let next = rows-next c.args.self.now.options c.args.genome.now c.args.track.now.width c.args.track.now.records c.args.self.now.entries c.requires.right c.requires.fit (ap (λ (o : BlockOptions). o.stranded) c.requires.joined)
     c.loop-feature.records c.next.new.self r (c.loop-feature.number + c.count_until-number.result) first number in
-    let feature : c.as_ref.result ≡ r = c.as_ref.ensures in
     Puts-err _ _ c.from_residual.result _ c.from_residual.ensures.0
-    (Underway-fails _ _ _ _ _ _ (rw next at i.put) (rw feature at c.in_err-put_numbered.ensures))
+    (Underway-fails _ _ _ _ _ _ (rw next at i.put) c.in_err-put_numbered.ensures)
 
 pub returns-in_err-put_numbered-clause-steps : goal.returns-in_err-put_numbered-clause-steps
 returns-in_err-put_numbered-clause-steps g c =

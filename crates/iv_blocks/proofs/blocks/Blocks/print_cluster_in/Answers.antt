@@ -57,12 +57,11 @@ loop-feature-preserved g c =
     let together = ap (λ (o : BlockOptions). o.stranded) c.requires.joined in
     let next = rows-next a.self.now.options a.genome.now a.track.now.width a.track.now.records a.self.now.entries c.requires.right c.requires.fit together
     c.loop-feature.hits.records c.next.new.self.records r (c.loop-feature.number + c.count_until-number.result) first number in
-    let feature : c.as_ref.result ≡ r = c.as_ref.ensures in
     let sorted : AreInOrder (r ∷ c.next.new.self.records) = subst (λ (l : List RecordValue). AreInOrder l) first i.ordered in
     let here = i.here r (subst (λ (l : List RecordValue). Mem r l) (sym first) (inl refl)) in
     let left = left-is c.loop-feature.number c.count_until-number.result _ c.loop-feature.ahead c.count_until-number.new.ahead c.loop-feature.hits.records c.next.new.self.records r i.passed first counted past in
     record {
-      put = Underway-more _ _ _ _ _ _ (rw next at i.put) (rw feature at c.in_ok-put_numbered.ensures);
+      put = Underway-more _ _ _ _ _ _ (rw next at i.put) c.in_ok-put_numbered.ensures;
       ordered = sorted.1;
       here = λ q m. i.here q (subst (λ (l : List RecordValue). Mem q l) (sym first) (inr m));
       passed = IsPassed-next c.loop-feature.number c.count_until-number.result _ c.loop-feature.ahead c.count_until-number.new.ahead c.loop-feature.hits.records c.next.new.self.records r i.passed first counted past i.ordered;
@@ -84,14 +83,13 @@ returns-in_err-put_numbered g c =
     let together = ap (λ (o : BlockOptions). o.stranded) c.requires.joined in
     let next = rows-next a.self.now.options a.genome.now a.track.now.width a.track.now.records a.self.now.entries c.requires.right c.requires.fit together
     c.loop-feature.hits.records c.next.new.self.records r (c.loop-feature.number + c.count_until-number.result) first number in
-    let feature : c.as_ref.result ≡ r = c.as_ref.ensures in
     let here = i.here r (subst (λ (l : List RecordValue). Mem r l) (sym first) (inl refl)) in
     let left = left-is c.loop-feature.number c.count_until-number.result _ c.loop-feature.ahead c.count_until-number.new.ahead c.loop-feature.hits.records c.next.new.self.records r i.passed first counted past in
     let until = count-below a.self.now.options a.genome.now a.track.now.width a.track.now.records a.self.now.entries c.requires.right c.requires.fit together
     r a.region.seq a.region.stop (c.loop-feature.number + c.count_until-number.result) here.0 here.1 number in
     record {
       text = Puts-err _ _ c.from_residual.result _ c.from_residual.ensures.0
-          (Underway-fails _ _ _ _ _ _ (rw next at i.put) (rw feature at c.in_err-put_numbered.ensures));
+          (Underway-fails _ _ _ _ _ _ (rw next at i.put) c.in_err-put_numbered.ensures);
       steps = record {
         no_less = omega (arith, i.no_less, c.in-Some.ensures.steps, c.count_until-number.ensures.steps);
         at_most = omega (arith, i.at_most, c.in-Some.ensures.steps, c.count_until-number.ensures.steps, left, until);

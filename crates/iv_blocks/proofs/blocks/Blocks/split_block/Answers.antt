@@ -50,7 +50,7 @@ feature-init g c =
     sym (ap (λ (m : MembersLeft). m.members) c.of-members.ensures.members) ∙ c.in-Some.ensures.member in
     let passed_records : c.of-members.result.passed_records ≡ length (between_on a.group.seq from a.block.1 a.track.now.records) = ap (λ (m : MembersLeft). m.passed_records) c.of-members.ensures.members in
     let fewer = count-later a.group.seq a.block.0 from a.block.1 a.track.now.records c.first_near-from.ensures.from in
-    let placed : c.bounds_of-start.result ≡ (r.start, r.stop) = c.bounds_of-start.ensures ∙ ap (λ (q : RecordValue). (q.start, q.stop)) c.as_ref.ensures in
+    let placed : c.bounds_of-start.result ≡ (r.start, r.stop) = c.bounds_of-start.ensures in
     let starts : c.bounds_of-start.result.0 ≡ r.start = ap (λ (p : ℕ × ℕ). p.0) placed in
     let stops : c.bounds_of-start.result.1 ≡ r.stop = ap (λ (p : ℕ × ℕ). p.1) placed in
     record {
@@ -111,7 +111,7 @@ feature-preserved-then-from-joined g c =
     let n : IsNear a.self.now a.genome.now a.track.now.records a.group a.block a.gone c.feature.self c.feature.start c.feature.reached (r ∷ rest) =
     subst (λ (l : List RecordValue). IsNear a.self.now a.genome.now a.track.now.records a.group a.block a.gone c.feature.self c.feature.start c.feature.reached l) c.in-Some-next.ensures.member i.sweep in
     let same : c.feature.self.options.distance ≡ a.self.now.options.distance = ap (λ (o : BlockOptions). o.distance) n.sweep.options in
-    let placed : c.bounds_of-next_start.result ≡ (r.start, r.stop) = c.bounds_of-next_start.ensures ∙ ap (λ (q : RecordValue). (q.start, q.stop)) c.as_ref-in-feature.ensures in
+    let placed : c.bounds_of-next_start.result ≡ (r.start, r.stop) = c.bounds_of-next_start.ensures in
     let starts : c.bounds_of-next_start.result.0 ≡ r.start = ap (λ (p : ℕ × ℕ). p.0) placed in
     let stops : c.bounds_of-next_start.result.1 ≡ r.stop = ap (λ (p : ℕ × ℕ). p.1) placed in
     let joins : (r.start ≤ a.gone.0) ⊎ (r.start ≤ c.feature.reached + a.self.now.options.distance) = elim (cases_lt a.gone.0 r.start) [
@@ -136,7 +136,7 @@ returns-in_err-insert_block-clause-steps g c =
     let next = c.in-Some-next.ensures.steps in
     let n : IsNear a.self.now a.genome.now a.track.now.records a.group a.block a.gone c.feature.self c.feature.start c.feature.reached (r ∷ rest) =
     subst (λ (l : List RecordValue). IsNear a.self.now a.genome.now a.track.now.records a.group a.block a.gone c.feature.self c.feature.start c.feature.reached l) c.in-Some-next.ensures.member i.sweep in
-    let starts : c.bounds_of-next_start.result.0 ≡ r.start = ap (λ (p : ℕ × ℕ). p.0) (c.bounds_of-next_start.ensures ∙ ap (λ (q : RecordValue). (q.start, q.stop)) c.as_ref-in-feature.ensures) in
+    let starts : c.bounds_of-next_start.result.0 ≡ r.start = ap (λ (p : ℕ × ℕ). p.0) (c.bounds_of-next_start.ensures) in
     let s : IsSweeping a.self.now a.genome.now a.track.now.records a.group a.block.0 a.block.1 c.feature.self c.feature.start c.feature.reached (r ∷ rest) =
     near-next a.self.now a.genome.now a.track.now.records a.group a.block a.gone known c.requires.rest c.feature.self c.feature.start c.feature.reached r rest n
     (omega (arith, c.if-from-joined.false, c.from.ensures, c.from-in-feature.ensures, c.max-joined.ensures, starts)) in
@@ -167,7 +167,7 @@ feature-preserved g c =
     let n : IsNear a.self.now a.genome.now a.track.now.records a.group a.block a.gone c.feature.self c.feature.start c.feature.reached (r ∷ rest) =
     subst (λ (l : List RecordValue). IsNear a.self.now a.genome.now a.track.now.records a.group a.block a.gone c.feature.self c.feature.start c.feature.reached l) c.in-Some-next.ensures.member i.sweep in
     let same : c.feature.self.options.distance ≡ a.self.now.options.distance = ap (λ (o : BlockOptions). o.distance) n.sweep.options in
-    let placed : c.bounds_of-next_start.result ≡ (r.start, r.stop) = c.bounds_of-next_start.ensures ∙ ap (λ (q : RecordValue). (q.start, q.stop)) c.as_ref-in-feature.ensures in
+    let placed : c.bounds_of-next_start.result ≡ (r.start, r.stop) = c.bounds_of-next_start.ensures in
     let starts : c.bounds_of-next_start.result.0 ≡ r.start = ap (λ (p : ℕ × ℕ). p.0) placed in
     let stops : c.bounds_of-next_start.result.1 ≡ r.stop = ap (λ (p : ℕ × ℕ). p.1) placed in
     let after : a.gone.0 ≤ r.start = omega (arith, c.if-from-joined.false, c.from.ensures, c.from-in-feature.ensures, c.max-joined.ensures, starts) in

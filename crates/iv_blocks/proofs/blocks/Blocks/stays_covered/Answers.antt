@@ -9,7 +9,7 @@ pub returns-clause-covered : goal.returns-clause-covered
 returns-clause-covered g c far =
     let a = c.args in
     let options : listed c.self.inside.options.summaries ≡ listed a.self.now.options.summaries = ap (λ (k : KeptBlocks). listed k.options.summaries) c.self.view_is in
-    let placed = c.bounds_of-first_start.ensures ∙ ap (λ (q : RecordValue). (q.start, q.stop)) c.as_ref.ensures in
+    let placed = c.bounds_of-first_start.ensures in
     let starts : c.bounds_of-first_start.result.0 ≡ c.in-Some.first.start = ap (λ (p : ℕ × ℕ). p.0) placed in
     let stops : c.bounds_of-first_start.result.1 ≡ c.in-Some.first.stop = ap (λ (p : ℕ × ℕ). p.1) placed in
     record {

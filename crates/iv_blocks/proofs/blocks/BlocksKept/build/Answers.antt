@@ -1,4 +1,5 @@
-use Rattle.std.proofs.Common.{◌≡◌, ◌∙◌, ℕ, false, List, map, sym, ap, subst, arith}
+use Rattle.std.proofs.Common.{◌≡◌, ◌∙◌, ℕ, false, List, length, map, sym, ap, subst, arith}
+use Rattle.std.proofs.lemmas.Iterator.Adapters.{YieldsList-from_vec}
 use Rattle.std.specs.Prelude.{All}
 use Rattle.iv_lines.specs.Named.{names_of}
 use Rattle.iv_lines.specs.Ordered.{AreInOrder}
@@ -7,6 +8,7 @@ use Rattle.iv_lines.specs.RecordValue.{RecordValue}
 use Rattle.iv_cover.specs.TrackBlocks.{blocks_of}
 use Rattle.iv_cover.proofs.WalkLemmas.{merge-all}
 use Rattle.iv_ledger.specs.Entries.{IsLedger, value_at}
+use Rattle.iv_track.proofs.CountedLemmas.{given-items}
 use Rattle.iv_track.proofs.WalkLemmas.{filter-from_first}
 use Rattle.iv_blocks.specs.KeptBlocks.{AreBlocksOf, Entries, Key, key_cmp}
 use Rattle.iv_blocks.specs.Groups.{listed}
@@ -15,7 +17,7 @@ use Rattle.iv_blocks.specs.Inside.UnstrandedBlocks.{kept_entry, stop_entry}
 use Rattle.iv_blocks.specs.IntervalOptions.{IsByIntervals}
 use Rattle.iv_blocks.specs.declared.options.BlockOptions.{BlockOptions}
 use Rattle.iv_blocks.proofs.Builds.{built-none, built-next, built-all}
-use Rattle.iv_blocks.proofs.UnstrandedLemmas.{all-lie, drained, drained-items, kept-ordered, kept-found, stops-ordered, stops-found}
+use Rattle.iv_blocks.proofs.UnstrandedLemmas.{all-lie, drained, kept-ordered, kept-found, stops-ordered, stops-found}
 use Rattle.iv_blocks.proofs.StoredLemmas.{plain-ordered}
 use Rattle.iv_blocks.proofs.blocks.BlocksKept.build.Goals as goal
 
@@ -60,9 +62,10 @@ from_entries-requires-then-not-options-clause-ascend g c es run =
     let o = c.args.options in
     let s = c.args.genome.now in
     let records = c.args.track.now.records in
-    let made : c.in_ok-entries.entries ≡ map (kept_entry s (listed o.summaries)) (blocks_of o.distance s records) =
+    let made : c.in_ok-entries.entries.items ≡ map (kept_entry s (listed o.summaries)) (blocks_of o.distance s records) =
     c.in_ok-entries.ensures.entries ∙ ap (map (kept_entry s (listed o.summaries))) (merge-all o.distance s records c.in_ok-entries.ensures.order (all-lie s c.args.track.now.width records c.requires.fit)) in
-    subst (IsLedger key_cmp) (sym (drained-items c.into_iter.result es run ∙ c.into_iter.ensures ∙ made))
+    let given = YieldsList-from_vec (map (kept_entry s (listed o.summaries)) (blocks_of o.distance s records)) (c.into_iter.ensures.rest ∙ made) (omega (arith, c.into_iter.ensures.len, c.in_ok-entries.entries.ok.0, ap length made)) in
+    subst (IsLedger key_cmp) (sym (given-items c.into_iter.result es _ run given))
     (kept-ordered o s c.args.track.now.width records c.requires.fit c.if-not-options.true)
 
 pub returns-then-not-options-clause-right : goal.returns-then-not-options-clause-right
@@ -71,13 +74,14 @@ returns-then-not-options-clause-right g c =
     let s = c.args.genome.now in
     let records = c.args.track.now.records in
     let e = c.in_ok-blocks.ensures in
-    let made : c.in_ok-entries.entries ≡ map (kept_entry s (listed o.summaries)) (blocks_of o.distance s records) =
+    let made : c.in_ok-entries.entries.items ≡ map (kept_entry s (listed o.summaries)) (blocks_of o.distance s records) =
     c.in_ok-entries.ensures.entries ∙ ap (map (kept_entry s (listed o.summaries))) (merge-all o.distance s records c.in_ok-entries.ensures.order (all-lie s c.args.track.now.width records c.requires.fit)) in
+    let given = YieldsList-from_vec (map (kept_entry s (listed o.summaries)) (blocks_of o.distance s records)) (c.into_iter.ensures.rest ∙ made) (omega (arith, c.into_iter.ensures.len, c.in_ok-entries.entries.ok.0, ap length made)) in
     subst (λ (b : StoredBlocks). AreBlocksOf o (names_of s) records b.entries) (sym c.with_results.ensures) (record {
       ordered = e.ordered;
       blocks = λ k.
           e.values.2 k
-          ∙ ap (λ (l : Entries). value_at key_cmp l k) (drained-items c.into_iter.result e.values.0 e.values.1 ∙ c.into_iter.ensures ∙ made)
+          ∙ ap (λ (l : Entries). value_at key_cmp l k) (given-items c.into_iter.result e.values.0 _ e.values.1 given)
           ∙ kept-found o s c.args.track.now.width records c.requires.fit c.if-not-options.true k;
     })
 

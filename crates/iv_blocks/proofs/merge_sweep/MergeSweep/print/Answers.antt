@@ -8,7 +8,7 @@ use Rattle.iv_blocks.specs.Groups.{listed}
 use Rattle.iv_blocks.specs.declared.options.BlockOptions.{BlockOptions}
 use Rattle.iv_cover.specs.Results.{HasRoom}
 use Rattle.iv_cover.proofs.FirstLemmas.{Underway-step, Underway-failed}
-use Rattle.iv_locators.proofs.SequenceLemmas.{all-from, from-in, from-order, from-here, from-later}
+use Rattle.iv_places.proofs.SequenceLemmas.{all-from, from-in, from-order, from-here, from-later}
 use Rattle.iv_blocks.proofs.RoomLemmas.{room-more}
 use Rattle.iv_blocks.proofs.SideLemmas.{few}
 use Rattle.iv_blocks.proofs.TextLemmas.{rows-next}

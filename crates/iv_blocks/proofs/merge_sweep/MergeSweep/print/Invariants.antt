@@ -5,7 +5,7 @@ use Rattle.iv_lines.specs.Genome.{seq_count}
 use Rattle.iv_blocks.specs.Groups.{listed, sides}
 use Rattle.iv_blocks.specs.Inside.Texts.{merge_text, side_rows}
 use Rattle.iv_cover.specs.Results.{HasRoom}
-use Rattle.iv_locators.proofs.SequenceLemmas.{is_from}
+use Rattle.iv_places.proofs.SequenceLemmas.{is_from}
 use Rattle.iv_blocks.proofs.merge_sweep.MergeSweep.print.Given as goal
 
 -- the rows of the sequences from this rank on remain to be written

@@ -2,7 +2,7 @@ use Rattle.std.proofs.Common.{◌∙◌, List, map, sym, ap, subst}
 use Rattle.iv_lines.specs.Ordered.{AreInOrder}
 use Rattle.iv_lines.specs.RecordValue.{RecordValue}
 use Rattle.iv_lines.specs.Intervals.{interval_of}
-use Rattle.iv_locators.proofs.BareLemmas.{in_order-bare}
+use Rattle.iv_places.proofs.BareLemmas.{in_order-bare}
 use Rattle.iv_pair.proofs.CountLemmas.{AreEndsOf-moved}
 use Rattle.iv_pair.proofs.hit_counts.HitCounts.of.Goals as goal
 

@@ -7,6 +7,6 @@ use Rattle.iv_pair.proofs.CarryLemmas.{held-filter}
 use Rattle.iv_pair.proofs.hit_finder.Carried.keep.Goals as goal
 
 pub returns : goal.returns
-returns g c =
+returns c =
     let p = covers c.args.seq c.args.position in
     ap held (filter-from_retain _ (keeps p) _ (λ x b f' y called. search rules) _ _ c.retain.ensures.filtered) ∙ held-filter p c.self.inside.slots.items ∙ ap (filter p) c.self.view_is

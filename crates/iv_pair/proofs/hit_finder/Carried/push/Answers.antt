@@ -5,4 +5,4 @@ use Rattle.iv_pair.proofs.CarryLemmas.{held-append}
 use Rattle.iv_pair.proofs.hit_finder.Carried.push.Goals as goal
 
 pub returns-clause-pushed : goal.returns-clause-pushed
-returns-clause-pushed g c = λ e. ap held c.push.ensures.items ∙ held-append c.self.inside.slots.items (Some c.args.feature ∷ []) ∙ ap (λ (l : List RecordValue). l ++ c.args.feature ∷ []) c.self.view_is
+returns-clause-pushed c = λ e. ap held c.push.ensures.items ∙ held-append c.self.inside.slots.items (Some c.args.feature ∷ []) ∙ ap (λ (l : List RecordValue). l ++ c.args.feature ∷ []) c.self.view_is

@@ -1,4 +1,4 @@
-use Rattle.std.proofs.Common.{◌≡◌, ◌++◌, ◌∙◌, List, refl, sym, ap, subst, arith, rules}
+use Rattle.std.proofs.Common.{◌≡◌, ◌++◌, ◌∙◌, List, refl, sym, ap, subst, arith}
 use Rattle.std.specs.Prelude.{filter}
 use Rattle.iv_lines.specs.RecordValue.{RecordValue}
 use Rattle.iv_track.specs.Tracked.{is_from}
@@ -11,7 +11,7 @@ use Rattle.iv_pair.proofs.hit_finder.HitFinder.go_to.Goals as goal
 pub take_begun-requires : goal.take_begun-requires
 take_begun-requires g c =
     let cover = subst (AllCover c.args.seq c.args.start) (sym c.keep.ensures) (kept-cover c.args.seq c.args.start c.self.inside.carried) in
-    (search rules, (c.requires, (c.self.invariant.placed.rows_ordered, cover)))
+    record { start = c.requires; ordered = c.self.invariant.placed.rows_ordered; cover = cover }
 
 -- further on
 pub invariant_of-self : goal.invariant_of-self

@@ -1,4 +1,4 @@
-use Rattle.std.proofs.Common.{◌≡◌, ◌++◌, ap, ◌∙◌, arith, rules}
+use Rattle.std.proofs.Common.{◌≡◌, ◌++◌, ap, ◌∙◌, arith}
 use Rattle.iv_pair.specs.Inside.HitFinder.{Finding}
 use Rattle.iv_track.specs.Regions.{hits}
 use Rattle.iv_pair.proofs.CarryLemmas.{found, alike-trans, placed-on}
@@ -8,7 +8,7 @@ pub take_begun-requires : goal.take_begun-requires
 take_begun-requires g c =
     let at : c.self.inside.start ≡ c.args.start = ap (λ (f : Finding). f.start) c.self.view_is ∙ c.go_to.ensures.there.1 in
     let placed = c.self.invariant.placed in
-    (search rules, (omega (arith, at, c.requires, c.ranges.stop.fits), (placed.rows_ordered, placed.cover)))
+    record { start = omega (arith, at, c.requires, c.ranges.stop.fits); ordered = placed.rows_ordered; cover = placed.cover }
 
 pub invariant_of-self : goal.invariant_of-self
 invariant_of-self g c =

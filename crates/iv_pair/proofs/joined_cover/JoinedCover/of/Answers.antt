@@ -1,8 +1,8 @@
 use Rattle.std.proofs.Common.{◌∙◌, List, sym, ap, subst}
 use Rattle.iv_lines.specs.Ordered.{AreInOrder}
 use Rattle.iv_lines.specs.RecordValue.{RecordValue}
-use Rattle.iv_locators.specs.Cover.{is_covered}
-use Rattle.iv_locators.proofs.BareLemmas.{in_order-bare}
+use Rattle.iv_places.specs.Cover.{is_covered}
+use Rattle.iv_places.proofs.BareLemmas.{in_order-bare}
 use Rattle.iv_pair.proofs.CopyLemmas.{cover-bare}
 use Rattle.iv_pair.proofs.joined_cover.JoinedCover.of.Goals as goal
 

@@ -8,5 +8,5 @@ pub invariant_of-self-2 : goal.invariant_of-self-2
 invariant_of-self-2 g c = record {
   counted = c.stage.ensures.counted;
   few = subst (λ (t : Tracked). length t.records ≤ t.limit) (sym c.in_ok-stage.ensures.ok)
-      (omega (arith, length-added record_cmp c.self.inside.track.records c.args.feature, c.if-len-limit.false, c.len.ensures.len, c.limit.ensures));
+      (omega (arith, length-added record_cmp c.self.inside.track.records c.args.feature.now, c.if-len-limit.false, c.len.ensures.len, c.limit.ensures));
 }

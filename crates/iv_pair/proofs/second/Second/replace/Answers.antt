@@ -11,8 +11,8 @@ use Rattle.iv_pair.proofs.second.Second.replace.Goals as goal
 pub unreachable-requires : goal.unreachable-requires
 unreachable-requires g c =
     let records = c.self.inside.track.records in
-    let none : copies (added records c.args.new) c.args.old.now ≡ 0 = ap (λ (t : Tracked). copies t.records c.args.old.now) (sym c.in_ok-stage.ensures.ok) ∙ refused-absent c.stage.new.track c.args.old.now _ c.in-Err.ensures.why in
-    omega (arith, none, copies-added record_cmp records c.args.new c.args.old.now, c.copies.ensures.value, c.if-copies-eq0.false)
+    let none : copies (added records c.args.new.now) c.args.old.now ≡ 0 = ap (λ (t : Tracked). copies t.records c.args.old.now) (sym c.in_ok-stage.ensures.ok) ∙ refused-absent c.stage.new.track c.args.old.now _ c.in-Err.ensures.why in
+    omega (arith, none, copies-added record_cmp records c.args.new.now c.args.old.now, c.copies.ensures.value, c.if-copies-eq0.false)
 
 pub invariant_of-self-2 : goal.invariant_of-self-2
 invariant_of-self-2 g c = record {
@@ -23,7 +23,7 @@ invariant_of-self-2 g c = record {
         length-removed record_cmp c.stage.new.track.records c.args.old.now c.in-Ok.ensures.there,
         ap (λ (t : Tracked). length t.records) c.in_ok-stage.ensures.ok,
         ap (λ (t : Tracked). t.limit) c.in_ok-stage.ensures.ok,
-        length-added record_cmp c.self.inside.track.records c.args.new,
+        length-added record_cmp c.self.inside.track.records c.args.new.now,
         c.self.invariant.few,
       ));
 }
@@ -35,5 +35,5 @@ returns-clause-ok g c =
     let with_rows : List RecordValue → Tracked = λ records. record { records = records; width = t.width; limit = t.limit } in
     c.in-Ok.ensures.ok
     ∙ ap (λ (s : Tracked). record s { records = removed s.records c.args.old.now }) c.in_ok-stage.ensures.ok
-    ∙ ap with_rows (removed-added record_cmp records_total rows_exact t.records c.args.new c.args.old.now c.copies.ensures.ordered some)
-    ∙ ap (λ (s : Tracked). record s { records = added (removed s.records c.args.old.now) c.args.new }) c.self.view_is
+    ∙ ap with_rows (removed-added record_cmp records_total rows_exact t.records c.args.new.now c.args.old.now c.copies.ensures.ordered some)
+    ∙ ap (λ (s : Tracked). record s { records = added (removed s.records c.args.old.now) c.args.new.now }) c.self.view_is

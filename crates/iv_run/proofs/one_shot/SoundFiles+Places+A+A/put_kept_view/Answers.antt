@@ -4,7 +4,7 @@ use Rattle.iv_text.specs.BedFile.{Bed}
 use Rattle.iv_lines.specs.Ordered.{AreInOrder}
 use Rattle.iv_lines.specs.Read.{IsOnGenome}
 use Rattle.iv_lines.specs.RecordValue.{RecordValue}
-use Rattle.iv_locators.proofs.SortedLemmas.{on_genome-sorted, order-sorted}
+use Rattle.iv_places.proofs.SortedLemmas.{on_genome-sorted, order-sorted}
 use Rattle.iv_run.proofs.WantedLemmas.{all-on, all-wide}
 use Rattle.iv_run.proofs.one_shot.SoundFiles+Places+A+A.put_kept_view.Goals as goal
 

@@ -1,6 +1,6 @@
 use Rattle.std.proofs.Common.{sym, subst}
 use Rattle.iv_lines.specs.Ordered.{AreInOrder}
-use Rattle.iv_locators.proofs.SortedLemmas.{order-sorted}
+use Rattle.iv_places.proofs.SortedLemmas.{order-sorted}
 use Rattle.iv_run.proofs.WantedLemmas.{all-wide}
 use Rattle.iv_run.proofs.one_shot.SoundFiles+Places+A+A.put_pairs.Goals as goal
 

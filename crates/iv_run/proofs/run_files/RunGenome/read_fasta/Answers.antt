@@ -1,10 +1,10 @@
 use Rattle.std.proofs.Common.{IfOk, List, ℕ, subst}
-use Rattle.std.specs.Option.{option_map}
+use Rattle.std.specs.Option.{option_copied, option_map}
 use Rattle.std.proofs.lemmas.Result.{IfOk-weaker}
 use Rattle.iv_lines.proofs.PieceLemmas.{handed-on}
 use Rattle.iv_fasta.specs.FastaReading.{Wanted}
 use Rattle.iv_run.specs.Files.{ReadsWhole}
-use Rattle.iv_run.specs.RunFiles.{GenomeRead, IsEnoughBeside, IsEnoughOf, IsFasta}
+use Rattle.iv_run.specs.RunFiles.{AreAskedFor, GenomeRead, IsFasta}
 use Rattle.iv_run.proofs.ReadingLemmas.{StopsReading-at_once}
 use Rattle.iv_run.proofs.run_files.RunGenome.read_fasta.Goals as goal
 
@@ -17,8 +17,8 @@ returns-clause-ok g c =
     let old = g.R.Source.state c.args.source.now in
     let new = g.R.Source.state c.read_fasta.new.source in
     let wanted = option_map (λ ranks. ranks.items) c.in_ok-wanted.wanted in
-    let enough : Wanted → Type 0 = IsEnoughBeside g.H.HoldsFile.is_enough c.args.first.now in
-    subst (λ (run_genome : GenomeRead). IfOk c.read_fasta.result (λ held. (text : List ℕ) × ReadsWhole old new c.args.most text × IsEnoughOf enough run_genome.genome text held)) c.self.view_is
+    let asked : Wanted → Type 0 = AreAskedFor (option_copied c.args.first) in
+    subst (λ (run_genome : GenomeRead). IfOk c.read_fasta.result (λ held. (wanted : Wanted) × (text : List ℕ) × asked wanted × ReadsWhole old new c.args.most text × IsFasta wanted run_genome.genome text held)) c.self.view_is
     (IfOk-weaker c.read_fasta.result (λ held. (text : List ℕ) × ReadsWhole old new c.args.most text × IsFasta wanted c.self.inside.genome text held)
-    (λ held. (text : List ℕ) × ReadsWhole old new c.args.most text × IsEnoughOf enough c.self.inside.genome text held)
-    (λ held read. (read.0, read.1, (wanted, c.in_ok-wanted.ensures, read.2))) c.read_fasta.ensures.ok)
+    (λ held. (wanted : Wanted) × (text : List ℕ) × asked wanted × ReadsWhole old new c.args.most text × IsFasta wanted c.self.inside.genome text held)
+    (λ held read. (wanted, read.0, c.in_ok-wanted.ensures, read.1, read.2)) c.read_fasta.ensures.ok)

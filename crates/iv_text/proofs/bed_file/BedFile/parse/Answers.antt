@@ -1,5 +1,4 @@
-use Rattle.std.proofs.Common.{◌∙◌, List, [], Ok, sym, ap, inl, inr}
-use Rattle.iv_lines.specs.RecordValue.{RecordValue}
+use Rattle.std.proofs.Common.{◌∙◌, [], ap, inl, inr}
 use Rattle.iv_text.specs.BedReading.{finished}
 use Rattle.iv_lines.proofs.PieceLemmas.{handed-on}
 use Rattle.iv_text.proofs.BedReadingLemmas.{fit-all, text-whole}
@@ -28,9 +27,12 @@ pub returns-clause-ok : goal.returns-clause-ok
 returns-clause-ok g c =
     let empty = c.args.empty_width in
     text-whole c.args.genome.now c.args.limit empty c.args.text.now _ c.new-draft.ensures ∙ ap (finished empty) (c.in_ok-take_piece.ensures.ok []) ∙ c.in_ok-width.ensures.ok
-    ∙ ap (λ (records : List RecordValue). Ok (record { width = c.in_ok-width.width; records = records })) (sym c.in_ok-into_records.ensures ∙ sym c.in_ok-records.ensures)
 
 pub returns-clause-fit : goal.returns-clause-fit
 returns-clause-fit g c =
-    let kept = c.in_ok-width.ensures.held in
-    rw (c.in_ok-records.ensures, c.in_ok-into_records.ensures) (fit-all c.args.genome.now c.in_ok-width.width c.in_ok-width.records kept)
+    fit-all c.args.genome.now c.in_ok-width.width _ c.in_ok-width.ensures.held
+
+pub invariant_of-result : goal.invariant_of-result
+invariant_of-result g c =
+    let fit = fit-all c.args.genome.now c.in_ok-width.width _ c.in_ok-width.ensures.held in
+    (c.in_ok-width.ensures.width, λ k e within. (fit k e within).width_is)

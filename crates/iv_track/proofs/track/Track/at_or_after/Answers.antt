@@ -1,7 +1,9 @@
-use Rattle.std.proofs.Common.{◌∙◌, sym, ap, Some}
-use Rattle.iv_lines.specs.RecordValue.{RecordValue}
+use Rattle.std.proofs.Common.{◌∙◌, sym, ap}
+use Rattle.std.specs.Prelude.{find}
+use Rattle.std.specs.Ordering.{is_le}
+use Rattle.iv_lines.specs.RecordValue.{RecordValue, record_cmp}
 use Rattle.iv_track.specs.Tracked.{Tracked, next_from, is_from}
-use Rattle.iv_track.proofs.EntryIndexLemmas.{find-begun, find-nowhere}
+use Rattle.iv_track.proofs.EntryIndexLemmas.{find-begun, find-least, find-nowhere}
 use Rattle.iv_track.proofs.TrackLemmas.{next-entry}
 use Rattle.iv_track.proofs.track.Track.at_or_after.Goals as goal
 
@@ -14,12 +16,15 @@ returns-in_err-seq-clause-next g c =
     ∙ ap (λ (t : Tracked). next_from t.records c.args.seq c.args.start) c.self.view_is
     )
 
-pub returns-in_err-lent-clause-next : goal.returns-in_err-lent-clause-next
-returns-in_err-lent-clause-next g c =
+pub returns-in_err-feature-clause-next : goal.returns-in_err-feature-clause-next
+returns-in_err-feature-clause-next g c =
     let i = c.self.inside in
-    rw c.from_residual-in_err-lent.ensures (
-    c.in_err-lent.ensures.entry
-    ∙ find-begun c.args.seq c.args.start (c.in_ok-seq.seq, c.in_ok-seq.start) i.ledger c.in_ok-seq.ensures c.self.invariant.track.placed
+    let from = c.in_ok-seq in
+    rw c.from_residual-in_err-feature.ensures (
+    c.in_err-feature.ensures.entry
+    ∙ ap (λ (r : RecordValue). find (λ e. is_le (record_cmp r e.0)) i.ledger) c.least_at.ensures
+    ∙ find-least from.seq from.start i.ledger c.self.invariant.track.placed c.self.invariant.track.wide
+    ∙ find-begun c.args.seq c.args.start (from.seq, from.start) i.ledger from.ensures c.self.invariant.track.placed
     ∙ sym (next-entry (is_from c.args.seq c.args.start) i.ledger i.len i.width i.limit c.self.invariant.track)
     ∙ ap (λ (t : Tracked). next_from t.records c.args.seq c.args.start) c.self.view_is
     )
@@ -27,8 +32,10 @@ returns-in_err-lent-clause-next g c =
 pub returns-clause-next : goal.returns-clause-next
 returns-clause-next g c =
     let i = c.self.inside in
-    ap (λ (r : RecordValue). Some (r, c.in_ok-lent.count)) c.of.ensures
-    ∙ c.in_ok-lent.ensures.entry
-    ∙ find-begun c.args.seq c.args.start (c.in_ok-seq.seq, c.in_ok-seq.start) i.ledger c.in_ok-seq.ensures c.self.invariant.track.placed
+    let from = c.in_ok-seq in
+    c.in_ok-feature.ensures.entry
+    ∙ ap (λ (r : RecordValue). find (λ e. is_le (record_cmp r e.0)) i.ledger) c.least_at.ensures
+    ∙ find-least from.seq from.start i.ledger c.self.invariant.track.placed c.self.invariant.track.wide
+    ∙ find-begun c.args.seq c.args.start (from.seq, from.start) i.ledger from.ensures c.self.invariant.track.placed
     ∙ sym (next-entry (is_from c.args.seq c.args.start) i.ledger i.len i.width i.limit c.self.invariant.track)
     ∙ ap (λ (t : Tracked). next_from t.records c.args.seq c.args.start) c.self.view_is

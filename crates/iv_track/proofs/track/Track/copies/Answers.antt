@@ -10,7 +10,7 @@ use Rattle.iv_track.proofs.track.Track.copies.Goals as goal
 pub returns-clause-value : goal.returns-clause-value
 returns-clause-value g c =
     c.unwrap_or.ensures
-    ∙ ap (λ o. unwrap_or o 0) c.get.ensures.value
+    ∙ ap (λ o. unwrap_or o 0) (c.copied.ensures ∙ c.get.ensures.value)
     ∙ sym (copies-expanded record_cmp records_total c.self.inside.ledger c.args.feature.now c.self.invariant.track.ordered)
     ∙ ap (λ (t : Tracked). copies t.records c.args.feature.now) c.self.view_is
 

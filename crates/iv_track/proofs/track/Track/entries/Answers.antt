@@ -1,9 +1,11 @@
 use Rattle.std.proofs.Common.{◌≡◌, ◌∙◌, length, sym, ap, subst}
 use Rattle.std.specs.Prelude.{filter}
 use Rattle.std.proofs.lemmas.List.Kept.{IsStrictlySortedBy-filter}
-use Rattle.iv_lines.specs.RecordValue.{record_cmp, records_total}
+use Rattle.iv_lines.specs.RecordValue.{RecordValue, record_cmp, records_total}
 use Rattle.std.specs.List.Sorted.{IsStrictlySortedBy}
 use Rattle.std.specs.Map.{keys_of}
+use Rattle.std.specs.Ordering.{is_le}
+use Rattle.iv_track.proofs.EntryIndexLemmas.{filter-least}
 use Rattle.iv_track.specs.Copies.{expanded}
 use Rattle.iv_track.specs.Tracked.{Tracked, different_records, is_from}
 use Rattle.iv_track.proofs.DifferentLemmas.{different-expanded, keys-filter}
@@ -13,7 +15,11 @@ use Rattle.iv_track.proofs.track.Track.entries.Goals as goal
 
 -- the entries of the walk are those of the map from there on
 passed : (g : given.Over) (c : goal.After-walk g) → c.walk.result ≡ filter (λ e. is_from c.args.seq c.args.start e.0) c.self.inside.ledger
-passed g c = c.walk.ensures.entries
+passed g c =
+    let i = c.self.inside in
+    c.walk.ensures.entries
+    ∙ ap (λ (r : RecordValue). filter (λ e. is_le (record_cmp r e.0)) i.ledger) c.least_at.ensures
+    ∙ filter-least c.args.seq c.args.start i.ledger c.self.invariant.track.placed c.self.invariant.track.wide
 
 -- and their records those of the track
 meant : (g : given.Over) (c : goal.After-walk g)

@@ -19,12 +19,12 @@ returns-in_default-clause-why g c =
     let i = c.self.inside in
     ap (λ (t : Tracked). copies t.records c.args.feature.now) (sym c.self.view_is)
     ∙ count_here i.ledger i.len i.width i.limit c.args.feature.now c.self.invariant.track
-    ∙ ap (λ o. unwrap_or o 0) (sym c.get.ensures.value ∙ c.in_default.is)
+    ∙ ap (λ o. unwrap_or o 0) (sym (c.copied.ensures ∙ c.get.ensures.value) ∙ c.in_default.is)
 
 pub overflow_sub-count : goal.overflow_sub-count
 overflow_sub-count g c =
     let i = c.self.inside in
-    count-pos i.ledger i.ledger i.len i.width i.limit c.args.feature.now c.self.invariant.track c.in-Some.count (sym c.get.ensures.value ∙ c.in-Some.is)
+    count-pos i.ledger i.ledger i.len i.width i.limit c.args.feature.now c.self.invariant.track c.in-Some.count (sym (c.copied.ensures ∙ c.get.ensures.value) ∙ c.in-Some.is)
 
 -- after either way the map has one copy less, and the other fields are as before
 changed : (g : given.Over) (c : goal.Joined-count-eq1 g) → IsLowered c.self.inside.ledger c.if-count-eq1.self-inside.ledger c.args.feature.now c.self.inside.width
@@ -35,7 +35,7 @@ changed : (g : given.Over) (c : goal.Joined-count-eq1 g) → IsLowered c.self.in
 changed g c =
     let i = c.self.inside in
     let n = c.in-Some.count in
-    let count : value_at record_cmp i.ledger c.args.feature.now ≡ Some n = sym c.get.ensures.value ∙ c.in-Some.is in
+    let count : value_at record_cmp i.ledger c.args.feature.now ≡ Some n = sym (c.copied.ensures ∙ c.get.ensures.value) ∙ c.in-Some.is in
     elim c.if-count-eq1.branch [
       | then-count-eq1 w ↦
           let is = w.self-inside-is in (
@@ -59,14 +59,14 @@ changed g c =
 pub overflow_sub-self : goal.overflow_sub-self
 overflow_sub-self g c =
     let i = c.self.inside in
-    let count : value_at record_cmp i.ledger c.args.feature.now ≡ Some c.in-Some.count = sym c.get.ensures.value ∙ c.in-Some.is in
+    let count : value_at record_cmp i.ledger c.args.feature.now ≡ Some c.in-Some.count = sym (c.copied.ensures ∙ c.get.ensures.value) ∙ c.in-Some.is in
     omega (arith, len-pos i.ledger i.ledger i.len i.width i.limit c.args.feature.now c.self.invariant.track c.in-Some.count count, (changed g c).1)
 
 pub invariant_of-self : goal.invariant_of-self
 invariant_of-self g c =
     let i = c.self.inside in
     let j = c.if-count-eq1.self-inside in
-    let count : value_at record_cmp i.ledger c.args.feature.now ≡ Some c.in-Some.count = sym c.get.ensures.value ∙ c.in-Some.is in
+    let count : value_at record_cmp i.ledger c.args.feature.now ≡ Some c.in-Some.count = sym (c.copied.ensures ∙ c.get.ensures.value) ∙ c.in-Some.is in
     let d = changed g c.before in
     let low = lowered_track i.ledger j.ledger i.len i.width i.limit c.args.feature.now c.self.invariant.track c.in-Some.count count d.0 in
     record {
@@ -93,7 +93,7 @@ returns-clause-ok g c =
 pub returns-clause-there : goal.returns-clause-there
 returns-clause-there g c =
     let i = c.self.inside in
-    let count : value_at record_cmp i.ledger c.args.feature.now ≡ Some c.in-Some.count = sym c.get.ensures.value ∙ c.in-Some.is in
+    let count : value_at record_cmp i.ledger c.args.feature.now ≡ Some c.in-Some.count = sym (c.copied.ensures ∙ c.get.ensures.value) ∙ c.in-Some.is in
     subst (λ (t : Tracked). 0 < copies t.records c.args.feature.now) c.self.view_is
     (found i.ledger i.ledger i.len i.width i.limit c.args.feature.now c.self.invariant.track c.in-Some.count count)
 
@@ -109,7 +109,7 @@ pub remove-requires-clause-some : goal.remove-requires-clause-some
 remove-requires-clause-some g c =
     let i = c.self.inside in
     let feature = c.args.feature.now in
-    let count : value_at record_cmp i.ledger feature ≡ Some c.in-Some.count = sym c.get.ensures.value ∙ c.in-Some.is in
+    let count : value_at record_cmp i.ledger feature ≡ Some c.in-Some.count = sym (c.copied.ensures ∙ c.get.ensures.value) ∙ c.in-Some.is in
     subst (λ k. 0 < slice_index_or i.lengths k 0) (sym c.length_class.ensures.is)
     (classes-some i.lengths (expanded i.ledger) feature c.self.invariant.lengths (in_order-expanded record_cmp records_total i.ledger c.self.invariant.track.ordered)
     (found i.ledger i.ledger i.len i.width i.limit feature c.self.invariant.track c.in-Some.count count))

@@ -23,17 +23,16 @@ use Rattle.iv_workspace.proofs.session.edits.edit_track.Goals as goal
 pub returns-in_err-add-in-Add-clause-why : goal.returns-in_err-add-in-Add-clause-why
 returns-in_err-add-in-Add-clause-why g c =
     let t = c.args.track.now in
-    let p = err_from_is_err_and c.from_residual-in_err-add-in-Add.result c.from_residual-in_err-add-in-Add.ensures.1 in
-    let reported = c.in_err-add-in-Add.field-0.0 in
-    subst (λ (e : Edit). IfErr c.from_residual-in_err-add-in-Add.result (RefusesEdit e t)) (sym c.in-Add.is)
-    (rw (p.1, p.2) (inr (subst (λ (r : RecordValue). RefusesAdd t r reported) c.in_ok-record-in-Add.ensures.ok c.in_err-add-in-Add.ensures.why)))
+    let p = err_from_is_err_and c.from_residual.result c.from_residual.ensures.1 in
+    subst (λ (e : Edit). IfErr c.from_residual.result (RefusesEdit e t)) (sym c.in-Add.is)
+    (rw (p.1, p.2) (inr c.in_err-add-in-Add.ensures.why))
 
 pub repair-requires-clause-fit : goal.repair-requires-clause-fit
 repair-requires-clause-fit g c =
     let t = c.args.track.now in
     let fits : Fits c.args.genome.now t.width c.in-Add.feature = subst (λ (e : Edit). EditFits (Fits c.args.genome.now t.width) e) c.in-Add.is c.requires.fits in
     let is : Changed Added c.args.genome.now t c.add.new.self c.in-Add.feature =
-    changed-added c.args.genome.now t c.add.new.self _ c.in-Add.feature c.in_ok-record-in-Add.ensures.ok c.requires.on.fit fits c.in_ok-add-in-Add.ensures.ok in
+    changed-added c.args.genome.now t c.add.new.self c.in-Add.feature c.requires.on.fit fits c.in_ok-add-in-Add.ensures.ok in
     is.fit
 
 pub repair-requires-in-Remove : goal.repair-requires-in-Remove
@@ -42,18 +41,17 @@ repair-requires-in-Remove g c =
     let e = c.in_ok-remove-in-Remove.ensures in
     let fits : Fits c.args.genome.now t.width c.in-Remove.feature = subst (λ (e : Edit). EditFits (Fits c.args.genome.now t.width) e) c.in-Remove.is c.requires.fits in
     let is : Changed Removed c.args.genome.now t c.remove.new.self c.in-Remove.feature =
-    changed-removed c.args.genome.now t c.remove.new.self _ c.in-Remove.feature c.in_ok-record-in-Remove.ensures.ok c.requires.on.fit fits e.was_ordered e.there e.ok in
+    changed-removed c.args.genome.now t c.remove.new.self c.in-Remove.feature c.requires.on.fit fits e.was_ordered e.there e.ok in
     record { right = record { before = t.records; right = c.requires.right; changed = is.changed }; fit = is.fit; fits = is.fits }
 
 pub returns-in_ok-remove-in-Remove-clause-ok : goal.returns-in_ok-remove-in-Remove-clause-ok
 returns-in_ok-remove-in-Remove-clause-ok g c =
     let t = c.args.track.now in
     let e = c.in_ok-remove-in-Remove.ensures in
-    let same = c.in_ok-record-in-Remove.ensures.ok in
     let views = all_seen c.repair-in-Remove.new.self in
     subst (λ (e : Edit). IsEdited target.First e (over t (all_seen c.args.views.now)) (over c.remove.new.self views)) (sym c.in-Remove.is) (
-      subst (λ (r : RecordValue). 0 < copies t.records r) same e.there,
-      ap (λ (u : Tracked). over u views) (e.ok ∙ ap (λ (r : RecordValue). without_record r t) same),
+      e.there,
+      ap (λ (u : Tracked). over u views) e.ok,
       c.repair-in-Remove.ensures.stales,
     )
 
@@ -65,7 +63,7 @@ returns-in_ok-remove-in-Remove-clause-steps g c =
     let views = all_seen c.args.views.now in
     let fits : Fits c.args.genome.now t.width r = subst (λ (e : Edit). EditFits (Fits c.args.genome.now t.width) e) c.in-Remove.is c.requires.fits in
     let is : Changed Removed c.args.genome.now t c.remove.new.self r =
-    changed-removed c.args.genome.now t c.remove.new.self _ r c.in_ok-record-in-Remove.ensures.ok c.requires.on.fit fits e.was_ordered e.there e.ok in
+    changed-removed c.args.genome.now t c.remove.new.self r c.requires.on.fit fits e.was_ordered e.there e.ok in
     let same : all_steps views (added c.remove.new.self.records r) r ≡ all_steps views t.records r = ap (λ (l : List RecordValue). all_steps views l r) (sym is.changed) in
     let more = c.repair-in-Remove.ensures.steps in
     subst (λ (e : Edit). TakesUpTo c.args.meter.now c.repair-in-Remove.new.meter (most_steps target.First e (over t views))) (sym c.in-Remove.is)
@@ -74,35 +72,32 @@ returns-in_ok-remove-in-Remove-clause-steps g c =
 pub returns-then-copies-eq0-clause-why : goal.returns-then-copies-eq0-clause-why
 returns-then-copies-eq0-clause-why g c =
     let t = c.args.track.now in
-    let none : copies t.records c.in_ok-before-in-Replace.before ≡ 0 = omega (arith, c.copies.ensures.value, c.if-copies-eq0.true) in
+    let none : copies t.records c.in-Replace.old ≡ 0 = omega (arith, c.copies.ensures.value, c.if-copies-eq0.true) in
     subst (λ (e : Edit). RefusesEdit e t fault.Absent) (sym c.in-Replace.is)
-    (inr (subst (λ (r : RecordValue). copies t.records r ≡ 0) c.in_ok-before-in-Replace.ensures.ok none))
+    (inr none)
 
 pub returns-in_err-stage-in-Replace-clause-why : goal.returns-in_err-stage-in-Replace-clause-why
 returns-in_err-stage-in-Replace-clause-why g c =
     let t = c.args.track.now in
     let p = err_from_is_err_and c.from_residual-in_err-stage-in-Replace.result c.from_residual-in_err-stage-in-Replace.ensures.1 in
-    let there : 0 < copies t.records c.in_ok-before-in-Replace.before = omega (arith, c.copies.ensures.value, c.if-copies-eq0.false) in
+    let there : 0 < copies t.records c.in-Replace.old = omega (arith, c.copies.ensures.value, c.if-copies-eq0.false) in
     subst (λ (e : Edit). IfErr c.from_residual-in_err-stage-in-Replace.result (RefusesEdit e t)) (sym c.in-Replace.is)
-    (rw (p.1, p.2) (inr (
-      subst (λ (r : RecordValue). 0 < copies t.records r) c.in_ok-before-in-Replace.ensures.ok there,
-      subst (λ (r : RecordValue). copies t.records r ≡ 0) c.in_ok-after-in-Replace.ensures.ok c.in_err-stage-in-Replace.ensures.memory,
-    )))
+    (rw (p.1, p.2) (inr (there, c.in_err-stage-in-Replace.ensures.memory)))
 
 pub repair-requires-in-Replace-clause-fit : goal.repair-requires-in-Replace-clause-fit
 repair-requires-in-Replace-clause-fit g c =
     let t = c.args.track.now in
     let fits : Fits c.args.genome.now t.width c.in-Replace.old × Fits c.args.genome.now t.width c.in-Replace.new = subst (λ (e : Edit). EditFits (Fits c.args.genome.now t.width) e) c.in-Replace.is c.requires.fits in
     let is : Changed Added c.args.genome.now t c.stage.new.self c.in-Replace.new =
-    changed-added c.args.genome.now t c.stage.new.self _ c.in-Replace.new c.in_ok-after-in-Replace.ensures.ok c.requires.on.fit fits.1 c.in_ok-stage-in-Replace.ensures.ok in
+    changed-added c.args.genome.now t c.stage.new.self c.in-Replace.new c.requires.on.fit fits.1 c.in_ok-stage-in-Replace.ensures.ok in
     is.fit
 
 pub unreachable-requires : goal.unreachable-requires
 unreachable-requires g c =
     let t = c.args.track.now in
-    let before = c.in_ok-before-in-Replace.before in
+    let before = c.in-Replace.old in
     let there : 0 < copies t.records before = omega (arith, c.copies.ensures.value, c.if-copies-eq0.false) in
-    omega (arith, staged-there t c.stage.new.self before c.in_ok-after-in-Replace.after there c.in_ok-stage-in-Replace.ensures.ok, refused-absent c.stage.new.self before _ c.in_default.ensures.why)
+    omega (arith, staged-there t c.stage.new.self before c.in-Replace.new there c.in_ok-stage-in-Replace.ensures.ok, refused-absent c.stage.new.self before _ c.in_default.ensures.why)
 
 pub repair-requires-in-Replace-2 : goal.repair-requires-in-Replace-2
 repair-requires-in-Replace-2 g c =
@@ -110,24 +105,21 @@ repair-requires-in-Replace-2 g c =
     let genome = c.args.genome.now in
     let fits : Fits genome t.width c.in-Replace.old × Fits genome t.width c.in-Replace.new = subst (λ (e : Edit). EditFits (Fits genome t.width) e) c.in-Replace.is c.requires.fits in
     let staged = c.in_ok-stage-in-Replace.ensures.ok in
-    let one : Changed Added genome t c.stage.new.self c.in-Replace.new = changed-added genome t c.stage.new.self _ c.in-Replace.new c.in_ok-after-in-Replace.ensures.ok c.requires.on.fit fits.1 staged in
+    let one : Changed Added genome t c.stage.new.self c.in-Replace.new = changed-added genome t c.stage.new.self c.in-Replace.new c.requires.on.fit fits.1 staged in
     let two : Changed Removed genome c.stage.new.self c.remove-in-Replace.new.self c.in-Replace.old =
-    changed-removed genome c.stage.new.self c.remove-in-Replace.new.self _ c.in-Replace.old c.in_ok-before-in-Replace.ensures.ok one.fit
+    changed-removed genome c.stage.new.self c.remove-in-Replace.new.self c.in-Replace.old one.fit
     (subst (λ (u : Tracked). Fits genome u.width c.in-Replace.old) (sym staged) fits.0) c.in-Ok.ensures.was_ordered c.in-Ok.ensures.there c.in-Ok.ensures.ok in
     record { right = record { before = c.stage.new.self.records; right = c.repair-in-Replace.ensures.right; changed = two.changed }; fit = two.fit; fits = two.fits }
 
 pub returns-in-Ok-clause-ok : goal.returns-in-Ok-clause-ok
 returns-in-Ok-clause-ok g c =
     let t = c.args.track.now in
-    let before = c.in_ok-before-in-Replace in
-    let after = c.in_ok-after-in-Replace in
     let views = all_seen c.repair-in-Replace-2.new.self in
-    let there : 0 < copies t.records before.before = omega (arith, c.copies.ensures.value, c.if-copies-eq0.false) in
+    let there : 0 < copies t.records c.in-Replace.old = omega (arith, c.copies.ensures.value, c.if-copies-eq0.false) in
     subst (λ (e : Edit). IsEdited target.First e (over t (all_seen c.args.views.now)) (over c.remove-in-Replace.new.self views)) (sym c.in-Replace.is) (
-      subst (λ (r : RecordValue). 0 < copies t.records r) before.ensures.ok there,
+      there,
       ap (λ (u : Tracked). over u views)
-          (replaced-is t c.stage.new.self c.remove-in-Replace.new.self before.before c.in-Replace.old after.after c.in-Replace.new before.ensures.ok after.ensures.ok c.copies.ensures.ordered there
-          c.in_ok-stage-in-Replace.ensures.ok c.in-Ok.ensures.ok),
+          (replaced-is t c.stage.new.self c.remove-in-Replace.new.self c.in-Replace.old c.in-Replace.new c.copies.ensures.ordered there c.in_ok-stage-in-Replace.ensures.ok c.in-Ok.ensures.ok),
       stales-trans _ _ _ c.repair-in-Replace.ensures.stales c.repair-in-Replace-2.ensures.stales,
     )
 
@@ -140,9 +132,9 @@ returns-in-Ok-clause-steps g c =
     let views = all_seen c.args.views.now in
     let fits : Fits genome t.width r × Fits genome t.width q = subst (λ (e : Edit). EditFits (Fits genome t.width) e) c.in-Replace.is c.requires.fits in
     let staged = c.in_ok-stage-in-Replace.ensures.ok in
-    let one : Changed Added genome t c.stage.new.self q = changed-added genome t c.stage.new.self _ q c.in_ok-after-in-Replace.ensures.ok c.requires.on.fit fits.1 staged in
+    let one : Changed Added genome t c.stage.new.self q = changed-added genome t c.stage.new.self q c.requires.on.fit fits.1 staged in
     let two : Changed Removed genome c.stage.new.self c.remove-in-Replace.new.self r =
-    changed-removed genome c.stage.new.self c.remove-in-Replace.new.self _ r c.in_ok-before-in-Replace.ensures.ok one.fit
+    changed-removed genome c.stage.new.self c.remove-in-Replace.new.self r one.fit
     (subst (λ (u : Tracked). Fits genome u.width r) (sym staged) fits.0) c.in-Ok.ensures.was_ordered c.in-Ok.ensures.there c.in-Ok.ensures.ok in
     let with_r = added c.remove-in-Replace.new.self.records r in
     let first : all_steps views c.stage.new.self.records q ≡ all_steps views (added t.records q) q = ap (λ (l : List RecordValue). all_steps views l q) one.changed in

@@ -1,6 +1,0 @@
-use Rattle.std.proofs.Common.{◌≡◌, map, take}
-use Rattle.iv_locators.specs.Inside.Places.{place_of}
-use Rattle.iv_locators.proofs.order.with_prefix_keys.Given as goal
-
-abbrev pub invariant-loop-place : goal.invariant-loop-place
-invariant-loop-place g l = map place_of l.keyed.items ≡ take l.place-index l.places

@@ -1,0 +1,9 @@
+pub mod RestLemmas
+pub mod PlaceLemmas
+pub mod OrderLemmas
+pub mod SortedLemmas
+pub mod BareLemmas
+pub mod DedupLemmas
+pub mod JoinLemmas
+pub mod SequenceLemmas
+pub mod RankLemmas

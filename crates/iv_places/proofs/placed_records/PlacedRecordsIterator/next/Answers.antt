@@ -1,0 +1,10 @@
+use Rattle.std.proofs.Common.{List, subst, All}
+use Rattle.std.proofs.lemmas.List.Elements.{All-tail}
+use Rattle.iv_places.specs.declared.place.Place.{Place}
+use Rattle.iv_places.specs.Inside.Places.{IsPlace}
+use Rattle.iv_places.proofs.placed_records.PlacedRecordsIterator.next.Goals as goal
+
+pub invariant_of-self : goal.invariant_of-self
+invariant_of-self c =
+    let is = IsPlace c.self.inside.width c.self.inside.rests.now in
+    All-tail is c.in_ok-place.place.now c.in_ok-place.others.now (subst (λ (ps : List Place). All is ps) c.in_ok-place.ensures.cases.0 c.self.invariant)

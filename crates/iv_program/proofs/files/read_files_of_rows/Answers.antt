@@ -1,0 +1,21 @@
+use Rattle.iv_lines.proofs.PieceLemmas.{handed-on}
+use Rattle.iv_args.specs.declared.plan.Slot.TheVariants.{Bases}
+use Rattle.iv_program.proofs.RunLemmas.{all-read, all-texts, has-texts, plan-texts, stops-at}
+use Rattle.iv_program.proofs.files.read_files_of_rows.Goals as goal
+
+pub returns-in_err-fasta-clause-err : goal.returns-in_err-fasta-clause-err
+returns-in_err-fasta-clause-err g c =
+    let why = c.in_err-fasta.ensures.err in
+    handed-on c.from_residual-in_err-fasta.result _ _ c.from_residual-in_err-fasta.ensures.1
+    (stops-at c.args.plan.now Bases why.1.0 (g.F.InputFiles.state c.read_fasta.new.files) _ _ why.0 why.1.1 c.in_ok-run_genome.ensures.ok.read why.1.2)
+
+pub returns-clause-ok : goal.returns-clause-ok
+returns-clause-ok g c =
+    let fasta = c.in_ok-fasta.ensures.ok in
+    (plan-texts (λ r. r) c.args.plan.now c.in_ok-run_genome.ensures.ok fasta.3, fasta.0, all-texts (λ r. r) c.args.plan.now c.in_ok-run_genome.ensures.ok fasta.3, has-texts (λ r. r) c.args.plan.now c.in_ok-run_genome.ensures.ok fasta.3 fasta.0 _ fasta.4, fasta.2)
+
+pub returns-clause-after : goal.returns-clause-after
+returns-clause-after g c = all-read (λ r. r) c.args.plan.now c.in_ok-run_genome.ensures.ok c.in_ok-fasta.ensures.ok.3
+
+pub invariant_of-result : goal.invariant_of-result
+invariant_of-result g c = c.in_ok-run_genome.ensures.is_on
