@@ -1,5 +1,5 @@
 -- The session that files begin.
-use Rattle.std.proofs.Common.{◌≡◌, ◌≤◌, ℕ, List, length, IfSome, Option, None, Some, Result, Ok, Err, sym, ap, ◌∙◌, ◌⊎◌, inl, inr, IfOk, IfErr}
+use Rattle.std.proofs.Common.{◌≡◌, ◌≤◌, ℕ, List, length, IfSome, Option, None, Some, Result, Ok, Err, sym, ap, ◌∙◌, ◌⊎◌, inl, inr}
 use Rattle.std.specs.Prelude.{All}
 use Rattle.iv_lines.specs.Genome.{Sequences}
 use Rattle.iv_text.specs.BedFile.{Bed}
@@ -9,9 +9,8 @@ use Rattle.iv_text.proofs.BedReadingLemmas.{fit-all}
 use Rattle.iv_workspace.specs.States.{State, begun}
 use Rattle.iv_run.specs.declared.fault.CliFault.{CliFault}
 use Rattle.iv_run.specs.declared.fault.CliFault.TheVariants.{Memory}
-use Rattle.iv_run.specs.Loading.{IsReport, Parsed, parsed}
-use Rattle.iv_run.specs.RunFiles.{AreProjected}
-use Rattle.iv_run.specs.Inside.RunFiles.{Reports}
+use Rattle.iv_run.specs.Loading.{Parsed, parsed}
+use Rattle.iv_run.specs.RunFiles.{AreProjected, Reports}
 use Rattle.iv_run.proofs.WantedLemmas.{all-wide, held-whole}
 use Rattle.iv_cli.specs.Loading.{loaded}
 
@@ -30,28 +29,17 @@ few-beside g limit (Some file) kept = kept.few
 
 -- ---- the session that files begin
 
--- what is reported, and why it is a fault
-pub report-ok : {T : Type 0} (r said : Result T CliFault) → IsReport r said → IfOk r (λ value. said ≡ Ok value)
-report-ok (Ok value) said is = is
-report-ok (Err k) said is = tt
-
-pub report-err : {T : Type 0} (r said : Result T CliFault) → IsReport r said → IfErr r (λ k. (k ≡ Memory) ⊎ (said ≡ Err k))
-report-err (Ok value) said is = tt
-report-err (Err k) said is = is
-
 module _ (width : ℕ) (sizes text : List ℕ) (other bases : Option (List ℕ)) (limit : ℕ) where
   -- the session that they begin
   abbrev begins_at : Parsed → Result State CliFault
   begins_at files = Ok (begun files.genome files.first files.second files.bases files.limit)
 
   -- the files are sound, and all of their records is held
-  pub begins : (files : Parsed) (r : Result State CliFault) → Reports (λ r. r) None (Ok files) (parsed width sizes text other bases limit)
-      → IfOk r (λ s. s ≡ begun files.genome files.first files.second files.bases files.limit) → IfErr r (λ k. k ≡ Memory) → IsReport r (loaded width sizes text other bases limit)
-  begins files (Ok s) all ok err =
-      ap (λ (read : Result Parsed CliFault). if_ok read begins_at) (all.1 ∙ ap Ok (sym (all.2 ∙ held-whole all.0))) ∙ ap Ok (sym ok)
-  begins files (Err k) all ok err = inl err
+  pub begins : (files : Parsed) (s : State) → Reports (λ r. r) None (Ok files) (parsed width sizes text other bases limit)
+      → s ≡ begun files.genome files.first files.second files.bases files.limit → loaded width sizes text other bases limit ≡ Ok s
+  begins files s all is = ap (λ (read : Result Parsed CliFault). if_ok read begins_at) (all.1 ∙ ap Ok (sym (all.2 ∙ held-whole all.0))) ∙ ap Ok (sym is)
 
   -- a file is damaged
-  pub begins-not : (k : CliFault) → Reports (λ r. r) None (Err k) (parsed width sizes text other bases limit) → IsReport {T = State} (Err k) (loaded width sizes text other bases limit)
+  pub begins-not : (k : CliFault) → Reports (λ r. r) None (Err k) (parsed width sizes text other bases limit) → (k ≡ Memory) ⊎ (loaded width sizes text other bases limit ≡ Err k)
   begins-not k (inl memory) = inl memory
   begins-not k (inr is) = inr (ap (λ (read : Result Parsed CliFault). if_ok read begins_at) is)

@@ -1,15 +1,13 @@
 //! The session that the files of a run begin.
-ghost use Rattle.std.specs.Prelude.{◌≡◌, ◌≤◌, ◌⊎◌, All, List, ℕ, Option, None, Ok, Err, IfOk, IfErr, IfSome};
+ghost use Rattle.std.specs.Prelude.{◌≡◌, ◌≤◌, ◌⊎◌, All, Ok, Err, IfOk, IfErr, IfSome};
 ghost use Rattle.std.specs.Option.{option_copied, option_map};
 ghost use Rattle.iv_track.specs.Tracked.{most_records};
 ghost use Rattle.iv_workspace.specs.States.{begun};
-ghost use Rattle.iv_run.specs.Loading.{IsReport};
-ghost use Rattle.iv_run.specs.RunFiles.{AreOf};
 ghost use Rattle.iv_cli.specs.Loading.{loaded};
 
 use iv_args::Plan;
 use iv_places::Places;
-use iv_run::{CliFault, Inputs, ParsedFile, RunFiles, SoundFiles, sound_files};
+use iv_run::{CliFault, Inputs, ParsedFile, RunFiles};
 use iv_workspace::Session;
 use std::alloc::Allocator;
 
@@ -24,17 +22,19 @@ fn into_places<A: Allocator + Copy>(file: Option<ParsedFile<Places<A>, A>>) -> O
     }
 }
 
-/// The session that files begin, with no view open.
+/// The session that the files of a run begin, with no view open.
 ///
 /// # Errors
 ///
 /// An allocation failed.
-fn session_of<A: Allocator + Copy>(files: SoundFiles<Places<A>, A>) -> Result<Session<A>, CliFault>
+pub fn begin_session<A: Allocator + Copy>(
+    files: RunFiles<Places<A>, A>,
+) -> Result<Session<A>, CliFault>
     requires { files.limit ≤ most_records }
     ensures ok { IfOk result (λ session. session ≡ begun files.genome files.first files.second files.bases files.limit) }
     ensures err { IfErr result (λ fault. fault ≡ CliFault.Memory) }
 {
-    let SoundFiles {
+    let RunFiles {
         alloc,
         genome,
         first,
@@ -44,23 +44,6 @@ fn session_of<A: Allocator + Copy>(files: SoundFiles<Places<A>, A>) -> Result<Se
     } = files;
     let first = first.into_places();
     Ok(Session::from_places(alloc, genome, first, into_places(second), fasta, limit)?)
-}
-
-/// The session that the files of a run begin, with no view open, or the fault of the first damaged file.
-pub fn begin_session<A: Allocator + Copy>(
-    files: RunFiles<Places<A>, A>,
-) -> Result<Session<A>, CliFault>
-    requires { files.run_genome.limit ≤ most_records }
-    ensures { (sizes first : List ℕ) (second fasta_text : Option (List ℕ)) → AreOf (λ r. r) None sizes first second fasta_text files
-        → IsReport result (loaded files.run_genome.width sizes first second fasta_text files.run_genome.limit) }
-{
-    let RunFiles {
-        run_genome,
-        first,
-        second,
-        fasta,
-    } = files;
-    session_of(sound_files(run_genome, first, second, fasta)?)
 }
 
 /// The session that the files of a run begin, with no view open, or the fault of the first damaged file, given the bytes of the files.
@@ -81,6 +64,5 @@ pub fn load<A: Allocator + Copy>(
     ensures err { IfErr result (λ fault. (fault ≡ CliFault.Memory) ⊎
         (loaded plan.now.width inputs.now.sizes.now inputs.now.first.now (option_copied inputs.now.other) (option_map (λ text. text.items) bases) limit ≡ Err fault)) }
 {
-    let files: RunFiles<Places<A>, A> = RunFiles::of_inputs(alloc, plan, inputs, bases, limit);
-    begin_session(files)
+    begin_session(RunFiles::of_inputs(alloc, plan, inputs, bases, limit)?)
 }

@@ -10,6 +10,6 @@ pub use iv_args::{Notice, Plan, Slot, Subcommand};
 pub use iv_lines::Fault;
 pub use iv_run::{
     CliFault, ExitReason, FileFault, HeldFasta, HeldRecords, Inputs, RunFiles, RunGenome, read_all,
-    shot, status,
+    shot, sound_files, status,
 };
 pub use script_endings::{ending_of_run, run_status};

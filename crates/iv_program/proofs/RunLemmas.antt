@@ -23,13 +23,12 @@ use Rattle.iv_args.specs.declared.subcommand.Subcommand.{Subcommand}
 use Rattle.iv_args.specs.declared.subcommand.Subcommand.TheVariants as kind
 use Rattle.iv_args.specs.declared.plan.Slot.{Slot}
 use Rattle.iv_args.specs.declared.plan.Slot.TheVariants.{First, Other, Bases}
-use Rattle.iv_run.specs.Loading.{IsReport}
-use Rattle.iv_cli.specs.Loading.{loaded}
+use Rattle.iv_run.specs.Loading.{Parsed, parsed}
 use Rattle.iv_lines.specs.RecordValue.{RecordValue}
 use Rattle.iv_lines.specs.declared.fault.LoadFault.{LoadFault}
 use Rattle.iv_fasta.specs.Fasta.{Bases as FoundBases}
 use Rattle.iv_fasta.specs.FastaReading.{Wanted}
-use Rattle.iv_run.specs.RunFiles.{AreOf, FilesRead, IsFasta, IsIfNamed}
+use Rattle.iv_run.specs.RunFiles.{AreOf, FilesRead, IsFasta, IsIfNamed, Reports}
 use Rattle.iv_run.specs.declared.fault.CliFault.{CliFault}
 use Rattle.iv_run.specs.declared.fault.FileFault.{FileFault}
 use Rattle.iv_run.specs.declared.fault.FileFault.TheVariants as file
@@ -143,21 +142,17 @@ module _ (projected : RecordValue → RecordValue) (plan : RunPlan) {f0 f1 f2 : 
     bases = named-back (names_before plan Bases) f0 f1 plan.bases bases beds.read.after read_bases.is_text;
   }
 
-  pub has-texts : (wanted : Wanted) (fasta : Option (Result FoundBases LoadFault)) → IsIfNamed (IsFasta wanted files.run_genome.genome) bases fasta
-      → HasTexts projected wanted plan plan-texts (record files { fasta = fasta })
-  has-texts wanted fasta named = record { width_is = beds.width_is; limit_is = beds.limit_is; are = (beds.are.0, beds.are.1, beds.are.2, named) }
+  -- what is reported of them is so for the texts
+  pub has-texts : (wanted : Wanted) (fasta : Option (Result FoundBases LoadFault)) (said : Result Parsed CliFault) → IsIfNamed (IsFasta wanted files.run_genome.genome) bases fasta
+      → ((w : Wanted) (sizes first : List ℕ) (other found : Option (List ℕ)) → AreOf projected w sizes first other found (record files { fasta = fasta })
+      → Reports projected w said (parsed files.run_genome.width sizes first other found files.run_genome.limit))
+      → HasTexts projected wanted plan plan-texts said
+  has-texts wanted fasta said named says =
+      subst (λ (n : ℕ). Reports projected wanted said (parsed plan.width beds.sizes beds.first beds.other bases n)) beds.limit_is
+      (subst (λ (w : ℕ). Reports projected wanted said (parsed w beds.sizes beds.first beds.other bases files.run_genome.limit)) beds.width_is
+      (says wanted beds.sizes beds.first beds.other bases (beds.are.0, beds.are.1, beds.are.2, named)))
 
 -- ---- scripts
-
--- the session that the files of a plan begin, once they are read
-pub report-of : (plan : RunPlan) (texts : Texts) (files : FilesRead) (r : Result State CliFault) → HasTexts (λ r. r) None plan texts files
-    → ((sizes first : List ℕ) (second fasta_text : Option (List ℕ)) → AreOf (λ r. r) None sizes first second fasta_text files
-    → IsReport r (loaded files.run_genome.width sizes first second fasta_text files.run_genome.limit))
-    → IsReport r (loaded plan.width texts.sizes texts.first texts.other texts.bases plan.limit)
-report-of plan texts files r has report =
-    subst (λ (n : ℕ). IsReport r (loaded plan.width texts.sizes texts.first texts.other texts.bases n)) has.limit_is
-    (subst (λ (w : ℕ). IsReport r (loaded w texts.sizes texts.first texts.other texts.bases files.run_genome.limit)) has.width_is
-    (report texts.sizes texts.first texts.other texts.bases has.are))
 
 pub ran-of : (old new : State) (before after : Streams) (lines most : ℕ) (r : Result Summary RunFault)
     → IfOk r (λ summary. Done old new before after lines most summary.lines summary.refused)

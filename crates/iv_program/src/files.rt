@@ -2,7 +2,7 @@
 ghost use Rattle.std.specs.Prelude.{◌≡◌, List, ℕ, Option, None, Some, IfOk, IfErr, OnOk, OnErr, true, IfSome};
 ghost use Rattle.std.specs.Option.{option_copied};
 ghost use Rattle.iv_fasta.specs.FastaReading.{Wanted};
-ghost use Rattle.iv_run.specs.RunFiles.{AreAskedFor, AreWantedOf, IsFasta, IsIfNamed, IsOn, IsParsed};
+ghost use Rattle.iv_run.specs.RunFiles.{AreAskedFor, AreWanted, IsFasta, IsIfNamed, IsOn, IsParsed};
 ghost use Rattle.iv_program.specs.Files.{FilesState, opened, after_opening, after_closing, after_one, after_reading};
 ghost use Rattle.iv_program.specs.Inside.Files.{ReadsNamed, StopsAt, StopsFile, names_of};
 ghost use Rattle.iv_program.specs.Inside.Runs.{HasBeds, HasTexts};
@@ -12,7 +12,9 @@ use iv_args::{Plan, Slot};
 use iv_bytes::{ReadFault, Source};
 use iv_lines::HoldsRecords;
 use iv_places::Places;
-use iv_run::{FileFault, HeldFasta, HeldRecords, RunFiles, RunGenome, read_all};
+use iv_run::{
+    CliFault, FileFault, HeldFasta, HeldRecords, RunFiles, RunGenome, read_all, sound_files,
+};
 use std::alloc::Allocator;
 
 /// How many bytes a file may have.
@@ -156,42 +158,34 @@ fn read_beds<H: HoldsRecords<A>, A: Allocator + Copy, F: InputFiles>(
     Ok((run_genome, first, second))
 }
 
-/// Reads all files of a plan, in the order of their slots, with all bases of the FASTA file.
+/// Reads all files of a plan, in the order of their slots, with all bases of the FASTA file. Then it checks that none is damaged.
 pub(crate) fn read_files<H: HoldsRecords<A>, A: Allocator + Copy, F: InputFiles>(
     alloc: A,
     files: &mut F,
     plan: &Plan<'_, A>,
-) -> Result<RunFiles<H, A>, SlotFault>
+) -> Result<Result<RunFiles<H, A>, CliFault>, SlotFault>
     ensures ok { IfOk result (λ read. (texts : Texts) × AreTexts (F.state files.old) plan.now texts × HasTexts H.projected None plan.now texts read) }
+    ensures limit { IfOk result (λ read. IfOk read (λ f. f.limit ≡ plan.now.limit)) }
     ensures after { OnOk result (F.state files.new ≡ after_reading (names_of plan.now) (F.state files.old)) }
     ensures err { IfErr result (λ why. StopsAt plan.now (F.state files.old) (F.state files.new) why.0 why.1) }
 {
     let (run_genome, first, second) = read_beds(alloc, files, plan)?;
     let fasta = read_fasta(files, plan, &run_genome, None)?;
-    Ok(RunFiles {
-        run_genome,
-        first,
-        second,
-        fasta,
-    })
+    Ok(sound_files(run_genome, first, second, fasta))
 }
 
 /// Reads all files of a plan, in the order of their slots, with the bases of those sequences that a record of the first file is on.
+/// Then it checks that none is damaged.
 pub(crate) fn read_files_of_rows<A: Allocator + Copy, F: InputFiles>(
     alloc: A,
     files: &mut F,
     plan: &Plan<'_, A>,
-) -> Result<RunFiles<Places<A>, A>, SlotFault>
-    ensures ok { IfOk result (λ read. (texts : Texts) × (wanted : Wanted) × AreTexts (F.state files.old) plan.now texts × HasTexts (λ r. r) wanted plan.now texts read × AreWantedOf wanted read.first) }
+) -> Result<Result<RunFiles<Places<A>, A>, CliFault>, SlotFault>
+    ensures ok { IfOk result (λ read. (texts : Texts) × (wanted : Wanted) × AreTexts (F.state files.old) plan.now texts × HasTexts (λ r. r) wanted plan.now texts read × IfOk read (λ f. AreWanted wanted f.first.records)) }
     ensures after { OnOk result (F.state files.new ≡ after_reading (names_of plan.now) (F.state files.old)) }
     ensures err { IfErr result (λ why. StopsAt plan.now (F.state files.old) (F.state files.new) why.0 why.1) }
 {
     let (run_genome, first, second) = read_beds(alloc, files, plan)?;
     let fasta = read_fasta(files, plan, &run_genome, Some(&first))?;
-    Ok(RunFiles {
-        run_genome,
-        first,
-        second,
-        fasta,
-    })
+    Ok(sound_files(run_genome, first, second, fasta))
 }

@@ -16,7 +16,7 @@ ghost use Rattle.iv_program.specs.Program.{Runs, world};
 ghost use Rattle.iv_program.specs.Runs.{World};
 ghost use Rattle.iv_program.specs.Inside.Files.{StopsAt, names_of};
 ghost use Rattle.iv_fasta.specs.FastaReading.{Wanted};
-ghost use Rattle.iv_run.specs.RunFiles.{AreWantedOf};
+ghost use Rattle.iv_run.specs.RunFiles.{AreWanted};
 ghost use Rattle.iv_program.specs.Inside.Runs.{EndsRun, HasTexts, PrintsView, ReadsAll, StopsPlan};
 ghost use Rattle.iv_program.specs.Texts.{Texts, AreTexts};
 ghost use Rattle.iv_program.specs.declared.program.Ended.{Ended};
@@ -79,29 +79,35 @@ fn ending_of(done: Result<(), CliFault>) -> ExitReason
     }
 }
 
-/// Prints a view whose rows depend on nothing of a record except its interval, of the files that were read.
+/// Prints a view whose rows depend on nothing of a record except its interval, of the files that were read, unless one is damaged.
 fn shot_of_intervals<A: Allocator + Copy, W: Sink>(
     view: IntervalsView,
-    files: RunFiles<Vec<Interval, A>, A>,
+    files: Result<RunFiles<Vec<Interval, A>, A>, CliFault>,
     output: &mut W,
 ) -> ExitReason
     ensures { (plan : RunPlan) (texts : Texts) → AskForIntervals plan.view view → HasTexts bare None plan texts files
         → PrintsView plan texts (W.state output.old) (W.state output.new) result }
 {
-    ending_of(files.print(view, output))
+    match files {
+        Ok(files) => ending_of(files.print(view, output)),
+        Err(fault) => ExitReason::from(fault),
+    }
 }
 
-/// Prints a view that needs the columns of records, of the files that were read.
+/// Prints a view that needs the columns of records, of the files that were read, unless one is damaged.
 fn shot_of_columns<A: Allocator + Copy, W: Sink>(
     alloc: A,
     plan: &Plan<'_, A>,
-    files: RunFiles<Places<A>, A>,
+    files: Result<RunFiles<Places<A>, A>, CliFault>,
     output: &mut W,
 ) -> ExitReason
     requires { AskForColumns plan.now.view }
-    ensures { (texts : Texts) (wanted : Wanted) → HasTexts (λ r. r) wanted plan.now texts files → AreWantedOf wanted files.first → PrintsView plan.now texts (W.state output.old) (W.state output.new) result }
+    ensures { (texts : Texts) (wanted : Wanted) → HasTexts (λ r. r) wanted plan.now texts files → IfOk files (λ f. AreWanted wanted f.first.records) → PrintsView plan.now texts (W.state output.old) (W.state output.new) result }
 {
-    ending_of(shot_of_held(alloc, plan, files, output))
+    match files {
+        Ok(files) => ending_of(shot_of_held(alloc, plan, files, output)),
+        Err(fault) => ExitReason::from(fault),
+    }
 }
 
 /// Prints the view of a plan.

@@ -13,7 +13,7 @@ use iv_args::Plan;
 use iv_bytes::{Sink, Source};
 use iv_cli::{begin_session, ending_of_run};
 use iv_places::Places;
-use iv_run::{ExitReason, RunFiles};
+use iv_run::{CliFault, ExitReason, RunFiles};
 use iv_session::{RunFault, ScriptLimits, SeesRefusals, Summary, run_script};
 use std::alloc::Allocator;
 use std::mem;
@@ -31,23 +31,28 @@ fn line_of_stop(done: &Result<Summary, RunFault>) -> u64
     }
 }
 
-/// Runs the script on the input, which may have at most `limit` lines, over the session that the files of a plan begin.
+/// Runs the script on the input, which may have at most `limit` lines, over the session that the files of a plan begin, unless one is
+/// damaged.
 fn run_over<A: Allocator + Copy, R: Source, W: Sink, E: Sink, O: SeesRefusals>(
     alloc: A,
-    files: RunFiles<Places<A>, A>,
+    files: Result<RunFiles<Places<A>, A>, CliFault>,
     limit: u32,
     input: &mut R,
     output: &mut W,
     messages: &mut E,
     observer: &mut O,
 ) -> Ended
-    requires same { files.run_genome.limit ≡ limit }
+    requires same { IfOk files (λ f. f.limit ≡ limit) }
     requires few { limit ≤ most_limit }
-    ensures { (plan : RunPlan) (texts : Texts) → HasTexts (λ r. r) None plan texts files
+    ensures { (plan : RunPlan) (texts : Texts) → limit ≡ plan.limit → HasTexts (λ r. r) None plan texts files
         → RunsScript plan texts
         (streams (R.state input.old) (W.state output.old) (E.state messages.old))
         (streams (R.state input.new) (W.state output.new) (E.state messages.new)) result.exit_reason result.line }
 {
+    let files = match files {
+        Ok(files) => files,
+        Err(fault) => return Ended::at_no_line(ExitReason::from(fault)),
+    };
     let mut session = match begin_session(files) {
         Ok(session) => session,
         Err(fault) => return Ended::at_no_line(ExitReason::from(fault)),

@@ -30,7 +30,7 @@ use Rattle.iv_run.specs.IntervalsViews.{AskForIntervals, IsViewOf}
 use Rattle.iv_run.specs.Inside.IntervalsViews.{AskForColumns, NeedsColumns}
 use Rattle.iv_run.specs.Inside.Prints.{Prints}
 use Rattle.iv_run.specs.Shots.{Shows, shown}
-use Rattle.iv_run.specs.Inside.RunFiles.{Reports}
+use Rattle.iv_run.specs.RunFiles.{Reports}
 use Rattle.iv_run.specs.declared.fault.CliFault.{CliFault}
 use Rattle.iv_run.specs.declared.intervals_view.IntervalsView.{IntervalsView}
 use Rattle.iv_run.specs.declared.intervals_view.IntervalsView.TheVariants as places

@@ -13,7 +13,7 @@ use Rattle.iv_args.specs.declared.plan.Slot.TheVariants.{Sizes, First, Other, Ba
 use Rattle.iv_fasta.specs.Fasta as Fasta
 use Rattle.iv_lines.specs.Chains.{if_ok, map_fault}
 use Rattle.iv_run.specs.Inside.Shots.{bases_said, second_of}
-use Rattle.iv_run.specs.Loading.{IsAnswer, IsReport, Parsed, parsed, fault_of, damage_of}
+use Rattle.iv_run.specs.Loading.{IsAnswer, Parsed, parsed, fault_of, damage_of}
 use Rattle.iv_text.specs.BedReading.{projected_bed, projected_or_fault}
 use Rattle.iv_lines.specs.RecordValue.{RecordValue}
 use Rattle.iv_run.specs.RunFiles.{GenomeRead, IsGenomeOf, IsGenomeBy}
@@ -73,12 +73,16 @@ module _ (width : ℕ) (sizes text : List ℕ) (limit : ℕ) (g : Sequences) (ge
 abbrev pub IsDamage : {T : Type 0} → Slot → Result T LoadFault → CliFault → Type 0
 IsDamage slot said k = (why : LoadFault) × (said ≡ Err why) × (k ≡ damage_of slot why)
 
+-- this is reported of all files: the fault of the first damaged one, or out of memory
+abbrev pub IsReported : CliFault → Result Parsed CliFault → Type 0
+IsReported k all = (k ≡ Memory) ⊎ (all ≡ Err k)
+
 -- it is the report of all files, if those before it are sound
 pub reports : {T : Type 0} (slot : Slot) (answer said : Result T LoadFault) (rest : T → Result Parsed CliFault) (all : Result Parsed CliFault) (k : CliFault)
-    → all ≡ if_ok (map_fault (Damaged slot) said) rest → IsAnswer answer said → IsDamage slot answer k → IsReport (Err k) all
+    → all ≡ if_ok (map_fault (Damaged slot) said) rest → IsAnswer answer said → IsDamage slot answer k → IsReported k all
 reports {T} slot answer said rest all k all_is is damage =
     let why : IsWhy damage.0 said = rw damage.1 at is in
-    subst (λ (j : CliFault). IsReport (Err j) all) (sym damage.2)
+    subst (λ (j : CliFault). IsReported j all) (sym damage.2)
     (reported-by slot damage.0 (λ j. all ≡ Err j) (λ e. all_is ∙ ap (λ (r : Result T LoadFault). if_ok (map_fault (Damaged slot) r) rest) e) why)
 
 -- ---- files of which the records are held

@@ -12,12 +12,11 @@ use Rattle.iv_fasta.specs.Fasta.{Bases}
 use Rattle.iv_fasta.specs.FastaReading.{Wanted}
 use Rattle.iv_args.specs.declared.plan.Slot.TheVariants as slot
 use Rattle.iv_run.specs.Inside.Shots.{bases_said, second_of}
-use Rattle.iv_run.specs.Loading.{IsAnswer, IsReport, Parsed, parsed}
-use Rattle.iv_run.specs.RunFiles.{AreOf, FilesRead, GenomeRead, IsGenomeBy, IsGenomeOf, IsIfNamed, IsParsed}
-use Rattle.iv_run.specs.Inside.RunFiles.{Reports}
+use Rattle.iv_run.specs.Loading.{IsAnswer, Parsed, parsed}
+use Rattle.iv_run.specs.RunFiles.{AreOf, FilesRead, GenomeRead, IsGenomeBy, IsGenomeOf, IsIfNamed, IsParsed, Reports}
 use Rattle.iv_run.specs.declared.fault.CliFault.{CliFault}
 use Rattle.iv_run.specs.declared.fault.CliFault.TheVariants.{Memory}
-use Rattle.iv_run.proofs.LoadLemmas.{IsDamage, IsWhy, kept-sound, kept-why, past-first, past-genome, past-second, reports, with_bases}
+use Rattle.iv_run.proofs.LoadLemmas.{IsDamage, IsReported, IsWhy, kept-sound, kept-why, past-first, past-genome, past-second, reports, with_bases}
 use Rattle.iv_run.proofs.FastaPieceLemmas.{wanted-found, wanted-why}
 
 -- what a call answers
@@ -25,13 +24,13 @@ pub answer-of : {T : Type 0} (r said : Result T LoadFault) → IfOk r (λ value.
 answer-of (Ok value) said ok err = ok
 answer-of (Err f) said ok err = err
 
-either : (k : CliFault) (said : Result Parsed CliFault) (P : Type 0) → (P → said ≡ Err k) → (k ≡ Memory) ⊎ P → IsReport {T = Parsed} (Err k) said
+either : (k : CliFault) (said : Result Parsed CliFault) (P : Type 0) → (P → said ≡ Err k) → (k ≡ Memory) ⊎ P → IsReported k said
 either k said P leads (inl memory) = inl memory
 either k said P leads (inr p) = inr (leads p)
 
 module _ (width : ℕ) (sizes text : List ℕ) (limit : ℕ) (g : Sequences) (genome : genome_of sizes ≡ Ok g) (other bases : Option (List ℕ)) where
   abbrev IsTheFault : CliFault → Type 0
-  IsTheFault k = IsReport {T = Parsed} (Err k) (parsed width sizes text other bases limit)
+  IsTheFault k = IsReported k (parsed width sizes text other bases limit)
 
   -- the first file is damaged
   report-first : (said : Result Bed LoadFault) (k : CliFault) → IsAnswer said (bed_of g width limit text) → IsDamage slot.First said k → IsTheFault k
@@ -57,7 +56,7 @@ module _ (sizes : List ℕ) (known : GenomeRead) (says : IsGenomeOf sizes known)
   sizes-sound : known.damage ≡ None → genome_of sizes ≡ Ok known.genome
   sizes-sound none = subst (IsGenomeBy sizes known) none says
 
-  sizes-fault : (k : CliFault) → known.damage ≡ Some k → (text : List ℕ) (other bases : Option (List ℕ)) → IsReport {T = Parsed} (Err k) (parsed known.width sizes text other bases known.limit)
+  sizes-fault : (k : CliFault) → known.damage ≡ Some k → (text : List ℕ) (other bases : Option (List ℕ)) → IsReported k (parsed known.width sizes text other bases known.limit)
   sizes-fault k is text other bases =
       either k (parsed known.width sizes text other bases known.limit) ((t : List ℕ) (o b : Option (List ℕ)) → parsed known.width sizes t o b known.limit ≡ Err k)
       (λ fault. fault text other bases) (subst (IsGenomeBy sizes known) is says)
@@ -101,7 +100,7 @@ module _ (projected : RecordValue → RecordValue) (wanted : Wanted) (sizes text
   run_genome = files.run_genome
 
   abbrev ReportsFault : CliFault → Type 0
-  ReportsFault k = (k ≡ Memory) ⊎ (parsed run_genome.width sizes text other bases run_genome.limit ≡ Err k)
+  ReportsFault k = IsReported k (parsed run_genome.width sizes text other bases run_genome.limit)
 
   -- the genome file is damaged
   pub finish-sizes : (k : CliFault) → run_genome.damage ≡ Some k → ReportsFault k

@@ -1,5 +1,5 @@
 -- A run for which only the bases of sequences that a record is on are held.
-use Rattle.std.proofs.Common.{◌≡◌, ◌∙◌, ℕ, ◌++◌, ◌||◌, ◌==◌, Bool, true, List, [], ◌∷◌, All, Option, None, Some, Result, Ok, Err, unwrap_or, refl, sym, ap, ap₂, subst, eq-eqb}
+use Rattle.std.proofs.Common.{◌≡◌, ◌∙◌, ℕ, ◌++◌, ◌||◌, ◌==◌, Bool, true, List, [], ◌∷◌, All, Option, None, Some, Result, Ok, Err, IfOk, unwrap_or, refl, sym, ap, ap₂, subst, eq-eqb}
 use Rattle.std.specs.List.{flat_map, list_any}
 use Rattle.std.specs.Option.{is_some, option_map}
 use Rattle.std.proofs.lemmas.List.Elements.{All-nil, All-cons, All-head, All-tail}
@@ -27,11 +27,10 @@ use Rattle.iv_view.specs.declared.view.View.{View}
 use Rattle.iv_view.specs.declared.view.View.TheVariants as view
 use Rattle.iv_view.specs.declared.written_view.WrittenView.{WrittenView}
 use Rattle.iv_view.specs.declared.written_view.WrittenView.TheVariants as written
-use Rattle.iv_run.specs.Inside.RunFiles.{Reports, held_files}
 use Rattle.iv_run.specs.Inside.Prints.{Prints}
 use Rattle.iv_run.specs.Inside.Shots.{ordered_other, text_beside, view_beside}
 use Rattle.iv_run.specs.Loading.{Parsed, fault_of_arguments}
-use Rattle.iv_run.specs.RunFiles.{AreAskedFor, AreProjected, AreWanted, AreWantedOf}
+use Rattle.iv_run.specs.RunFiles.{AreProjected, AreWanted, AreWantedOf, Reports, held_files}
 use Rattle.iv_run.specs.Shots.{Shows}
 use Rattle.iv_run.specs.declared.fault.CliFault.{CliFault}
 use Rattle.iv_run.proofs.ShotLemmas.{shown_of, shows-fault, shows-text}
@@ -44,15 +43,15 @@ all-marked marked (r ∷ records) have =
     (have r.seq (ap (λ (b : Bool). b || list_any (has_rank r.seq) records) (eq-eqb r.seq r.seq refl)))
     (all-marked marked records (λ seq is. have seq (or_right (r.seq == seq) (list_any (has_rank seq) records) is)))
 
--- if all sequences are wanted, so are those of a first file
-pub any-wanted : (first : Result Bed LoadFault) → AreWantedOf None first
-any-wanted (Ok file) = λ k e within. refl
-any-wanted (Err f) = tt
+-- if all sequences are wanted, so is that of each record
+pub any-wanted : (records : List RecordValue) → AreWanted None records
+any-wanted records = λ k e within. refl
 
--- they are those that are asked for, with a first file or without
-pub asked-for-all : (first : Option (Result Bed LoadFault)) → AreAskedFor first None
-asked-for-all None = refl
-asked-for-all (Some first) = any-wanted first
+-- so are those of a first file, if that is the one of sound files
+pub files-wanted : (wanted : Wanted) (first : Result Bed LoadFault) (files : Result Parsed CliFault) → IfOk files (λ f. first ≡ Ok f.first) → AreWantedOf wanted first
+    → IfOk files (λ f. AreWanted wanted f.first.records)
+files-wanted wanted first (Ok f) is are = subst (AreWantedOf wanted) is are
+files-wanted wanted first (Err k) is are = tt
 
 -- ---- rows
 

@@ -5,4 +5,3 @@ pub mod Prints
 pub mod Shots
 pub mod Intervals
 pub mod IntervalsViews
-pub mod RunFiles

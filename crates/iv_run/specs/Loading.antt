@@ -29,11 +29,6 @@ abbrev pub IsAnswer : {T : Type 0} → Result T LoadFault → Result T LoadFault
 IsAnswer (Ok value) said = said ≡ Ok value
 IsAnswer (Err f) said = (f ≡ record { line = 0; cause = cause.Memory }) ⊎ (said ≡ Err f)
 
--- a call answers with the value of files, or reports the fault of the first damaged one, or out of memory
-abbrev pub IsReport : {T : Type 0} → Result T CliFault → Result T CliFault → Type 0
-IsReport (Ok value) said = said ≡ Ok value
-IsReport (Err fault) said = (fault ≡ Memory) ⊎ (said ≡ Err fault)
-
 -- how a fault of arguments is reported: out of memory as that
 abbrev pub fault_of_arguments : Fault → CliFault
 fault_of_arguments refused.NoMemory = Memory

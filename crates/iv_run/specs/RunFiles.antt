@@ -1,14 +1,15 @@
 -- The files of a run once they are read.
 use Rattle.std.specs.Prelude.{◌≡◌, ◌⊎◌, ℕ, ◌≤◌, true, List, Option, None, Some, All, length, Result, Ok, Err, IfOk}
+use Rattle.std.specs.Option.{option_map}
 use Rattle.iv_text.specs.BedFile.{Bed}
 use Rattle.iv_lines.specs.Genome.{Sequences}
 use Rattle.iv_lines.specs.GenomeFile.{genome_of}
-use Rattle.iv_text.specs.BedReading.{IsProjected, projected_bed_of}
+use Rattle.iv_text.specs.BedReading.{IsProjected, projected_bed, projected_bed_of}
 use Rattle.iv_lines.specs.RecordValue.{RecordValue}
 use Rattle.iv_lines.specs.declared.fault.LoadFault.{LoadFault}
 use Rattle.iv_fasta.specs.Fasta.{Bases, fasta_of}
-use Rattle.iv_fasta.specs.FastaReading.{Wanted, is_wanted, only_or_fault}
-use Rattle.iv_run.specs.Loading.{IsAnswer, parsed}
+use Rattle.iv_fasta.specs.FastaReading.{Wanted, is_wanted, only, only_or_fault}
+use Rattle.iv_run.specs.Loading.{IsAnswer, Parsed, parsed}
 use Rattle.iv_run.specs.declared.fault.CliFault.{CliFault}
 use Rattle.iv_run.specs.declared.fault.CliFault.TheVariants.{Memory}
 
@@ -79,3 +80,17 @@ AreOf projected wanted sizes first second fasta_text files =
     IsGenomeOf sizes files.run_genome × IsParsed projected files.run_genome.genome files.run_genome.width files.run_genome.limit first files.first
     × IsIfNamed (IsParsed projected files.run_genome.genome files.run_genome.width files.run_genome.limit) second files.second
     × IsIfNamed (IsFasta wanted files.run_genome.genome) fasta_text files.fasta
+
+-- files with their records projected, and with the bases of the wanted sequences alone
+abbrev pub held_files : (RecordValue → RecordValue) → Wanted → Parsed → Parsed
+held_files projected wanted files = record files {
+  first = projected_bed projected files.first;
+  second = option_map (projected_bed projected) files.second;
+  bases = option_map (only wanted) files.bases;
+}
+
+-- a call answers with files as they are held: their records projected, and the bases of the wanted sequences alone; or it reports the
+-- fault of the first damaged file, or out of memory
+abbrev pub Reports : (RecordValue → RecordValue) → Wanted → Result Parsed CliFault → Result Parsed CliFault → Type 0
+Reports projected wanted (Ok files) said = (whole : Parsed) × (said ≡ Ok whole) × (files ≡ held_files projected wanted whole)
+Reports projected wanted (Err k) said = (k ≡ Memory) ⊎ (said ≡ Err k)

@@ -1,6 +1,6 @@
 //! The views whose rows depend only on the intervals of records, and their print.
-ghost use Rattle.std.specs.Prelude.{◌≡◌, ℕ, All, List, Option, Err, None, IfSome};
-ghost use Rattle.iv_lines.specs.Ordered.{AreInOrder, ordered};
+ghost use Rattle.std.specs.Prelude.{◌≡◌, ℕ, All, List, Option, Ok, Err, None, IfSome};
+ghost use Rattle.iv_lines.specs.Ordered.{AreInOrder};
 ghost use Rattle.iv_lines.specs.Read.{IsOnGenome};
 ghost use Rattle.iv_lines.specs.Intervals.{bare};
 ghost use Rattle.iv_lines.specs.Inside.Intervals.{interval_records};
@@ -9,12 +9,13 @@ ghost use Rattle.iv_run.specs.IntervalsViews.{AskForIntervals, IsViewOf};
 ghost use Rattle.iv_run.specs.Inside.IntervalsViews.{AskForColumns, NeedsColumns};
 ghost use Rattle.iv_run.specs.Inside.Prints.{Prints};
 ghost use Rattle.iv_run.specs.Shots.{Shows, shown};
-ghost use Rattle.iv_run.specs.RunFiles.{AreOf};
+ghost use Rattle.iv_run.specs.Loading.{parsed};
+ghost use Rattle.iv_run.specs.RunFiles.{Reports};
 ghost use Rattle.iv_view.specs.Views.{kept_text};
 ghost use Rattle.iv_view.specs.declared.view.KeptView.{KeptView};
 
 use crate::fault::CliFault;
-use crate::run_files::{RunFiles, SoundFiles, sound_files};
+use crate::run_files::RunFiles;
 use iv_args::Plan;
 use iv_blocks::{put_complement, put_merge};
 use iv_bytes::{Buffered, Sink};
@@ -114,42 +115,25 @@ impl IntervalsView {
     }
 }
 
-/// Sorts the intervals of the first file, and prints a view of them.
-fn print_files<A: Allocator + Copy, S: Sink>(
-    view: IntervalsView,
-    files: SoundFiles<Vec<Interval, A>, A>,
-    sink: &mut S,
-) -> Result<(), CliFault>
-    ensures { (asked : KeptView) → IsViewOf view asked → Prints (S.state sink.old) (S.state sink.new) result (kept_text None asked files.genome (ordered files.first.records)) }
-{
-    let SoundFiles {
-        alloc,
-        genome,
-        first,
-        ..
-    } = files;
-    let mut intervals = first.into_intervals();
-    sort_intervals(&mut intervals);
-    view.print(alloc, intervals.as_slice(), &genome, sink)
-}
-
 impl<A: Allocator + Copy> RunFiles<Vec<Interval, A>, A> {
-    /// Prints a view of the first file: all of its text, and nothing else.
+    /// Sorts the intervals of the first file, and prints a view of them: all of its text, and nothing else.
     ///
     /// # Errors
     ///
-    /// The fault of the first damaged file, or `Memory`: then nothing was printed. `Output`, and then a prefix was.
+    /// `Memory`, and then nothing was printed. `Output`, and then a prefix was.
     pub fn print<S: Sink>(self, view: IntervalsView, sink: &mut S) -> Result<(), CliFault>
-        ensures { (plan : RunPlan) (sizes first : List ℕ) (second fasta_text : Option (List ℕ)) → AskForIntervals plan.view view → self.run_genome.width ≡ plan.width
-            → AreOf bare None sizes first second fasta_text self → Shows (S.state sink.old) (S.state sink.new) result (shown plan sizes first second fasta_text self.run_genome.limit) }
+        ensures { (plan : RunPlan) (sizes first : List ℕ) (second fasta_text : Option (List ℕ)) (limit : ℕ) → AskForIntervals plan.view view
+            → Reports bare None (Ok self) (parsed plan.width sizes first second fasta_text limit)
+            → Shows (S.state sink.old) (S.state sink.new) result (shown plan sizes first second fasta_text limit) }
     {
         let RunFiles {
-            run_genome,
+            alloc,
+            genome,
             first,
-            second,
-            fasta,
+            ..
         } = self;
-        let files = sound_files(run_genome, first, second, fasta)?;
-        print_files(view, files, sink)
+        let mut intervals = first.into_intervals();
+        sort_intervals(&mut intervals);
+        view.print(alloc, intervals.as_slice(), &genome, sink)
     }
 }

@@ -16,4 +16,4 @@ pub use held_fasta::HeldFasta;
 pub use input_files::{HeldRecords, ParsedFile, TakesPieces, read_all, too_long_above_the_limit};
 pub use intervals_view::IntervalsView;
 pub use one_shot::{shot, shot_of_held};
-pub use run_files::{Inputs, RunFiles, RunGenome, SoundFiles, sound_files};
+pub use run_files::{Inputs, RunFiles, RunGenome, sound_files};

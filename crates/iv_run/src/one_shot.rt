@@ -12,8 +12,7 @@ ghost use Rattle.iv_pair.specs.CoverAlone.{DependsOnCoverAlone, HaveBases};
 ghost use Rattle.iv_pair.specs.PairRows.{pair_text};
 ghost use Rattle.iv_view.specs.Inside.Texts.{records_text};
 ghost use Rattle.iv_view.specs.Views.{kept_text};
-ghost use Rattle.iv_run.specs.RunFiles.{AreOf, AreWanted, AreWantedOf};
-ghost use Rattle.iv_run.specs.Inside.RunFiles.{Reports};
+ghost use Rattle.iv_run.specs.RunFiles.{AreWanted, Reports};
 ghost use Rattle.iv_run.specs.Loading.{parsed};
 ghost use Rattle.iv_run.specs.Inside.IntervalsViews.{AskForColumns, NeedsColumns};
 ghost use Rattle.iv_run.specs.Inside.Prints.{Prints};
@@ -22,7 +21,7 @@ ghost use Rattle.iv_run.specs.Shots.{Shows, shown};
 
 use crate::fault::CliFault;
 use crate::intervals_view::IntervalsView;
-use crate::run_files::{Inputs, RunFiles, SoundFiles, sound_files};
+use crate::run_files::{Inputs, RunFiles};
 use iv_args::Plan;
 use iv_blocks::{MergeSweep, put_cluster};
 use iv_bytes::{Buffered, Sink, WriteFault};
@@ -33,7 +32,7 @@ use iv_places::{PlacedRecords, Places};
 use iv_view::{Available, KeptView, View, ViewFault, WrittenView};
 use std::alloc::{AllocError, Allocator};
 
-impl<A: Allocator + Copy> SoundFiles<Places<A>, A> {
+impl<A: Allocator + Copy> RunFiles<Places<A>, A> {
     /// The view of a plan, beside these files and at the width of the first one's records.
     ///
     /// # Errors
@@ -88,7 +87,7 @@ impl<A: Allocator + Copy> SoundFiles<Places<A>, A> {
         ensures text { Prints (S.state sink.old) (S.state sink.new) result (kept_text None view self.genome (ordered self.first.records)) }
         ensures alone { result ≡ Err CliFault.Memory → sink.new ≡ sink.old }
     {
-        let SoundFiles { genome, first, .. } = self;
+        let RunFiles { genome, first, .. } = self;
         let mut file = first.into_places();
         file.sort(alloc)?;
         sweep(alloc, view, file.records(), &genome, sink)
@@ -100,7 +99,7 @@ impl<A: Allocator + Copy> SoundFiles<Places<A>, A> {
         ensures text { Prints (S.state sink.old) (S.state sink.new) result (pair_text output self.genome (ordered self.first.records) (ordered_other self.second)) }
         ensures alone { result ≡ Err CliFault.Memory → sink.new ≡ sink.old }
     {
-        let SoundFiles {
+        let RunFiles {
             genome,
             first,
             second,
@@ -123,7 +122,7 @@ impl<A: Allocator + Copy> SoundFiles<Places<A>, A> {
         ensures text { Prints (S.state sink.old) (S.state sink.new) result (fasta_text shown self.genome (unwrap_or self.bases []) (ordered self.first.records)) }
         ensures alone { result ≡ Err CliFault.Memory → sink.new ≡ sink.old }
     {
-        let SoundFiles {
+        let RunFiles {
             genome,
             first,
             fasta,
@@ -143,7 +142,7 @@ impl<A: Allocator + Copy> SoundFiles<Places<A>, A> {
         ensures text { Prints (S.state sink.old) (S.state sink.new) result (records_text self.genome (ordered self.first.records)) }
         ensures alone { result ≡ Err CliFault.Memory → sink.new ≡ sink.old }
     {
-        let SoundFiles { genome, first, .. } = self;
+        let RunFiles { genome, first, .. } = self;
         let mut lines = first.into_places();
         lines.sort(alloc)?;
         put_lines(&lines.records(), &genome, sink)?;
@@ -265,26 +264,11 @@ fn put_lines<A: Allocator + Copy, S: Sink>(
     Ok(())
 }
 
-/// Prints a view that needs the columns of records, of files that are sound.
-fn print_files<A: Allocator + Copy, S: Sink>(
-    alloc: A,
-    plan: &Plan<'_, A>,
-    files: SoundFiles<Places<A>, A>,
-    sink: &mut S,
-) -> Result<(), CliFault>
-    requires columns { AskForColumns plan.now.view }
-    ensures { (wanted : Wanted) (sizes text : List ℕ) (other bases : Option (List ℕ)) (limit : ℕ) → Reports (λ r. r) wanted (Ok files) (parsed plan.now.width sizes text other bases limit)
-        → AreWanted wanted files.first.records → Shows (S.state sink.old) (S.state sink.new) result (shown plan.now sizes text other bases limit) }
-{
-    let view = files.view(plan)?;
-    files.print(alloc, view, sink)
-}
-
-/// Prints a view that needs the columns of records, once all files are read: all of its text, and nothing else.
+/// Prints a view that needs the columns of records, of sound files: all of its text, and nothing else.
 ///
 /// # Errors
 ///
-/// As of [`shot`].
+/// As of [`shot`], except that no file is damaged.
 pub fn shot_of_held<A: Allocator + Copy, S: Sink>(
     alloc: A,
     plan: &Plan<'_, A>,
@@ -292,17 +276,11 @@ pub fn shot_of_held<A: Allocator + Copy, S: Sink>(
     sink: &mut S,
 ) -> Result<(), CliFault>
     requires columns { AskForColumns plan.now.view }
-    ensures { (wanted : Wanted) (sizes first : List ℕ) (second fasta_text : Option (List ℕ)) → files.run_genome.width ≡ plan.now.width → AreOf (λ r. r) wanted sizes first second fasta_text files
-        → AreWantedOf wanted files.first → Shows (S.state sink.old) (S.state sink.new) result (shown plan.now sizes first second fasta_text files.run_genome.limit) }
+    ensures { (wanted : Wanted) (sizes first : List ℕ) (second fasta_text : Option (List ℕ)) (limit : ℕ) → Reports (λ r. r) wanted (Ok files) (parsed plan.now.width sizes first second fasta_text limit)
+        → AreWanted wanted files.first.records → Shows (S.state sink.old) (S.state sink.new) result (shown plan.now sizes first second fasta_text limit) }
 {
-    let RunFiles {
-        run_genome,
-        first,
-        second,
-        fasta,
-    } = files;
-    let files = sound_files(run_genome, first, second, fasta)?;
-    print_files(alloc, plan, files, sink)
+    let view = files.view(plan)?;
+    files.print(alloc, view, sink)
 }
 
 /// Prints what the plan's subcommand shows of the files, given their bytes: all of it, and nothing else.
@@ -328,9 +306,9 @@ pub fn shot<A: Allocator + Copy, S: Sink>(
     if let Some(view) = IntervalsView::of_plan(plan) {
         let files: RunFiles<Vec<Interval, A>, A> = RunFiles::of_inputs(
             alloc, plan, inputs, bases, limit,
-        );
+        )?;
         return files.print(view, sink);
     }
-    let files: RunFiles<Places<A>, A> = RunFiles::of_inputs(alloc, plan, inputs, bases, limit);
+    let files: RunFiles<Places<A>, A> = RunFiles::of_inputs(alloc, plan, inputs, bases, limit)?;
     shot_of_held(alloc, plan, files, sink)
 }

@@ -5,9 +5,8 @@ ghost use Rattle.iv_lines.specs.declared.fault.LoadFault.{LoadFault};
 ghost use Rattle.iv_lines.specs.Widths.{IsWidth};
 ghost use Rattle.iv_run.specs.Files.{ReadsWhole, StopsReading};
 ghost use Rattle.iv_run.specs.Loading.{damage_of, parsed};
-ghost use Rattle.iv_run.specs.RunFiles.{AreAskedFor, AreOf, IsFasta, IsIfNamed, IsOn, IsParsed, IsGenomeOf};
+ghost use Rattle.iv_run.specs.RunFiles.{AreAskedFor, AreOf, IsFasta, IsIfNamed, IsOn, IsParsed, IsGenomeOf, Reports};
 ghost use Rattle.iv_fasta.specs.FastaReading.{Wanted};
-ghost use Rattle.iv_run.specs.Inside.RunFiles.{Reports};
 
 use crate::fault::{CliFault, FileFault};
 use crate::held_fasta::{HeldFasta, read_fasta};
@@ -162,35 +161,11 @@ impl<A: Allocator + Copy> RunGenome<A> {
     }
 }
 
-/// The files of a run, once all are read, in the order genome file, first file, second file, FASTA file: what is held of each.
+/// The files of a run, once all are read and none is damaged: what is held of each.
 ///
 /// A file that can't be read is reported before a damaged one, so every file is read to its end first.
 #[derive(Drop)]
 pub struct RunFiles<H: HoldsRecords<A>, A: Allocator + Copy = Global> {
-    /// The genome file, and what the BED files on it may be.
-    pub run_genome: RunGenome<A>,
-    /// The first file.
-    pub first: HeldRecords<H, A>,
-    /// The second file, if the plan names one.
-    pub second: Option<HeldRecords<H, A>>,
-    /// The FASTA file, if the plan names one.
-    pub fasta: Option<HeldFasta<A>>,
-}
-
-impl<H: HoldsRecords<A>, A: Allocator + Copy> Model for RunFiles<H, A> {
-    ghost use Rattle.std.specs.Prelude.{IfSome};
-    ghost use Rattle.iv_run.specs.RunFiles.{FilesRead, IsOn};
-
-    ghost Value = { FilesRead };
-
-    ghost view = { λ f. record { run_genome = f.run_genome; first = f.first; second = f.second; fasta = f.fasta } };
-
-    ghost invariant = { λ f. IsOn H.projected f.run_genome.genome f.run_genome.limit f.first × IfSome f.second (IsOn H.projected f.run_genome.genome f.run_genome.limit) };
-}
-
-/// The files of a run that are sound, with what is held of each record.
-#[derive(Drop)]
-pub struct SoundFiles<H: HoldsRecords<A>, A: Allocator + Copy = Global> {
     pub alloc: A,
     pub genome: Genome<A>,
     pub first: ParsedFile<H, A>,
@@ -199,7 +174,7 @@ pub struct SoundFiles<H: HoldsRecords<A>, A: Allocator + Copy = Global> {
     pub limit: u32,
 }
 
-impl<H: HoldsRecords<A>, A: Allocator + Copy> Model for SoundFiles<H, A> {
+impl<H: HoldsRecords<A>, A: Allocator + Copy> Model for RunFiles<H, A> {
     ghost use Rattle.std.specs.Prelude.{IfSome};
     ghost use Rattle.iv_run.specs.Loading.{Parsed};
     ghost use Rattle.iv_run.specs.RunFiles.{AreProjected};
@@ -212,17 +187,17 @@ impl<H: HoldsRecords<A>, A: Allocator + Copy> Model for SoundFiles<H, A> {
 }
 
 impl<H: HoldsRecords<A>, A: Allocator + Copy> RunFiles<H, A> {
-    /// The files of a run, given their bytes.
+    /// The files of a run, given their bytes, or the fault of the first damaged one.
     pub fn of_inputs(
         alloc: A,
         plan: &Plan<'_, A>,
         inputs: &Inputs<'_>,
         fasta_text: Option<Vec<u8, A>>,
         limit: u32,
-    ) -> Self
-        ensures says { AreOf H.projected None inputs.now.sizes.now inputs.now.first.now (option_copied inputs.now.other) (option_map (λ text. text.items) fasta_text) result }
-        ensures width { result.run_genome.width ≡ plan.now.width }
-        ensures limit { result.run_genome.limit ≡ limit }
+    ) -> Result<Self, CliFault>
+        ensures says { Reports H.projected None result
+            (parsed plan.now.width inputs.now.sizes.now inputs.now.first.now (option_copied inputs.now.other) (option_map (λ text. text.items) fasta_text) limit) }
+        ensures limit { IfOk result (λ files. files.limit ≡ limit) }
     {
         let run_genome = RunGenome::begin(alloc, plan, inputs.sizes, limit);
         let first = run_genome.parse(inputs.first);
@@ -231,12 +206,7 @@ impl<H: HoldsRecords<A>, A: Allocator + Copy> RunFiles<H, A> {
             None => None,
         };
         let fasta = run_genome.parse_fasta(fasta_text);
-        RunFiles {
-            run_genome,
-            first,
-            second,
-            fasta,
-        }
+        sound_files(run_genome, first, second, fasta)
     }
 }
 
@@ -246,7 +216,7 @@ pub fn sound_files<H: HoldsRecords<A>, A: Allocator + Copy>(
     first: HeldRecords<H, A>,
     second: Option<HeldRecords<H, A>>,
     fasta: Option<HeldFasta<A>>,
-) -> Result<SoundFiles<H, A>, CliFault>
+) -> Result<RunFiles<H, A>, CliFault>
     requires first { IsOn H.projected run_genome.genome run_genome.limit first }
     requires second { IfSome second (IsOn H.projected run_genome.genome run_genome.limit) }
     ensures says { (wanted : Wanted) (sizes text : List ℕ) (other bases : Option (List ℕ)) → AreOf H.projected wanted sizes text other bases (record { run_genome = run_genome; first = first; second = second; fasta = fasta })
@@ -259,7 +229,7 @@ pub fn sound_files<H: HoldsRecords<A>, A: Allocator + Copy>(
     let first = in_slot(Slot::First, first)?;
     let second = in_slot(Slot::Other, second.transpose())?;
     let fasta = in_slot(Slot::Bases, fasta.transpose())?;
-    Ok(SoundFiles {
+    Ok(RunFiles {
         alloc,
         genome,
         first,

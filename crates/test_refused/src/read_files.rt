@@ -4,7 +4,7 @@ use crate::wrong_devices::{Place, manner};
 use iv_args::{Plan, Slot};
 use iv_bytes::StdSource;
 use iv_cli::begin_session;
-use iv_run::{ExitReason, RunFiles, RunGenome};
+use iv_run::{ExitReason, RunGenome, sound_files};
 use std::alloc::Allocator;
 use std::test::Fail;
 use test_faults::{FAILURES, Manner, RefusesNth, Stream};
@@ -32,16 +32,8 @@ fn read_in<A: Allocator + Copy>(
         Ok(second) => Some(second),
         Err(fault) => return Err(ExitReason::from((Slot::Other, fault))),
     };
-    let files = RunFiles {
-        run_genome,
-        first,
-        second,
-        fasta: None,
-    };
-    match begin_session(files) {
-        Ok(session) => Ok(session.len()),
-        Err(fault) => Err(ExitReason::from(fault)),
-    }
+    let files = sound_files(run_genome, first, second, None)?;
+    Ok(begin_session(files)?.len())
 }
 
 /// The same with all memory.

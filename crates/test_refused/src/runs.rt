@@ -21,7 +21,7 @@ pub(crate) enum Begun {
     /// `Places::sort`, `Places::ranks`, `BedReader::take_piece`, `BedReader::finish`, `FastaReader::take_piece`,
     /// `FastaReader::finish`
     Program,
-    /// `Plan::read` and `shot`
+    /// `Plan::read` and `shot`, with `RunFiles::of_inputs`
     Shot,
     /// `Plan::read`, `load` and `run_script`
     Script,

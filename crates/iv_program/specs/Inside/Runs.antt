@@ -11,7 +11,8 @@ use Rattle.iv_args.specs.declared.plan.Slot.{Slot}
 use Rattle.iv_args.specs.declared.plan.Slot.TheVariants.{Bases}
 use Rattle.iv_args.specs.declared.subcommand.Subcommand.TheVariants as kind
 use Rattle.iv_run.specs.Shots.{Shows, shown}
-use Rattle.iv_run.specs.RunFiles.{AreOf, FilesRead}
+use Rattle.iv_run.specs.Loading.{Parsed, parsed}
+use Rattle.iv_run.specs.RunFiles.{AreOf, FilesRead, Reports}
 use Rattle.iv_run.specs.declared.fault.CliFault.{CliFault}
 use Rattle.iv_run.specs.declared.fault.FileFault.{FileFault}
 use Rattle.iv_run.specs.ExitReasons.{ending_after, ending_of, ending_of_file, is_through, line_of}
@@ -23,11 +24,9 @@ use Rattle.iv_program.specs.Runs.{World, DoesWith, HasRead, HasNotRead}
 use Rattle.iv_program.specs.Texts.{Texts, AreTexts, IsTextIfNamed, names_before}
 
 -- the files of a plan, once they are read, are those of these texts, with the records of BED files projected, and with the bases of the
--- wanted sequences
-pub record HasTexts (projected : RecordValue → RecordValue) (wanted : Wanted) (plan : RunPlan) (texts : Texts) (files : FilesRead) : Type 0 where
-  pub width_is : files.run_genome.width ≡ plan.width
-  pub limit_is : files.run_genome.limit ≡ plan.limit
-  pub are : AreOf projected wanted texts.sizes texts.first texts.other texts.bases files
+-- wanted sequences; or this is the fault of the first damaged one
+abbrev pub HasTexts : (RecordValue → RecordValue) → Wanted → RunPlan → Texts → Result Parsed CliFault → Type 0
+HasTexts projected wanted plan texts files = Reports projected wanted files (parsed plan.width texts.sizes texts.first texts.other texts.bases plan.limit)
 
 -- the genome file and the BED files of a plan were read, in the order of their slots, and these are their texts, with the records of BED
 -- files projected

@@ -1,17 +1,18 @@
 use Rattle.std.specs.Option.{option_copied, option_map}
-use Rattle.iv_cli.proofs.LoadLemmas.{report-ok, report-err}
+use Rattle.std.proofs.lemmas.Result.{IfOk-weaker, err_from_is_err_and}
+use Rattle.iv_cli.proofs.LoadLemmas.{begins, begins-not}
 use Rattle.iv_cli.proofs.begin.load.Goals as goal
+
+pub returns-in_err-of_inputs-clause-err : goal.returns-in_err-of_inputs-clause-err
+returns-in_err-of_inputs-clause-err g c =
+    let inputs = c.args.inputs.now in
+    let p = err_from_is_err_and c.from_residual.result c.from_residual.ensures.1 in
+    rw (p.1, p.2) (begins-not c.args.plan.now.width inputs.sizes.now inputs.first.now (option_copied inputs.other) (option_map (λ text. text.items) c.args.bases) c.args.limit _
+    (rw c.in_err-of_inputs.was at c.of_inputs.ensures.says))
 
 pub returns-clause-ok : goal.returns-clause-ok
 returns-clause-ok g c =
     let inputs = c.args.inputs.now in
-    let files = c.of_inputs-files.ensures in
-    let report = c.begin_session.ensures inputs.sizes.now inputs.first.now (option_copied inputs.other) (option_map (λ text. text.items) c.args.bases) files.says in
-    report-ok c.begin_session.result _ (rw (files.width, files.limit) at report)
-
-pub returns-clause-err : goal.returns-clause-err
-returns-clause-err g c =
-    let inputs = c.args.inputs.now in
-    let files = c.of_inputs-files.ensures in
-    let report = c.begin_session.ensures inputs.sizes.now inputs.first.now (option_copied inputs.other) (option_map (λ text. text.items) c.args.bases) files.says in
-    report-err c.begin_session.result _ (rw (files.width, files.limit) at report)
+    let files = c.in_ok-of_inputs in
+    IfOk-weaker c.begin_session.result _ _ (λ s is. begins c.args.plan.now.width inputs.sizes.now inputs.first.now (option_copied inputs.other) (option_map (λ text. text.items) c.args.bases) c.args.limit
+    files.field-0 s (rw files.was at c.of_inputs.ensures.says) is) c.begin_session.ensures.ok

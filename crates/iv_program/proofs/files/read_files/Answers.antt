@@ -11,11 +11,14 @@ returns-in_err-fasta-clause-err g c =
 
 pub returns-clause-ok : goal.returns-clause-ok
 returns-clause-ok g c =
+    let projected = g.H.HoldsRecords.projected in
+    let plan = c.args.plan.now in
+    let beds = c.in_ok-run_genome.ensures.ok in
     let fasta = c.in_ok-fasta.ensures.ok in
-    (plan-texts g.H.HoldsRecords.projected c.args.plan.now c.in_ok-run_genome.ensures.ok fasta.3, all-texts g.H.HoldsRecords.projected c.args.plan.now c.in_ok-run_genome.ensures.ok fasta.3, rw fasta.2 at (has-texts g.H.HoldsRecords.projected c.args.plan.now c.in_ok-run_genome.ensures.ok fasta.3 fasta.0 _ fasta.4))
+    (plan-texts projected plan beds fasta.3, all-texts projected plan beds fasta.3, rw fasta.2 at (has-texts projected plan beds fasta.3 fasta.0 _ c.sound_files.result fasta.4 c.sound_files.ensures.says))
+
+pub returns-clause-limit : goal.returns-clause-limit
+returns-clause-limit g c = rw c.in_ok-run_genome.ensures.ok.limit_is at c.sound_files.ensures.limit
 
 pub returns-clause-after : goal.returns-clause-after
 returns-clause-after g c = all-read g.H.HoldsRecords.projected c.args.plan.now c.in_ok-run_genome.ensures.ok c.in_ok-fasta.ensures.ok.3
-
-pub invariant_of-result : goal.invariant_of-result
-invariant_of-result g c = c.in_ok-run_genome.ensures.is_on

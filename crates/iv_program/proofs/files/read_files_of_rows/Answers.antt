@@ -1,5 +1,6 @@
 use Rattle.iv_lines.proofs.PieceLemmas.{handed-on}
 use Rattle.iv_args.specs.declared.plan.Slot.TheVariants.{Bases}
+use Rattle.iv_run.proofs.WantedLemmas.{files-wanted}
 use Rattle.iv_program.proofs.RunLemmas.{all-read, all-texts, has-texts, plan-texts, stops-at}
 use Rattle.iv_program.proofs.files.read_files_of_rows.Goals as goal
 
@@ -11,11 +12,16 @@ returns-in_err-fasta-clause-err g c =
 
 pub returns-clause-ok : goal.returns-clause-ok
 returns-clause-ok g c =
+    let plan = c.args.plan.now in
+    let beds = c.in_ok-run_genome.ensures.ok in
     let fasta = c.in_ok-fasta.ensures.ok in
-    (plan-texts (λ r. r) c.args.plan.now c.in_ok-run_genome.ensures.ok fasta.3, fasta.0, all-texts (λ r. r) c.args.plan.now c.in_ok-run_genome.ensures.ok fasta.3, has-texts (λ r. r) c.args.plan.now c.in_ok-run_genome.ensures.ok fasta.3 fasta.0 _ fasta.4, fasta.2)
+    let said = c.sound_files.result in (
+      plan-texts (λ r. r) plan beds fasta.3,
+      fasta.0,
+      all-texts (λ r. r) plan beds fasta.3,
+      has-texts (λ r. r) plan beds fasta.3 fasta.0 _ said fasta.4 c.sound_files.ensures.says,
+      files-wanted fasta.0 _ said c.sound_files.ensures.first fasta.2,
+    )
 
 pub returns-clause-after : goal.returns-clause-after
 returns-clause-after g c = all-read (λ r. r) c.args.plan.now c.in_ok-run_genome.ensures.ok c.in_ok-fasta.ensures.ok.3
-
-pub invariant_of-result : goal.invariant_of-result
-invariant_of-result g c = c.in_ok-run_genome.ensures.is_on

@@ -1,8 +1,15 @@
+use Rattle.std.proofs.Common.{Err}
+use Rattle.iv_run.proofs.ShotLemmas.{shows-damage}
 use Rattle.iv_program.proofs.program.shot_of_columns.Goals as goal
 
-pub returns : goal.returns
-returns g c = λ texts wanted has are. (
+pub returns-in-Ok : goal.returns-in-Ok
+returns-in-Ok g c = λ texts wanted has are. (
   c.shot_of_held.result,
-  rw has.limit_is at (c.shot_of_held.ensures wanted texts.sizes texts.first texts.other texts.bases has.width_is has.are are),
+  c.shot_of_held.ensures wanted texts.sizes texts.first texts.other texts.bases c.args.plan.now.limit (rw c.in-Ok.is at has) (rw c.in-Ok.is at are),
   c.ending_of.ensures,
 )
+
+pub returns-in-Err : goal.returns-in-Err
+returns-in-Err g c = λ texts wanted has are.
+    let plan = c.args.plan.now in
+    (Err c.in-Err.fault, shows-damage plan.width texts.sizes texts.first texts.other texts.bases plan.limit plan.view _ _ (rw c.in-Err.is at has), c.from.ensures)

@@ -1,7 +1,7 @@
 use Rattle.std.proofs.Common.{◌≡◌, sym, ◌∙◌}
 use Rattle.std.proofs.lemmas.Result.{err_from_is_err_and}
 use Rattle.iv_bytes.proofs.PutLemmas.{Takes-finished, FailsIn-finished, same-top}
-use Rattle.iv_run.proofs.one_shot.SoundFiles+Places+A+A.print.Goals as goal
+use Rattle.iv_run.proofs.one_shot.RunFiles+Places+A+A.print.Goals as goal
 
 pub returns-in_err-finish : goal.returns-in_err-finish
 returns-in_err-finish g c =

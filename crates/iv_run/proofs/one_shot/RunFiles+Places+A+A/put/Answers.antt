@@ -6,7 +6,7 @@ use Rattle.iv_view.specs.declared.written_view.WrittenView.TheVariants as writte
 use Rattle.iv_view.specs.declared.view.View.{View}
 use Rattle.iv_run.specs.Inside.Prints.{Prints}
 use Rattle.iv_run.specs.Inside.Shots.{text_beside}
-use Rattle.iv_run.proofs.one_shot.SoundFiles+Places+A+A.put.Goals as goal
+use Rattle.iv_run.proofs.one_shot.RunFiles+Places+A+A.put.Goals as goal
 
 pub put_pairs-requires : goal.put_pairs-requires
 put_pairs-requires g c =

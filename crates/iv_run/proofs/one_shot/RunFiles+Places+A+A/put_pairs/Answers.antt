@@ -2,7 +2,7 @@ use Rattle.std.proofs.Common.{sym, subst}
 use Rattle.iv_lines.specs.Ordered.{AreInOrder}
 use Rattle.iv_places.proofs.SortedLemmas.{order-sorted}
 use Rattle.iv_run.proofs.WantedLemmas.{all-wide}
-use Rattle.iv_run.proofs.one_shot.SoundFiles+Places+A+A.put_pairs.Goals as goal
+use Rattle.iv_run.proofs.one_shot.RunFiles+Places+A+A.put_pairs.Goals as goal
 
 pub into_places-first-requires : goal.into_places-first-requires
 into_places-first-requires g c = all-wide c.self.inside.genome c.self.inside.limit c.self.inside.first c.self.invariant.0

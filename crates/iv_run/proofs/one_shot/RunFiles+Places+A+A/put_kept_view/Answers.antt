@@ -6,7 +6,7 @@ use Rattle.iv_lines.specs.Read.{IsOnGenome}
 use Rattle.iv_lines.specs.RecordValue.{RecordValue}
 use Rattle.iv_places.proofs.SortedLemmas.{on_genome-sorted, order-sorted}
 use Rattle.iv_run.proofs.WantedLemmas.{all-on, all-wide}
-use Rattle.iv_run.proofs.one_shot.SoundFiles+Places+A+A.put_kept_view.Goals as goal
+use Rattle.iv_run.proofs.one_shot.RunFiles+Places+A+A.put_kept_view.Goals as goal
 
 pub into_places-file-requires : goal.into_places-file-requires
 into_places-file-requires g c = all-wide c.self.inside.genome c.self.inside.limit c.self.inside.first c.self.invariant.0
