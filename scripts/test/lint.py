@@ -41,8 +41,9 @@ MAKES_A_METER = {
 # record says in 32 bits where its rest begins: no file that the program reads has 2^32 bytes, but the rests of a track, to which edits
 # add, may. And the rests are those of records of one width: no caller hands in another one, but an order has no condition for it.
 FULL_COUNTS = {
-    "iv_places/src/rests.rt": (r"(?:if feature\.width\(\) != self\.width|let Ok\(from\) = u32::try_from\(self\.bytes\.len\(\)\) else) \{", ""),
-    "iv_ledger/src/ledger.rt": (r"if (?:self\.)?len == MOST_ENTRIES \{", "const MOST_ENTRIES: usize = 9_223_372_036_854_775_807;"),
+    "iv_places/src/rests.rt": (r"(?:if feature\.width\(\) != self\.width|let Ok\(from\) = u32::try_from\(self\.bytes\.len\(\) / 4\) else) \{", ""),
+    "iv_ledger/src/builder.rt": (r"if self\.len == MOST_ENTRIES \{", "const MOST_ENTRIES: usize = 9_223_372_036_854_775_807;"),
+    "iv_ledger/src/ledger.rt": (r"if self\.len == MOST_ENTRIES \{", "use crate::builder::{LedgerBuilder, MOST_ENTRIES};"),
 }
 # Under its own name it is found wherever it is made: `C::Meter::new()` too.
 METER_CALLED_OTHERWISE = re.compile(r"\btype\s+(?!Meter\b)\w+\s*=\s*[\w:]*\bMeter\b")

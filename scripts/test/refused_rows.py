@@ -33,6 +33,9 @@ WITHOUT = {
     "BedLines::take_lines": "`BedReader::take_piece` calls it",
     "Ledger::from_entries": "`Track::from_records` calls it",
     "Ledger::with_entries": "`Ledger::from_entries` calls it",
+    "LedgerBuilder::new": "`Ledger::with_entries` calls it",
+    "LedgerBuilder::push": "`Ledger::with_entries` calls it",
+    "LedgerBuilder::finish": "`Ledger::with_entries` calls it",
 }
 
 

@@ -5,7 +5,7 @@ ghost use Rattle.std.specs.Ordering.{is_le, is_lt};
 ghost use Rattle.std.specs.List.Sorted.{IsPartitionPoint};
 ghost use Rattle.iv_ledger.specs.Entries.{IsLedger, seen};
 ghost use Rattle.std.specs.Option.{option_copied};
-ghost use Rattle.iv_ledger.specs.Inside.Chunks.{AreChunks, AreFilled, AreSmall, IsFound, IsGap, IsInside, IsWithin, IsSplit, IsIndexWithRoom, before, from, concatenated, most_at_once, most_in_chunk, starts_by};
+ghost use Rattle.iv_ledger.specs.Inside.Chunks.{AreChunks, AreFilled, AreSmall, IsFound, IsGap, IsInside, IsWithin, IsSplit, IsIndexWithRoom, before, from, concatenated, most_in_chunk, starts_by};
 ghost use Rattle.iv_ledger.specs.Inside.Replaced.{IsAmong, IsReplaced};
 ghost use Rattle.iv_ledger.specs.Inside.Seen.{seen_chunks};
 ghost use Rattle.std.specs.Prelude.{map};
@@ -13,13 +13,9 @@ ghost use Rattle.std.specs.Prelude.{map};
 use crate::order::Seeks;
 use std::alloc::{AllocError, Allocator};
 use std::cmp::Ordering;
-use std::mem;
 
 /// The most entries that one chunk has.
 pub(crate) const MOST_IN_CHUNK: usize = 256;
-
-/// How many entries each chunk except the last has if all are given at once: there is room for later ones.
-pub(crate) const MOST_AT_ONCE: usize = 240;
 
 /// Where an entry is in a list of chunks: the index of a chunk, and an index in it.
 #[derive(Clone, Copy)]
@@ -355,49 +351,6 @@ pub(crate) fn insert_at<T: Drop, A: Allocator + Clone + Drop>(
     let index = with_room(chunks, at)?;
     chunks[index.chunk].insert(index.index, entry)?;
     Ok(())
-}
-
-/// Adds an entry after all others, of which the last are not among the chunks yet.
-#[inline(always)]
-pub(crate) fn append<T: Drop, A: Allocator + Clone + Drop>(
-    chunks: &mut Vec<Vec<T, A>, A>,
-    last: &mut Vec<T, A>,
-    entry: T,
-) -> Result<(), AllocError>
-    requires filled { AreFilled chunks.old.items }
-    requires last { vec_len last.old ≤ most_at_once }
-    ensures all { OnOk result (concatenated chunks.new.items ++ last.new.items ≡ (concatenated chunks.old.items ++ last.old.items) ++ entry ∷ []) }
-    ensures filled { OnOk result (AreFilled chunks.new.items) }
-    ensures last { OnOk result (vec_len last.new ≤ most_at_once) }
-{
-    if last.is_empty() {
-        last.reserve(MOST_IN_CHUNK)?;
-    }
-    if last.len() < MOST_AT_ONCE {
-        last.push(entry)?;
-        return Ok(());
-    }
-    let mut next = Vec::with_capacity(chunks.allocator().clone()?, MOST_IN_CHUNK)?;
-    next.push(entry)?;
-    chunks.push(mem::replace(last, next))?;
-    Ok(())
-}
-
-/// The chunks with the last entries, which `append` left beside them.
-pub(crate) fn with_last<T: Drop, A: Allocator + Drop>(
-    mut chunks: Vec<Vec<T, A>, A>,
-    last: Vec<T, A>,
-) -> Result<Vec<Vec<T, A>, A>, AllocError>
-    requires filled { AreFilled chunks.items }
-    requires last { vec_len last ≤ most_at_once }
-    ensures all { IfOk result (λ all. concatenated all.items ≡ concatenated chunks.items ++ last.items) }
-    ensures filled { IfOk result (λ all. AreFilled all.items) }
-{
-    if last.is_empty() {
-        return Ok(chunks);
-    }
-    chunks.push(last)?;
-    Ok(chunks)
 }
 
 /// The index of the same entry in a chunk that is not full: a full one is halved.

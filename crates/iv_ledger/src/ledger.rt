@@ -7,11 +7,12 @@ ghost use Rattle.std.specs.Iterator.{IsFinite, Drains};
 ghost use Rattle.std.specs.List.{filter};
 ghost use Rattle.std.specs.Ordering.{is_le};
 ghost use Rattle.iv_ledger.specs.Entries.{IsLedger, value_at, first_from, first_after, last_until, lent_entry, seen};
+ghost use Rattle.iv_ledger.specs.Inside.Chunks.{concatenated};
+ghost use Rattle.iv_ledger.specs.Inside.Seen.{IsStored};
 ghost use Rattle.iv_ledger.specs.Steps.{ticked};
 
-use crate::entry_index::{
-    self, append, find, index_after, index_from, insert_at, join_small, remove_at, with_last,
-};
+use crate::builder::{LedgerBuilder, MOST_ENTRIES};
+use crate::entry_index::{self, find, index_after, index_from, insert_at, join_small, remove_at};
 use crate::meter::Meter;
 use crate::order::{Abbreviated, Keeps, Lends, Natural, Order, Seeks};
 use crate::starts::Starts;
@@ -19,9 +20,6 @@ use crate::walk::Walk;
 use std::alloc::{AllocError, Allocator, Global};
 use std::marker::Model;
 use std::mem;
-
-/// More entries than there is memory for.
-const MOST_ENTRIES: usize = 9_223_372_036_854_775_807;
 
 /// An ordered map from keys to values that counts its calls, so that a contract can say how many a method makes.
 ///
@@ -104,18 +102,24 @@ impl<K: Drop, V: Drop, A: Allocator + Clone + Drop, O: Order<K> + Drop> Ledger<K
         ensures entries { IfOk result (λ l. (es : List (K × V)) × Drains I.next_gives entries es × (l ≡ map (seen (O.read order)) es)) }
         ensures ordered { IfOk result (λ l. IsLedger O.cmp l) }
     {
-        let mut chunks = Vec::new(alloc.clone()?);
-        let mut last = Vec::new(alloc.clone()?);
-        let mut len = 0;
-        for entry in entries {
-            if len == MOST_ENTRIES {
-                return Err(AllocError);
-            }
-            append(&mut chunks, &mut last, entry)?;
-            len += 1;
+        let mut built = LedgerBuilder::new(alloc)?;
+        for (key, value) in entries {
+            built.push(key, value)?;
         }
-        let chunks = with_last(chunks, last)?;
-        let starts = Starts::of(alloc, &order, &chunks)?;
+        built.finish(order)
+    }
+
+    /// The ledger of these chunks, which have so many entries, in this order.
+    pub(crate) fn of_chunks(
+        order: O,
+        chunks: Vec<Vec<(K, V), A>, A>,
+        len: usize,
+    ) -> Result<Self, AllocError>
+        requires { IsStored O.cmp (O.read order) (O.IsKey order) chunks.items len }
+        ensures entries { IfOk result (λ l. l ≡ map (seen (O.read order)) (concatenated chunks.items)) }
+        ensures ordered { IfOk result (λ l. IsLedger O.cmp l) }
+    {
+        let starts = Starts::of(chunks.allocator().clone()?, &order, &chunks)?;
         Ok(Ledger {
             order,
             chunks,

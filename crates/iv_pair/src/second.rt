@@ -148,6 +148,13 @@ impl<A: Allocator + Copy> Second<A> {
         }
     }
 
+    /// Frees what is held of removed records, as [`Track::pack`] does.
+    pub fn pack(&mut self, meter: &mut Meter)
+        ensures { self.new ≡ self.old }
+    {
+        self.track.pack(self.alloc, meter);
+    }
+
     /// The records on the sequence of this rank that share a position with an interval, in the order of a track, copies repeated.
     ///
     /// The interval is 0-based and half-open, and has a position. Records that end where it starts, or start where it ends,

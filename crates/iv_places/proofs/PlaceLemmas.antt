@@ -1,5 +1,5 @@
 -- Rests that others follow, and the records at their places.
-use Rattle.std.proofs.Common.{◌≡◌, ℕ, ◌<◌, ◌≤◌, false, nat_le, cond, List, [], ◌∷◌, ◌++◌, None, codes, length, drop, refl, sym, ap, ◌∙◌, subst, arith, All, append_assoc}
+use Rattle.std.proofs.Common.{◌≡◌, ℕ, ◌*◌, ◌<◌, ◌≤◌, false, nat_le, cond, List, [], ◌∷◌, ◌++◌, None, codes, length, drop, refl, sym, ap, ◌∙◌, subst, arith, All, append_assoc}
 use Rattle.std.proofs.Math.Seq.{drop-append_seam}
 use Rattle.std.proofs.lemmas.Bool.Decides.{nat_tests}
 use Rattle.std.proofs.lemmas.List.{drop-append-le, length-append, length-drop, map-append}
@@ -11,7 +11,7 @@ use Rattle.iv_lines.specs.RecordText.{joined_record, rest_text}
 use Rattle.iv_lines.specs.RecordValue.{RecordValue, strand_of}
 use Rattle.iv_lines.specs.Widths.{IsWidth}
 use Rattle.iv_places.proofs.RestLemmas.{rest-fed}
-use Rattle.iv_places.specs.Inside.Places.{ArePlaces, HasBase, IsEnded, IsPlace, place_at, record_at, records_at, rest_at, rest_in}
+use Rattle.iv_places.specs.Inside.Places.{ArePlaces, HasBase, HeldRests, IsEnded, IsPlace, place_at, record_at, records_at, rest_at, rest_in, rest_start}
 use Rattle.iv_places.specs.declared.place.Place.{Place}
 
 -- an ended rest is the one that is held
@@ -54,9 +54,9 @@ module _ (w : ℕ) (rests more : List ℕ) where
   place-more p h = record {
     some = h.some;
     known = h.known;
-    ended = λ four. ended-more rests more p.rest (h.ended four);
+    ended = λ four. ended-more rests more (rest_start p) (h.ended four);
     whole = λ four.
-        let same = rest-same rests more p.rest (h.ended four) in
+        let same = rest-same rests more (rest_start p) (h.ended four) in
         ap (λ (r : List ℕ). codes "\t" ++ r) same
         ∙ h.whole four
         ∙ ap (λ (r : List ℕ). rest_text (joined_record p.interval.seq p.interval.start p.interval.stop r w)) (sym same);
@@ -65,7 +65,7 @@ module _ (w : ℕ) (rests more : List ℕ) where
   -- of the same record
   record-more : (p : Place) → 4 ≤ w → IsPlace w rests p → record_at w (rests ++ more) p ≡ record_at w rests p
   record-more p four h =
-      ap (λ (r : List ℕ). joined_record p.interval.seq p.interval.start p.interval.stop r w) (rest-same rests more p.rest (h.ended four))
+      ap (λ (r : List ℕ). joined_record p.interval.seq p.interval.start p.interval.stop r w) (rest-same rests more (rest_start p) (h.ended four))
 
 -- one more place
 places-push : (w : ℕ) (rests : List ℕ) (ps : List Place) (p : Place) → ArePlaces w rests ps → IsPlace w rests p → ArePlaces w rests (ps ++ p ∷ [])
@@ -75,11 +75,11 @@ records-push : (w : ℕ) (rests : List ℕ) (ps : List Place) (p : Place) → re
 records-push w rests ps p = map-append (record_at w rests) ps (p ∷ [])
 
 -- the place of a rest that was put after the others
-place-put : (w : ℕ) (rests rest : List ℕ) (p : Place) → p.rest ≡ length rests → HasBase p → IsWidth w → HasNoFeed rest
+place-put : (w : ℕ) (rests rest : List ℕ) (p : Place) → rest_start p ≡ length rests → HasBase p → IsWidth w → HasNoFeed rest
     → (4 ≤ w → codes "\t" ++ rest ≡ rest_text (joined_record p.interval.seq p.interval.start p.interval.stop rest w)) → IsPlace w ((rests ++ rest) ++ 10 ∷ []) p
 place-put w rests rest p at some known plain whole =
-    let ended = ended-put rests rest p.rest at plain in
-    let is : rest_at ((rests ++ rest) ++ 10 ∷ []) p.rest ≡ rest = rest-put rests rest p.rest at plain in
+    let ended = ended-put rests rest (rest_start p) at plain in
+    let is : rest_at ((rests ++ rest) ++ 10 ∷ []) (rest_start p) ≡ rest = rest-put rests rest (rest_start p) at plain in
     record {
       some = some;
       known = known;
@@ -90,10 +90,10 @@ place-put w rests rest p at some known plain whole =
           ∙ ap (λ (r : List ℕ). rest_text (joined_record p.interval.seq p.interval.start p.interval.stop r w)) (sym is);
     }
 
-record-put : (w : ℕ) (rests rest : List ℕ) (p : Place) → p.rest ≡ length rests → HasNoFeed rest
+record-put : (w : ℕ) (rests rest : List ℕ) (p : Place) → rest_start p ≡ length rests → HasNoFeed rest
     → record_at w ((rests ++ rest) ++ 10 ∷ []) p ≡ joined_record p.interval.seq p.interval.start p.interval.stop rest w
 record-put w rests rest p at plain =
-    ap (λ (r : List ℕ). joined_record p.interval.seq p.interval.start p.interval.stop r w) (rest-put rests rest p.rest at plain)
+    ap (λ (r : List ℕ). joined_record p.interval.seq p.interval.start p.interval.stop r w) (rest-put rests rest (rest_start p) at plain)
 
 -- each place has a base
 pub all-based : (w : ℕ) (rests : List ℕ) (ps : List Place) → All (IsPlace w rests) ps → All HasBase ps
@@ -180,8 +180,14 @@ pub keys-kept : (w : ℕ) (rests more new : List ℕ) → 4 ≤ w → new ≡ re
 keys-kept w rests more new four is k h =
     subst (λ (r : List ℕ). IsPlace w r k × (record_at w r k ≡ record_at w rests k)) (sym is) (place-more w rests more k h, record-more w rests more k four h)
 
+-- also if the rests are padded before
+pub padded-kept : (held : HeldRests) (w : ℕ) (rests padded more new : List ℕ) → record { width = w; bytes = rests } ≡ held → 4 ≤ w → (pad : List ℕ) × (padded ≡ rests ++ pad) → new ≡ padded ++ more → AreKept held.width held.bytes w new
+padded-kept held w rests padded more new is four pad put =
+    subst (λ (h : HeldRests). AreKept h.width h.bytes w new) is
+    (keys-kept w rests (pad.0 ++ more) new four (put ∙ ap (λ (bytes : List ℕ). bytes ++ more) pad.1 ∙ append_assoc rests pad.0 more))
+
 -- the place of a record of more columns has that record, if its rest was put after the others
-pub key-put : (w : ℕ) (rests rest new : List ℕ) (at : ℕ) (p : Place) (r : RecordValue) → new ≡ (rests ++ rest) ++ 10 ∷ [] → at ≡ length rests → p ≡ place_at r at
+pub key-put : (w : ℕ) (rests rest new : List ℕ) (at : ℕ) (p : Place) (r : RecordValue) → new ≡ (rests ++ rest) ++ 10 ∷ [] → 4 * at ≡ length rests → p ≡ place_at r at
     → r.width ≡ w → IsWidth r.width → r.start < r.stop → HasNoFeed rest → codes "\t" ++ rest ≡ rest_text r → joined_record r.seq r.start r.stop rest r.width ≡ r
     → IsPlace w new p × (record_at w new p ≡ r)
 key-put w rests rest new at p r is from here wide known some plain text joined =
@@ -195,7 +201,7 @@ key-put w rests rest new at p r is from here wide known some plain text joined =
 -- ---- the rest at a place
 
 -- no line feed is in it
-pub plain-at : (w : ℕ) (rests : List ℕ) (p : Place) → 4 ≤ w → IsPlace w rests p → HasNoFeed (rest_at rests p.rest)
+pub plain-at : (w : ℕ) (rests : List ℕ) (p : Place) → 4 ≤ w → IsPlace w rests p → HasNoFeed (rest_at rests (rest_start p))
 plain-at w rests p four h =
     let e = h.ended four in
-    subst HasNoFeed (sym (rest-is rests p.rest e.rest e.others e.are e.plain)) e.plain
+    subst HasNoFeed (sym (rest-is rests (rest_start p) e.rest e.others e.are e.plain)) e.plain

@@ -1,6 +1,6 @@
 //! Places of records: their intervals, and where the rests of their lines begin.
 ghost use Rattle.std.specs.Prelude.{◌≡◌};
-ghost use Rattle.iv_places.specs.Inside.Places.{IsPlace, record_at, rest_at};
+ghost use Rattle.iv_places.specs.Inside.Places.{IsPlace, record_at, rest_at, rest_start};
 
 use bstr::ByteSlice;
 use iv_lines::{Interval, RecordRef};
@@ -10,7 +10,7 @@ use iv_lines::{Interval, RecordRef};
 pub struct Place {
     /// The record's interval, 0-based and half-open.
     pub interval: Interval,
-    /// The byte at which its rest begins. At width 3 it isn't looked at.
+    /// How many times four bytes are before its rest. At width 3 it isn't looked at.
     pub(crate) rest: u32,
 }
 
@@ -25,9 +25,9 @@ impl Place {
 
 /// The rest at a place: up to the next line feed. It is empty past the end.
 pub(crate) fn rest_at(rests: &[u8], place: Place) -> &[u8]
-    ensures { result.now ≡ rest_at rests.now place.rest }
+    ensures { result.now ≡ rest_at rests.now (rest_start place) }
 {
-    let from = place.rest as usize;
+    let from = 4 * place.rest as usize;
     if from > rests.len() {
         return &[];
     }

@@ -1,5 +1,5 @@
 //! The rests of the lines of records.
-ghost use Rattle.std.specs.Prelude.{◌≡◌, [], None, IfOk, cond, drop, nat_le};
+ghost use Rattle.std.specs.Prelude.{◌≡◌, ◌++◌, ◌%◌, ℕ, List, [], None, IfOk, OnOk, cond, drop, length, nat_le};
 ghost use Rattle.std.specs.Ordering.{is_eq};
 ghost use Rattle.iv_lines.specs.Fields.{columns as columns_of};
 ghost use Rattle.iv_lines.specs.Inside.RecordValue.{beside_cmp};
@@ -15,7 +15,8 @@ use std::alloc::{AllocError, Allocator, Global};
 use std::cmp::Ordering;
 use std::marker::Model;
 
-/// The rests of the lines of records, which are what follows the third TAB: a line feed ends each. At width 3 there are none.
+/// The rests of the lines of records, which are what follows the third TAB: a line feed ends each, and each begins at a multiple of four
+/// bytes. At width 3 there are none.
 #[derive(Drop)]
 pub struct Rests<A: Allocator = Global> {
     bytes: Vec<u8, A>,
@@ -83,7 +84,8 @@ impl<A: Allocator + Copy> Rests<A> {
         let Some(rest) = feature.rest() else {
             return Ok(Place::of_interval(feature.interval()));
         };
-        let Ok(from) = u32::try_from(self.bytes.len()) else {
+        pad(&mut self.bytes)?;
+        let Ok(from) = u32::try_from(self.bytes.len() / 4) else {
             return Err(AllocError);
         };
         self.bytes.extend_from_slice(rest)?;
@@ -122,6 +124,19 @@ impl<A: Allocator + Copy> Rests<A> {
     {
         compare(self.bytes.as_slice(), self.width, first, second).is_eq()
     }
+}
+
+/// Adds line feeds up to a multiple of four bytes.
+#[inline(always)]
+fn pad<A: Allocator>(bytes: &mut Vec<u8, A>) -> Result<(), AllocError>
+    ensures kept { (more : List ℕ) × (bytes.new.items ≡ bytes.old.items ++ more) }
+    ensures fours { OnOk result (length bytes.new.items % 4 ≡ 0) }
+{
+    let missing = (4 - bytes.len() % 4) % 4;
+    for _padded in 0..missing {
+        bytes.push(b'\n')?;
+    }
+    Ok(())
 }
 
 /// Compares the columns after the third of a record with those of a place. At width 3 no rest is looked at.

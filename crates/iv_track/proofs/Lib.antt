@@ -1,5 +1,6 @@
 pub mod CountedLemmas
-pub mod ToldLemmas
+pub mod GroupLemmas
+pub mod PackLemmas
 pub mod BuiltLemmas
 pub mod ClassLemmas
 pub mod Counts

@@ -1,6 +1,7 @@
 //! A track.
 ghost use Rattle.std.specs.Prelude.{◌≡◌, ◌+◌, ◌-◌, ◌*◌, ◌^◌, ◌<◌, ◌≤◌, [], length, Some, None, IfOk, IfErr, OnOk, OnErr, All, vec_len};
 ghost use Rattle.std.specs.List.{filter};
+ghost use Rattle.std.specs.Map.{values_of};
 ghost use Rattle.iv_lines.specs.Ordered.{AreInOrder, copies, ordered};
 ghost use Rattle.iv_lines.specs.Intervals.{record_of_interval};
 ghost use Rattle.iv_track.specs.Regions.{hits, longest, near};
@@ -17,8 +18,8 @@ use crate::region::Region;
 use crate::track_entries::TrackEntries;
 use crate::track_hits::TrackHits;
 use crate::track_records::TrackRecords;
-use iv_ledger::{Ledger, Meter};
-use iv_lines::{Fault, Interval, Record, RecordRef};
+use iv_ledger::{Ledger, Meter, Walk};
+use iv_lines::{Fault, HoldsRecords, Interval, Record, RecordRef};
 use iv_places::{Place, Places, Rests};
 use std::alloc::{AllocError, Allocator, Global};
 use std::marker::Model;
@@ -37,6 +38,8 @@ pub struct Track<A: Allocator + Copy = Global> {
     width: u8,
     // About how long the records are, for where a walk over hits begins.
     lengths: LengthClasses,
+    // How many different records were removed since the map was built: their rests are still held.
+    removed: u32,
 }
 
 impl<A: Allocator + Copy> Model for Track<A> {
@@ -67,6 +70,7 @@ impl<A: Allocator + Copy> Track<A> {
             limit,
             width,
             lengths: LengthClasses::new(),
+            removed: 0,
         }
     }
 
@@ -113,6 +117,7 @@ impl<A: Allocator + Copy> Track<A> {
             limit,
             width,
             lengths,
+            removed: 0,
         })
     }
 
@@ -242,7 +247,7 @@ impl<A: Allocator + Copy> Track<A> {
         ensures steps { TakesUpTo meter.old meter.new 1 }
     {
         TrackRecords {
-            entries: self.ledger.walk(&least_at(seq, start as u32), meter),
+            entries: self.entries_from(seq, start as u32, meter),
             held: None,
         }
     }
@@ -257,8 +262,25 @@ impl<A: Allocator + Copy> Track<A> {
         ensures step { meter.new ≡ ticked meter.old }
     {
         TrackEntries {
-            entries: self.ledger.walk(&least_at(seq, start as u32), meter),
+            entries: self.entries_from(seq, start as u32, meter),
         }
+    }
+
+    /// The entries of the map for the records on this sequence from this start on, and on later sequences. To begin is one step.
+    fn entries_from(
+        &self,
+        seq: u32,
+        start: u32,
+        meter: &mut Meter,
+    ) -> Walk<'_, Place, u32, A, ByRest<A>>
+        requires { start < 2 ^ 32 - 1 }
+        ensures records { expanded result ≡ filter (is_from seq start) self.now.records }
+        ensures each { length result ≡ different_records (filter (is_from seq start) self.now.records) }
+        ensures present { All (λ n. 0 < n) (values_of result) }
+        ensures ordered { AreInOrder self.now.records }
+        ensures step { meter.new ≡ ticked meter.old }
+    {
+        self.ledger.walk(&least_at(seq, start), meter)
     }
 
     /// The records that share a position with a region, copies repeated.
@@ -316,7 +338,7 @@ impl<A: Allocator + Copy> Track<A> {
             };
         };
         TrackRecords {
-            entries: self.ledger.walk(&least_at(seq, start), meter),
+            entries: self.entries_from(seq, start, meter),
             held: None,
         }
     }
@@ -348,11 +370,45 @@ impl<A: Allocator + Copy> Track<A> {
         self.lengths.remove(length_class(feature));
         if count == 1 {
             self.ledger.take(feature, meter);
+            self.removed = self.removed.saturating_add(1);
         } else {
             let _ = self.ledger.set(feature, count - 1, meter);
         }
         self.len -= 1;
         Ok(())
+    }
+
+    /// Frees the columns after the third of removed records, if more were removed than there are records.
+    ///
+    /// It goes over all records then, a step for each different one, and takes memory for another map of them. Without it nothing
+    /// changes.
+    pub fn pack(&mut self, alloc: A, meter: &mut Meter)
+        ensures { self.new ≡ self.old }
+    {
+        if self.width == 3 || self.removed <= self.len || self.len > self.limit {
+            return;
+        }
+        if let Ok(packed) = self.packed(alloc, meter) {
+            *self = packed;
+        }
+    }
+
+    /// The same track, without what is held of removed records. It holds at most its limit.
+    fn packed(&self, alloc: A, meter: &mut Meter) -> Result<Track<A>, AllocError>
+        requires { length self.now.records ≤ self.now.limit }
+        ensures { IfOk result (λ packed. packed ≡ self.now) }
+    {
+        if self.len == 0 {
+            return Ok(Track::new(alloc, self.width, self.limit));
+        }
+        let mut places: Places<A> = Places::empty(alloc);
+        let mut records = self.walk(0, 0, meter);
+        while let Some(record) = records.next(meter) {
+            places.hold(&record)?;
+        }
+        // After this read the width is known to be that of each record.
+        let _width = places.width();
+        Track::from_places(alloc, self.limit, places)
     }
 
     /// Adds the new record, of the track's width, and takes one copy of the old one. At most 8 steps.

@@ -138,8 +138,3 @@ pub second-of_file : (g : Sequences) (file : Option Bed) (limit : ℕ) → IfSom
     → IfSome (option_map (λ f. tracked f limit) file) (IsTrackOn g)
 second-of_file g None limit known fit few = tt
 second-of_file g (Some file) limit known fit few = track-of_file g file limit known fit few
-
--- the records of a file have its width
-pub widths-of_file : (g : Sequences) (file : Option Bed) → IfSome file (λ f. All (Fits g f.width) f.records) → IfSome file (λ f. All (λ r. r.width ≡ f.width) f.records)
-widths-of_file g None fit = tt
-widths-of_file g (Some file) fit = λ i r within. (fit i r within).width_is

@@ -1,5 +1,5 @@
 -- Edits of the two tracks of a session: what an edit leaves, how many steps it takes, and why it is refused; and the records of the second file.
-use Rattle.std.specs.Prelude.{ℕ, ◌≡◌, ◌≤◌, ◌<◌, ◌⊎◌, ◌+◌, List, Option, None, Some, Result, Ok, Err, IsSomeAnd, length}
+use Rattle.std.specs.Prelude.{ℕ, ◌≡◌, ◌≤◌, ◌<◌, ◌+◌, List, Option, None, Some, Result, Ok, Err, IsSomeAnd, length}
 use Rattle.std.specs.Option.{ok_or, option_map}
 use Rattle.iv_lines.specs.Genome.{Sequences}
 use Rattle.iv_lines.specs.Ordered.{added, copies}
@@ -16,10 +16,6 @@ use Rattle.iv_workspace.specs.declared.session.edits.Edit.{Edit}
 use Rattle.iv_workspace.specs.declared.session.edits.Edit.TheVariants as edit
 use Rattle.iv_workspace.specs.declared.session.edits.Target.{Target}
 use Rattle.iv_workspace.specs.declared.session.edits.Target.TheVariants as target
-
--- memory ran out for a copy of a record of the line, which needs none at width 3
-abbrev pub RefusesCopy : Tracked → Fault → Type 0
-RefusesCopy t f = (f ≡ fault.NoMemory) × (3 < t.width)
 
 -- the record that a line means at the width of a second track, or its first fault: that there is no such track is reported first
 abbrev pub read_beside : Sequences → Option Tracked → List ℕ → Result RecordValue Fault
@@ -60,9 +56,9 @@ edited (edit.Replace r q) = with_replaced r q
 
 -- why an edit of a track is refused
 abbrev pub RefusesEdit : Edit → Tracked → Fault → Type 0
-RefusesEdit (edit.Add r) t f = RefusesCopy t f ⊎ RefusesAdd t r f
-RefusesEdit (edit.Remove r) t f = RefusesCopy t f ⊎ RefusesRemove t r f
-RefusesEdit (edit.Replace r q) t f = RefusesCopy t f ⊎ RefusesReplace t r q f
+RefusesEdit (edit.Add r) t = RefusesAdd t r
+RefusesEdit (edit.Remove r) t = RefusesRemove t r
+RefusesEdit (edit.Replace r q) t = RefusesReplace t r q
 
 -- the edit is done of a track that has what it needs: that track is edited, and all else stays; but an edit of the session's own
 -- track may leave views stale

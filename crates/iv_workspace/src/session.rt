@@ -55,7 +55,6 @@ fn second_of<A: Allocator + Copy>(
     file: Option<Places<A>>,
     limit: u32,
 ) -> Result<Option<Second<A>>, AllocError>
-    requires widths { IfSome file (λ f. All (λ r. r.width ≡ f.width) f.records) }
     requires few { IfSome file (λ f. length f.records ≤ limit) }
     requires bounded { limit ≤ most_records }
     ensures value { IfOk result (λ second. second ≡ option_map (λ f. tracked f limit) file) }

@@ -152,6 +152,30 @@ fn copies_in_order(rt: HostRuntime) -> Result<(), Fail> {
     holds_of(are_found(&rt, &genome, &mut track))
 }
 
+/// Whether a track of three records, from which others were taken, is the same after it is packed.
+fn is_packed(rt: &HostRuntime, genome: &Genome, track: &mut Track) -> Result<bool, Fail> {
+    add_all(rt, genome, track, &[B, A, A])?;
+    for _removed in 0..4 {
+        add_all(rt, genome, track, &[C])?;
+        if fault_of(rt, genome, track, Edit::Remove(C))?.is_some() {
+            return Err(Fail::new("a removal is refused"));
+        }
+    }
+    track.pack(rt.alloc(), &mut Meter::new());
+    let first = next_on(track, &record(genome, B)?, false);
+    let second = next_on(track, &record(genome, A)?, true);
+    let fault = fault_of(rt, genome, track, Edit::Remove(C))?;
+    let is_same = first == Some((b'a', 2)) && second == Some((b'b', 1));
+    Ok(is_same && fault == Some(EditFault::Absent) && track.len() == 3)
+}
+
+#[test]
+fn packed_track(rt: HostRuntime) -> Result<(), Fail> {
+    let genome = Genome::parse(rt.alloc(), SIZES)?;
+    let mut track = Track::new(rt.alloc(), 4, 9);
+    holds_of(is_packed(&rt, &genome, &mut track))
+}
+
 /// The track of the records of a BED file.
 fn track_of(rt: &HostRuntime, genome: &Genome, text: &[u8]) -> Result<Track, Fail> {
     let file = BedFile::parse(rt.alloc(), genome, 3, 99, text)?;

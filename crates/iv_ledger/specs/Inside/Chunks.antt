@@ -29,6 +29,13 @@ module _ {X Z : Type 0} where
   abbrev pub AreFilled : List (Vec X Z) → Type 0
   AreFilled chunks = All IsFilled chunks
 
+  -- chunks, and entries after theirs that are few enough for one chunk: so many entries in all
+  pub record ArePieces (chunks : List (Vec X Z)) (last : Vec X Z) (len : ℕ) : Type 0 where
+    pub filled : AreFilled chunks
+    pub few : vec_len last ≤ most_at_once
+    pub counted : len ≡ length (concatenated chunks ++ vec_items last)
+    pub small : len < 2 ^ 63
+
   -- the entries before an index, and those from it on
   abbrev pub before : List (Vec X Z) → EntryIndex → List X
   before chunks p = concatenated (take p.chunk chunks) ++ take p.index (concatenated (drop p.chunk chunks))

@@ -1,5 +1,5 @@
 -- Records as places beside the rests of their lines.
-use Rattle.std.specs.Prelude.{◌≡◌, ◌<◌, ◌≤◌, ◌==◌, ◌++◌, ℕ, All, List, ◌∷◌, [], codes, cond, drop, map}
+use Rattle.std.specs.Prelude.{◌≡◌, ◌*◌, ◌<◌, ◌≤◌, ◌==◌, ◌++◌, ℕ, All, List, ◌∷◌, [], codes, cond, drop, map}
 use Rattle.std.specs.List.Sorted.{IsSortedBy}
 use Rattle.std.specs.Ordering.{is_lt}
 use Rattle.iv_lines.specs.Bytes.{line_feed}
@@ -26,15 +26,19 @@ rest_in (b ∷ bs) = cond (b == line_feed) [] (b ∷ rest_in bs)
 unfoldable pub rest_at : List ℕ → ℕ → List ℕ
 rest_at rests at = rest_in (drop at rests)
 
+-- the byte at which the rest of a place begins: each begins at a multiple of four bytes
+abbrev pub rest_start : Place → ℕ
+rest_start p = 4 * p.rest
+
 -- the record at a place
 abbrev pub record_at : ℕ → List ℕ → Place → RecordValue
-record_at width rests p = joined_record p.interval.seq p.interval.start p.interval.stop (rest_at rests p.rest) width
+record_at width rests p = joined_record p.interval.seq p.interval.start p.interval.stop (rest_at rests (rest_start p)) width
 
 -- the records at places
 abbrev pub records_at : ℕ → List ℕ → List Place → List RecordValue
 records_at width rests places = map (record_at width rests) places
 
--- the place of a record whose rest begins at this byte
+-- the place of a record whose rest begins after so many times four bytes
 abbrev pub place_at : RecordValue → ℕ → Place
 place_at r at = record { interval = interval_of r; rest = at }
 
@@ -62,8 +66,8 @@ pub record IsEnded (rests : List ℕ) (at : ℕ) : Type 0 where
 pub record IsPlace (width : ℕ) (rests : List ℕ) (p : Place) : Type 0 where
   pub some : HasBase p
   pub known : IsWidth width
-  pub ended : 4 ≤ width → IsEnded rests p.rest
-  pub whole : 4 ≤ width → codes "\t" ++ rest_at rests p.rest ≡ rest_text (record_at width rests p)
+  pub ended : 4 ≤ width → IsEnded rests (rest_start p)
+  pub whole : 4 ≤ width → codes "\t" ++ rest_at rests (rest_start p) ≡ rest_text (record_at width rests p)
 
 -- the places are those of records of this width, which is one of a record
 pub record ArePlaces (width : ℕ) (rests : List ℕ) (places : List Place) : Type 0 where

@@ -112,8 +112,7 @@ impl<A: Allocator + Copy> Session<A> {
 
     /// Adds a record, and then repairs each view. A view whose repair runs out of memory becomes stale.
     ///
-    /// `Full` comes exactly if the track holds its limit, unless memory runs out, which a record that is there needs none of.
-    /// A refusal changes nothing.
+    /// `Full` comes exactly if the track holds its limit, and `NoMemory` only for a record that is not there yet. A refusal changes nothing.
     pub fn add(&mut self, feature: &RecordRef<'_>) -> Result<Accepted, EditFault>
         requires { Fits self.old.genome self.old.track.width feature.now }
         ensures ok { IfOk result (IsDone Target.First (Edit.Add feature.now) self.old self.new) }
@@ -125,8 +124,7 @@ impl<A: Allocator + Copy> Session<A> {
 
     /// Takes one copy of a record out, and then repairs each view. A view whose repair runs out of memory becomes stale.
     ///
-    /// `Absent` comes exactly if there is no copy, unless memory runs out, which is reported only for the copy of
-    /// the record that is searched for, never at width 3. A refusal changes nothing.
+    /// `Absent` comes exactly if there is no copy, and no other fault does: it takes no memory. A refusal changes nothing.
     pub fn remove(&mut self, feature: &RecordRef<'_>) -> Result<Accepted, EditFault>
         requires { Fits self.old.genome self.old.track.width feature.now }
         ensures ok { IfOk result (IsDone Target.First (Edit.Remove feature.now) self.old self.new) }
@@ -139,8 +137,8 @@ impl<A: Allocator + Copy> Session<A> {
     /// Adds the new record, in a full track too, and repairs each view; then takes one copy of the old record out, and
     /// repairs each view again. A view whose repair runs out of memory becomes stale.
     ///
-    /// `Absent` comes exactly if there is no copy of the old record, unless memory runs out. A record that is
-    /// there can be replaced by itself. A refusal changes nothing.
+    /// `Absent` comes exactly if there is no copy of the old record, and `NoMemory` only for a new record that is not there yet. A record
+    /// that is there can be replaced by itself. A refusal changes nothing.
     pub fn replace(
         &mut self,
         old: &RecordRef<'_>,
@@ -186,8 +184,8 @@ impl<A: Allocator + Copy> Session<A> {
 
     /// Adds a record to the second file, which exists. No view has a state of it, so none becomes stale. At most 16 steps.
     ///
-    /// `Full` comes exactly if the second file holds its limit, unless memory runs out, which a record that is there needs none of.
-    /// A refusal changes nothing.
+    /// `Full` comes exactly if the second file holds its limit, and `NoMemory` only for a record that is not there yet. A refusal changes
+    /// nothing.
     pub fn add_second(&mut self, feature: &RecordRef<'_>) -> Result<Accepted, EditFault>
         requires { FitsSecond self.old feature.now }
         ensures ok { IfOk result (IsDone Target.Second (Edit.Add feature.now) self.old self.new) }
@@ -199,8 +197,7 @@ impl<A: Allocator + Copy> Session<A> {
 
     /// Takes one copy of a record out of the second file, which exists. No view becomes stale. At most 16 steps.
     ///
-    /// `Absent` comes exactly if there is no copy, unless memory runs out, which is reported only for the copy of
-    /// the record that is searched for, never at width 3. A refusal changes nothing.
+    /// `Absent` comes exactly if there is no copy, and no other fault does: it takes no memory. A refusal changes nothing.
     pub fn remove_second(&mut self, feature: &RecordRef<'_>) -> Result<Accepted, EditFault>
         requires { FitsSecond self.old feature.now }
         ensures ok { IfOk result (IsDone Target.Second (Edit.Remove feature.now) self.old self.new) }
@@ -213,8 +210,8 @@ impl<A: Allocator + Copy> Session<A> {
     /// Takes one copy of the old record out of the second file, which exists, and adds the new one, even if it is full. No view
     /// becomes stale. At most 16 steps.
     ///
-    /// `Absent` comes exactly if there is no copy of the old record, unless memory runs out. A record that is
-    /// there can be replaced by itself. A refusal changes nothing.
+    /// `Absent` comes exactly if there is no copy of the old record, and `NoMemory` only for a new record that is not there yet. A record
+    /// that is there can be replaced by itself. A refusal changes nothing.
     pub fn replace_second(
         &mut self,
         old: &RecordRef<'_>,

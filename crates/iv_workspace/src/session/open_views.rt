@@ -88,7 +88,18 @@ impl<A: Allocator + Copy> Session<A> {
         let genome = &self.genome;
         self.views
             .open(self.alloc, name, view, &self.track, genome, &mut meter)?;
+        self.pack(&mut meter);
         Ok(())
+    }
+
+    /// Frees what is held of removed records, if more were removed than there are records. All stays as it is.
+    fn pack(&mut self, meter: &mut Meter)
+        ensures { self.new ≡ self.old }
+    {
+        self.track.pack(self.alloc, meter);
+        if let Some(second) = &mut self.second {
+            second.pack(meter);
+        }
     }
 
     /// Closes the view of this name. The others keep their order, and all else stays as it is.

@@ -1,15 +1,10 @@
-use Rattle.std.proofs.Common.{◌≡◌, ◌∙◌, ℕ, List, Option, sym, ap₂, subst}
-use Rattle.std.specs.Prelude.{All, IfSome}
-use Rattle.iv_lines.specs.Ordered.{ordered}
-use Rattle.iv_lines.specs.RecordValue.{RecordValue}
+use Rattle.std.proofs.Common.{◌≡◌, Option, sym, subst}
+use Rattle.std.specs.Prelude.{IfSome}
 use Rattle.iv_track.specs.Tracked.{Tracked}
 use Rattle.iv_workspace.specs.States.{tracked}
 use Rattle.iv_workspace.specs.Inside.States.{IsTrackOn}
-use Rattle.iv_workspace.proofs.SessionLemmas.{track-of_file, second-of_file, widths-of_file}
+use Rattle.iv_workspace.proofs.SessionLemmas.{second-of_file, track-of_file}
 use Rattle.iv_workspace.proofs.session.Session.from_places.Goals as goal
-
-pub second_of-requires-clause-widths : goal.second_of-requires-clause-widths
-second_of-requires-clause-widths g c = widths-of_file c.args.genome c.args.second c.requires.second_fit
 
 pub invariant_of-result : goal.invariant_of-result
 invariant_of-result g c =

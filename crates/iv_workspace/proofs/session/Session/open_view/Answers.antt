@@ -44,6 +44,7 @@ returns-clause-ok g c =
     let free : is_some (view_named (all_seen i.views) name) ≡ false = sym c.if-contains.ensures.seen in (
       view,
       no-name_fault _ c.args.self.now name arguments view c.self.view_is good free few said,
-      views-changed (λ views. views ++ (name, record { view = view; stale = false }) ∷ []) _ c.args.self.now (all_seen c.open.new.self) c.self.view_is
+      c.pack.ensures
+          ∙ views-changed (λ views. views ++ (name, record { view = view; stale = false }) ∷ []) _ c.args.self.now (all_seen c.open.new.self) c.self.view_is
           c.in_ok-open.ensures.ok,
     )

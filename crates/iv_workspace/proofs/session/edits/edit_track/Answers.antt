@@ -1,11 +1,10 @@
 use Rattle.std.specs.Prelude.{IfErr}
-use Rattle.std.proofs.Common.{◌≡◌, ◌∙◌, ◌<◌, List, inr, ap, sym, subst, arith}
+use Rattle.std.proofs.Common.{◌≡◌, ◌∙◌, ◌<◌, List, ap, sym, subst, arith}
 use Rattle.std.proofs.lemmas.Result.{err_from_is_err_and}
 use Rattle.iv_lines.specs.Ordered.{added, copies}
 use Rattle.iv_lines.specs.Read.{Fits}
 use Rattle.iv_lines.specs.RecordValue.{RecordValue}
 use Rattle.iv_lines.specs.declared.fault.Fault.TheVariants as fault
-use Rattle.iv_track.specs.Edits.{RefusesAdd, without_record}
 use Rattle.iv_ledger.specs.Steps.{TakesUpTo}
 use Rattle.iv_track.specs.Tracked.{Tracked}
 use Rattle.iv_track.proofs.Edits.{refused-absent}
@@ -25,7 +24,7 @@ returns-in_err-add-in-Add-clause-why g c =
     let t = c.args.track.now in
     let p = err_from_is_err_and c.from_residual.result c.from_residual.ensures.1 in
     subst (λ (e : Edit). IfErr c.from_residual.result (RefusesEdit e t)) (sym c.in-Add.is)
-    (rw (p.1, p.2) (inr c.in_err-add-in-Add.ensures.why))
+    (rw (p.1, p.2) c.in_err-add-in-Add.ensures.why)
 
 pub repair-requires-clause-fit : goal.repair-requires-clause-fit
 repair-requires-clause-fit g c =
@@ -73,8 +72,7 @@ pub returns-then-copies-eq0-clause-why : goal.returns-then-copies-eq0-clause-why
 returns-then-copies-eq0-clause-why g c =
     let t = c.args.track.now in
     let none : copies t.records c.in-Replace.old ≡ 0 = omega (arith, c.copies.ensures.value, c.if-copies-eq0.true) in
-    subst (λ (e : Edit). RefusesEdit e t fault.Absent) (sym c.in-Replace.is)
-    (inr none)
+    subst (λ (e : Edit). RefusesEdit e t fault.Absent) (sym c.in-Replace.is) none
 
 pub returns-in_err-stage-in-Replace-clause-why : goal.returns-in_err-stage-in-Replace-clause-why
 returns-in_err-stage-in-Replace-clause-why g c =
@@ -82,7 +80,7 @@ returns-in_err-stage-in-Replace-clause-why g c =
     let p = err_from_is_err_and c.from_residual-in_err-stage-in-Replace.result c.from_residual-in_err-stage-in-Replace.ensures.1 in
     let there : 0 < copies t.records c.in-Replace.old = omega (arith, c.copies.ensures.value, c.if-copies-eq0.false) in
     subst (λ (e : Edit). IfErr c.from_residual-in_err-stage-in-Replace.result (RefusesEdit e t)) (sym c.in-Replace.is)
-    (rw (p.1, p.2) (inr (there, c.in_err-stage-in-Replace.ensures.memory)))
+    (rw (p.1, p.2) (there, c.in_err-stage-in-Replace.ensures.memory))
 
 pub repair-requires-in-Replace-clause-fit : goal.repair-requires-in-Replace-clause-fit
 repair-requires-in-Replace-clause-fit g c =

@@ -8,10 +8,12 @@ use Rattle.std.specs.Ordering.{is_le}
 use Rattle.iv_track.proofs.EntryIndexLemmas.{filter-least}
 use Rattle.iv_track.specs.Copies.{expanded}
 use Rattle.iv_track.specs.Tracked.{Tracked, different_records, is_from}
+use Rattle.iv_lines.specs.Ordered.{AreInOrder}
+use Rattle.iv_track.proofs.Counts.{in_order-expanded}
 use Rattle.iv_track.proofs.DifferentLemmas.{different-expanded, keys-filter}
 use Rattle.iv_track.proofs.WalkLemmas.{expanded-filter, present-filter}
-use Rattle.iv_track.proofs.track.Track.entries.Given as given
-use Rattle.iv_track.proofs.track.Track.entries.Goals as goal
+use Rattle.iv_track.proofs.track.Track.entries_from.Given as given
+use Rattle.iv_track.proofs.track.Track.entries_from.Goals as goal
 
 -- the entries of the walk are those of the map from there on
 passed : (g : given.Over) (c : goal.After-walk g) → c.walk.result ≡ filter (λ e. is_from c.args.seq c.args.start e.0) c.self.inside.ledger
@@ -30,6 +32,13 @@ meant g c =
 
 pub returns-clause-records : goal.returns-clause-records
 returns-clause-records g c = ap expanded (passed g c) ∙ meant g c
+
+pub returns-clause-present : goal.returns-clause-present
+returns-clause-present g c = rw (passed g c) (present-filter (λ e. is_from c.args.seq c.args.start e.0) c.self.inside.ledger c.self.invariant.track.present)
+
+pub returns-clause-ordered : goal.returns-clause-ordered
+returns-clause-ordered g c =
+    subst (λ (t : Tracked). AreInOrder t.records) c.self.view_is (in_order-expanded record_cmp records_total c.self.inside.ledger c.self.invariant.track.ordered)
 
 pub returns-clause-each : goal.returns-clause-each
 returns-clause-each g c =
