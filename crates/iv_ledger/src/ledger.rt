@@ -281,17 +281,6 @@ impl<K: Drop, V: Drop, A: Allocator + Clone + Drop, O: Order<K> + Drop> Ledger<K
         Some((self.order.lend(&entry.0), &entry.1))
     }
 
-    /// All entries, in order. It is no step.
-    pub fn all(&self) -> Walk<'_, K, V, A, O>
-        ensures { result ≡ self.now }
-    {
-        Walk {
-            order: &self.order,
-            rest: &[],
-            later: &self.chunks,
-        }
-    }
-
     /// A walk over no entry.
     pub fn none(&self) -> Walk<'_, K, V, A, O>
         ensures { result ≡ [] }
@@ -309,7 +298,11 @@ impl<K: Drop, V: Drop, A: Allocator + Clone + Drop, O: Order<K> + Drop> Ledger<K
         ensures step { meter.new ≡ ticked meter.old }
     {
         meter.tick();
-        self.all()
+        Walk {
+            order: &self.order,
+            rest: &[],
+            later: &self.chunks,
+        }
     }
 
     /// The entries from a key on, in order. Beginning is one step, and each call of the walk's `next` another.

@@ -61,6 +61,7 @@ impl<'a, K, V, A: Allocator, O: Order<K>> Walk<'a, K, V, A, O> {
     }
 
     /// The next entry, `None` after the last. Each call is one step, the last one too.
+    #[inline(always)]
     pub fn next(&mut self, meter: &mut Meter) -> Option<(O::Lent, &'a V)>
     where
         O: Lends<'a, K>,
@@ -72,7 +73,8 @@ impl<'a, K, V, A: Allocator, O: Order<K>> Walk<'a, K, V, A, O> {
     }
 
     /// The next entry, `None` after the last. It is no step.
-    pub fn advance(&mut self) -> Option<(O::Lent, &'a V)>
+    #[inline(always)]
+    fn advance(&mut self) -> Option<(O::Lent, &'a V)>
     where
         O: Lends<'a, K>,
         ensures { TakesFirst (lent_entry O.lent) self.old result self.new }

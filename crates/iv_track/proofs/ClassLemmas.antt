@@ -1,22 +1,27 @@
 -- About how long the records of a track are, with one more and with one less.
-use Rattle.std.proofs.Common.{◌≡◌, ℕ, ◌+◌, ◌-◌, ◌*◌, ◌^◌, ◌<◌, ◌≤◌, ◌==◌, inl, inr, Bool, true, false, cond, List, [], ◌∷◌, refl, sym, ap, ◌∙◌, subst, arith, length, suc, eq-eqb}
+use Rattle.std.proofs.Common.{◌≡◌, ℕ, ◌+◌, ◌-◌, ◌*◌, ◌^◌, ◌<◌, ◌≤◌, ◌==◌, inl, inr, Bool, true, false, cond, List, [], ◌∷◌, refl, sym, ap, ◌∙◌, subst, arith, ◌++◌, length, map, take, get_or, suc, eq-eqb}
 use Rattle.std.specs.Prelude.{All, count_by, replicate, slice_index_or, slice_set}
 use Rattle.std.specs.Map.{keys_of}
+use Rattle.std.specs.Int.Count.{count_leading_zeros}
 use Rattle.std.proofs.lemmas.Bool.{cases_Bool, cases_lt, eqb-true, eqb-false, cond-true, cond-false}
 use Rattle.std.proofs.lemmas.Nat.{leading_top}
-use Rattle.std.proofs.lemmas.List.{get_or-replicate, get_or_past, get_or-set_same, get_or-set_other, length-set}
-use Rattle.std.proofs.lemmas.List.Elements.{All-from_recursion, recursion_from_All}
-use Rattle.std.proofs.lemmas.List.Sums.{sum_by-cons, count_by-le-length}
+use Rattle.std.proofs.lemmas.List.{get_or-replicate, get_or_past, get_or-set_same, get_or-set_other, get_or-map, length-map, length-set, take_more}
+use Rattle.std.proofs.lemmas.List.Elements.{All-from_recursion, All-push, recursion_from_All}
+use Rattle.std.proofs.lemmas.List.Sums.{sum_by-cons, sum_by_push, count_by-le-length}
 use Rattle.std.proofs.Math.ListN.{length-replicate}
 use Rattle.std.proofs.Math.Nat.{two-pow-succ}
 use Rattle.iv_lines.specs.Ordered.{AreInOrder, added, copies}
 use Rattle.iv_lines.specs.RecordValue.{RecordValue, IsPlaced, record_cmp}
+use Rattle.iv_lines.specs.Intervals.{interval_of, record_of_interval}
+use Rattle.iv_lines.specs.declared.interval.Interval.{Interval}
+use Rattle.iv_places.specs.Inside.Places.{HasBase, interval_in}
+use Rattle.iv_places.specs.declared.place.Place.{Place}
 use Rattle.iv_lines.proofs.ListLemmas.{Mem, all-mem, mem-all}
 use Rattle.iv_track.specs.Copies.{expanded}
 use Rattle.iv_track.specs.Regions.{longest}
 use Rattle.iv_track.specs.Tracked.{removed}
 use Rattle.iv_track.specs.Inside.LengthClasses.{length_class, with_class, AreClasses}
-use Rattle.iv_track.proofs.Counts.{all-expanded, count-added, count-front}
+use Rattle.iv_track.proofs.Counts.{all-expanded, count-added}
 use Rattle.iv_track.proofs.Edits.{added-removed}
 use Rattle.iv_track.proofs.RegionLemmas.{all-longest}
 
@@ -99,46 +104,49 @@ classes-removed counts records r a order there within = record {
   );
 }
 
--- ---- the entries of a map, one after another
+-- ---- records, one after another
 
--- all records but those that are left are counted
-pub record AreCountedBut (counts : List ℕ) (left records : List RecordValue) : Type 0 where
-  pub classes : length counts ≡ 33
-  pub counted : (k : ℕ) → slice_index_or counts k 0 + with_class left k ≡ with_class records k
+-- the first records are counted, and placed
+pub record AreCountedTo (counts : List ℕ) (records : List RecordValue) (i : ℕ) : Type 0 where
+  pub counted : AreClasses counts (take i records)
+  pub placed : All IsPlaced (take i records)
 
-pub counted-begin : (counts : List ℕ) (records : List RecordValue) → AreClasses counts [] → AreCountedBut counts records records
-counted-begin counts records a = record { classes = a.classes; counted = λ k. omega (arith, a.counted k) }
+-- one more, which has this place
+pub counted-one : (counts new : List ℕ) (records : List RecordValue) (places : List Place) (d : Place) (i c : ℕ) → map interval_in places ≡ map interval_of records → i < length places
+    → HasBase (get_or places i d) → (get_or places i d).interval.seq < 2 ^ 32 → (get_or places i d).interval.stop < 2 ^ 32
+    → c ≡ 32 - count_leading_zeros 32 ((get_or places i d).interval.stop - (get_or places i d).interval.start) → c < 33 → new ≡ slice_set counts c (slice_index_or counts c 0 + 1)
+    → AreCountedTo counts records i → AreCountedTo new records (i + 1)
+counted-one counts new records places d i c same within based seq stop class low is a = by (get_or records i (record_of_interval d.interval)) refl
+  where
+    within_too : i < length records
+    within_too = omega (arith, within, ap length same, length-map places interval_in, length-map records interval_of)
 
-pub counted-room : (counts : List ℕ) (left after : List (RecordValue × ℕ)) (records : List RecordValue) (r : RecordValue) (n : ℕ) → AreCountedBut counts (expanded left) records → left ≡ (r, n) ∷ after
-    → slice_index_or counts (length_class r) 0 + n ≤ length records
-counted-room counts left after records r n a first =
-    omega (
-      arith,
-      a.counted (length_class r),
-      count_by-le-length (λ q. length_class q == length_class r) records,
-      ap (λ (l : List (RecordValue × ℕ)). with_class (expanded l) (length_class r)) first,
-      count-front (λ q. length_class q == length_class r) n r (expanded after),
-      ap {B = ℕ} (λ b. cond b n 0) (eq-eqb (length_class r) (length_class r) refl),
-    )
-
-pub counted-next : (counts : List ℕ) (left after : List (RecordValue × ℕ)) (records : List RecordValue) (r : RecordValue) (n : ℕ) → AreCountedBut counts (expanded left) records → left ≡ (r, n) ∷ after → length_class r < 33
-    → AreCountedBut (slice_set counts (length_class r) (slice_index_or counts (length_class r) 0 + n)) (expanded after) records
-counted-next counts left after records r n a first within = record {
-  classes = length-set counts (length_class r) (slice_index_or counts (length_class r) 0 + n) ∙ a.classes;
-  counted = λ k. omega (
-    arith,
-    raised counts (length_class r) n k (omega (arith, a.classes, within)),
-    a.counted k,
-    ap (λ (l : List (RecordValue × ℕ)). with_class (expanded l) k) first,
-    count-front (λ q. length_class q == k) n r (expanded after),
-  );
-}
-
-pub counted-all : (counts : List ℕ) (left : List (RecordValue × ℕ)) (records : List RecordValue) → AreCountedBut counts (expanded left) records → left ≡ [] → AreClasses counts records
-counted-all counts left records a none = record {
-  classes = a.classes;
-  counted = λ k. omega (arith, a.counted k, ap (λ (l : List (RecordValue × ℕ)). with_class (expanded l) k) none);
-}
+    by : (r : RecordValue) → r ≡ get_or records i (record_of_interval d.interval) → AreCountedTo new records (i + 1)
+    by r at =
+        let interval : interval_of r ≡ (get_or places i d).interval =
+        ap interval_of at ∙ sym (get_or-map interval_of records i (record_of_interval d.interval) d.interval within_too)
+        ∙ sym (ap (λ (l : List Interval). get_or l i d.interval) same) ∙ get_or-map interval_in places i d d.interval within in
+        let one : take (i + 1) records ≡ take i records ++ r ∷ [] = take_more records i (record_of_interval d.interval) within_too ∙ ap (λ (q : RecordValue). take i records ++ q ∷ []) (sym at) in
+        let known : c ≡ length_class r = class ∙ (λ j. 32 - count_leading_zeros 32 ((sym interval j).stop - (sym interval j).start)) in
+        record {
+          counted = record {
+            classes = ap {B = ℕ} length is ∙ length-set counts c (slice_index_or counts c 0 + 1) ∙ a.counted.classes;
+            counted = λ k. omega (
+              arith,
+              ap (λ (l : List ℕ). slice_index_or l k 0) is,
+              raised counts c 1 k (omega (arith, a.counted.classes, low)),
+              a.counted.counted k,
+              ap (λ (l : List RecordValue). with_class l k) one,
+              sum_by_push (λ (q : RecordValue). cond (length_class q == k) 1 0) (take i records) r,
+              ap {B = ℕ} (λ (n : ℕ). cond (n == k) 1 0) known,
+            );
+          };
+          placed = subst (All IsPlaced) (sym one) (All-push IsPlaced (take i records) r a.placed (record {
+            some = subst (λ (x : Interval). x.start < x.stop) (sym interval) based;
+            sequence = subst (λ (x : Interval). x.seq < 2 ^ 32) (sym interval) seq;
+            stop = subst (λ (x : Interval). x.stop < 2 ^ 32) (sym interval) stop;
+          }));
+        }
 
 -- ---- a bound of all lengths
 

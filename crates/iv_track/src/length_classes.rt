@@ -1,16 +1,11 @@
 //! About how long the records of a track are.
 ghost use Rattle.std.specs.Prelude.{◌≡◌, ◌+◌, ◌-◌, ◌^◌, ◌<◌, ◌≤◌, ℕ, [], All, length, slice_index_or, slice_set};
 ghost use Rattle.std.specs.Int.Count.{count_leading_zeros};
-ghost use Rattle.std.specs.Map.{keys_of};
 ghost use Rattle.iv_lines.specs.RecordValue.{IsPlaced};
-ghost use Rattle.iv_track.specs.Copies.{expanded};
 ghost use Rattle.iv_track.specs.Inside.LengthClasses.{AreClasses, length_class};
 
-use crate::by_rest::ByRest;
-use iv_ledger::Walk;
-use iv_lines::RecordRef;
-use iv_places::Place;
-use std::alloc::Allocator;
+use iv_lines::{Interval, RecordRef};
+use iv_places::PlacedRecords;
 use std::marker::Model;
 
 /// How many binary digits the number of a record's positions has, 1 to 32.
@@ -56,28 +51,32 @@ impl LengthClasses {
         LengthClasses { counts: [0; 33] }
     }
 
-    /// The classes of the records of a map, each with the number of its copies.
-    pub(crate) fn of<A: Allocator + Copy>(entries: Walk<'_, Place, u32, A, ByRest<A>>) -> Self
-        requires { length (expanded entries) < 2 ^ 32 }
-        ensures classes { AreClasses result (expanded entries.entry) }
-        ensures placed { All IsPlaced (keys_of entries.entry) }
+    /// The classes of records.
+    pub(crate) fn of(records: &PlacedRecords<'_>) -> Self
+        requires { length records.now < 2 ^ 32 }
+        ensures classes { AreClasses result records.now }
+        ensures placed { All IsPlaced records.now }
     {
         let mut classes = LengthClasses::new();
-        let mut entries = entries;
-        while let Some((feature, copies)) = entries.advance() {
-            feature.lemma_of_interval();
-            classes.add(length_class(&feature), *copies);
+        for place in records.places() {
+            // After these reads the bounds of all three are known.
+            let Interval {
+                seq: _seq,
+                start,
+                stop,
+            } = place.interval;
+            classes.add(class_of_length(u64::from(stop - start)));
         }
         classes
     }
 
-    /// Counts so many records more of a class.
-    pub(crate) fn add(&mut self, class: usize, copies: u32)
+    /// Counts one record more of a class.
+    pub(crate) fn add(&mut self, class: usize)
         requires class { class < 33 }
-        requires room { slice_index_or self.old class 0 + copies < 2 ^ 32 }
-        ensures { self.new ≡ slice_set self.old class (slice_index_or self.old class 0 + copies) }
+        requires room { slice_index_or self.old class 0 < 2 ^ 32 - 1 }
+        ensures { self.new ≡ slice_set self.old class (slice_index_or self.old class 0 + 1) }
     {
-        self.counts[class] += copies;
+        self.counts[class] += 1;
     }
 
     /// Counts one record less of a class, of which there is one.

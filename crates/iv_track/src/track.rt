@@ -109,8 +109,8 @@ impl<A: Allocator + Copy> Track<A> {
         places.sort(alloc)?;
         let width = places.width();
         let len = places.records().len() as u32;
+        let lengths = LengthClasses::of(&places.records());
         let ledger = count_copies(alloc, places)?;
-        let lengths = LengthClasses::of(ledger.all());
         Ok(Track {
             ledger,
             len,
@@ -180,7 +180,7 @@ impl<A: Allocator + Copy> Track<A> {
         let class = length_class(feature);
         let count = self.ledger.get(feature, meter).copied().unwrap_or(0);
         self.ledger.put(feature.again(), count + 1, meter)?;
-        self.lengths.add(class, 1);
+        self.lengths.add(class);
         self.len += 1;
         Ok(())
     }

@@ -1,43 +1,16 @@
-use Rattle.std.proofs.Common.{ℕ, List, ◌∙◌, ◌+◌, ◌<◌, ap, sym, subst, arith}
-use Rattle.std.specs.Prelude.{All, slice_index_or, slice_set}
-use Rattle.std.specs.Map.{keys_of}
-use Rattle.std.proofs.lemmas.List.Elements.{All-cons, All-nil}
-use Rattle.iv_lines.specs.RecordValue.{RecordValue, IsPlaced}
-use Rattle.iv_track.specs.Copies.{expanded}
-use Rattle.iv_track.specs.Inside.LengthClasses.{length_class}
-use Rattle.iv_track.proofs.ClassLemmas.{AreCountedBut, counted-begin, counted-room, counted-next, counted-all}
+use Rattle.std.proofs.Common.{rules, ◌∙◌, ◌-◌, ap}
+use Rattle.std.specs.Int.Count.{count_leading_zeros}
+use Rattle.iv_places.specs.declared.place.Place.{Place}
+use Rattle.iv_track.proofs.ClassLemmas.{counted-one}
 use Rattle.iv_track.proofs.length_classes.LengthClasses.of.Goals as goal
 
-pub loop-feature-init : goal.loop-feature-init
-loop-feature-init g c = record { counted = counted-begin c.new-classes.result (expanded c.args.entries) c.new-classes.ensures; placed = λ h. h }
+abbrev no_place : Place
+no_place = record { interval = record { seq = 0; start = 0; stop = 0 }; rest = 0 }
 
-pub add-requires-clause-room : goal.add-requires-clause-room
-add-requires-clause-room g c =
-    let l = c.loop-feature in
-    omega (
-      arith,
-      counted-room l.classes l.entries c.advance.new.self (expanded c.args.entries) c.in-Some.feature c.in-Some.copies.now l.invariant.counted c.in-Some.ensures,
-      ap {B = ℕ} (λ k. slice_index_or l.classes k 0) c.length_class.ensures.is,
-      c.requires,
-    )
-
-pub loop-feature-preserved : goal.loop-feature-preserved
-loop-feature-preserved g c =
-    let l = c.loop-feature in
-    let rest = c.advance.new.self in
-    let feature = c.in-Some.feature in
-    let copies = c.in-Some.copies.now in
-    let within : length_class feature < 33 = omega (arith, c.length_class.ensures.is, c.length_class.ensures.within) in
-    record {
-      counted = subst (λ (counts : List ℕ). AreCountedBut counts (expanded rest) (expanded c.args.entries))
-          (sym (c.add.ensures ∙ ap (λ k. slice_set l.classes k (slice_index_or l.classes k 0 + copies)) c.length_class.ensures.is))
-          (counted-next l.classes l.entries rest (expanded c.args.entries) feature copies l.invariant.counted c.in-Some.ensures within);
-      placed = λ h. l.invariant.placed (subst (λ (es : List (RecordValue × ℕ)). All IsPlaced (keys_of es)) (sym c.in-Some.ensures) (All-cons IsPlaced feature (keys_of rest) c.lemma_of_interval.ensures h));
-    }
-
-pub returns-clause-classes : goal.returns-clause-classes
-returns-clause-classes g c = counted-all c.loop-feature.classes c.loop-feature.entries (expanded c.args.entries) c.loop-feature.invariant.counted c.in_default.ensures.0
-
-pub returns-clause-placed : goal.returns-clause-placed
-returns-clause-placed g c =
-    c.loop-feature.invariant.placed (subst (λ (es : List (RecordValue × ℕ)). All IsPlaced (keys_of es)) (sym c.in_default.ensures.0) (All-nil IsPlaced))
+pub loop-place-preserved : goal.loop-place-preserved
+loop-place-preserved c =
+    let l = c.loop-place in
+    let places = c.places-place-items.result.now in
+    counted-one l.classes c.add.new.self c.args.records.now places no_place l.place-index c.class_of_length.result c.places-place-items.ensures.spots c.loop-place-test.true
+    (c.places-place-items.ensures.some l.place-index no_place c.loop-place-test.true) (search rules) (search rules)
+    (c.class_of_length.ensures.is ∙ ap (λ n. 32 - count_leading_zeros 32 n) c.from.ensures) c.class_of_length.ensures.within c.add.ensures l.invariant
