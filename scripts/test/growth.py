@@ -524,6 +524,19 @@ def moved_to_the_end(size):
     return edits("remove", gone) + edits("add", others) + prints("records")(size)
 
 
+def named(size):
+    """Records of four columns with long names."""
+    return {"g": genome(size), "a": lines(f"big\t%d\t%d\t{'a' * 60}", spread(size))}
+
+
+def renamed(size):
+    """Each record gets another name three times; the view is opened after that."""
+    names = [letter * 60 for letter in "abcd"]
+    renames = (f"replace\tbig\t{start}\t{stop}\t{old}\tbig\t{start}\t{stop}\t{new}\n"
+               for old, new in zip(names, names[1:]) for start, stop in spread(size))
+    return "".join(renames) + prints("records")(size)
+
+
 def mostly_unknown_bases(size):
     """So many bytes of bases, a tenth of them of a sequence of the genome."""
     known = size // 10
@@ -541,9 +554,10 @@ def mostly_unnamed_bases(size):
 MEMORY = [
     ("a run of merge", "merge -g g -i a", one_long_name, None, "VmHWM", 16),
     ("a run of cluster", "cluster -g g -i a", one_long_name, None, "VmHWM", 21),
-    ("a session", "session -g g -i a", one_long_name, prints("records"), "VmHWM", 58),
-    ("a session with merge", "session -g g -i a", one_long_name, prints("merge"), "VmHWM", 95),
-    ("a session that removes and adds", "session -g g -i a", one_sequence, moved_to_the_end, "VmHWM", 88),
+    ("a session", "session -g g -i a", one_long_name, prints("records"), "VmHWM", 45),
+    ("a session with merge", "session -g g -i a", one_long_name, prints("merge"), "VmHWM", 60),
+    ("a session that removes and adds", "session -g g -i a", one_sequence, moved_to_the_end, "VmHWM", 66),
+    ("a session that renames and then opens a view", "session -g g -i a", named, renamed, "VmRSS", 132),
     ("bases that no record can name", "session -g g -i a -fi f", mostly_unknown_bases, prints("getfasta"), "VmRSS", 0.2),
     ("bases that no record of a run names", "getfasta -g g -bed a -fi f", mostly_unnamed_bases, None, "VmHWM", 0.05),
 ]
