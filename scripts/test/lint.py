@@ -43,7 +43,7 @@ MAKES_A_METER = {
 FULL_COUNTS = {
     "iv_places/src/rests.rt": (r"(?:if feature\.width\(\) != self\.width|let Ok\(from\) = u32::try_from\(self\.bytes\.len\(\) / 4\) else) \{", ""),
     "iv_ledger/src/builder.rt": (r"if self\.len == MOST_ENTRIES \{", "const MOST_ENTRIES: usize = 9_223_372_036_854_775_807;"),
-    "iv_ledger/src/ledger.rt": (r"if self\.len == MOST_ENTRIES \{", "use crate::builder::{LedgerBuilder, MOST_ENTRIES};"),
+    "iv_ledger/src/ledger.rt": (r"if self\.len == MOST_ENTRIES \{", "use crate::builder::MOST_ENTRIES;"),
 }
 # Under its own name it is found wherever it is made: `C::Meter::new()` too.
 METER_CALLED_OTHERWISE = re.compile(r"\btype\s+(?!Meter\b)\w+\s*=\s*[\w:]*\bMeter\b")

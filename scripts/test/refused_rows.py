@@ -31,11 +31,9 @@ WITHOUT = {
     "NameMap::rehash": "`Genome::parse` calls it",
     "NameMap::push": "`Genome::parse` calls it",
     "BedLines::take_lines": "`BedReader::take_piece` calls it",
-    "Ledger::from_entries": "`Track::from_records` calls it",
-    "Ledger::with_entries": "`Ledger::from_entries` calls it",
-    "LedgerBuilder::new": "`Ledger::with_entries` calls it",
-    "LedgerBuilder::push": "`Ledger::with_entries` calls it",
-    "LedgerBuilder::finish": "`Ledger::with_entries` calls it",
+    "LedgerBuilder::new": "`Track::from_places` calls it",
+    "LedgerBuilder::push": "`Track::from_places` calls it",
+    "LedgerBuilder::finish": "`Track::from_places` calls it",
 }
 
 

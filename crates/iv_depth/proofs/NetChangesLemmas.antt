@@ -1,49 +1,43 @@
 -- Net changes of depth, from starts and stops in order.
-use Rattle.std.proofs.Common.{◌≡◌, ◌≢◌, sym, ap, subst, ◌∙◌, ℕ, ◌+◌, ◌/◌, ◌%◌, ◌^◌, ◌<◌, ◌≤◌, ◌⊎◌, inl, inr, List, [], ◌∷◌, ◌++◌, map, refl, arith, true, false, Bool, ◌&&◌, eqb, leb, ltb, cond, Some, None, append_assoc, append-nil}
+use Rattle.std.proofs.Common.{◌≡◌, ◌≢◌, sym, ap, subst, ◌∙◌, ℕ, ◌+◌, ◌/◌, ◌%◌, ◌^◌, ◌<◌, ◌≤◌, ◌⊎◌, inl, inr, List, [], ◌∷◌, ◌++◌, All, map, refl, arith, true, false, Bool, ◌&&◌, eqb, leb, ltb, cond, Some, None, append_assoc, append-nil}
 use Rattle.std.specs.Prelude.{ℤ, pos, ◌+ℤ◌, ◌-ℤ◌, if◌then◌else◌}
-use Rattle.std.specs.Iterator.{Yields, Drains}
-use Rattle.std.specs.List.{AllByRecursion}
-use Rattle.std.specs.List.Sorted.{IsPermutation, IsSorted, IsStrictlySortedBy}
+use Rattle.std.specs.List.Sorted.{IsPermutation, IsSorted}
 use Rattle.std.specs.declared.cmp.Ordering.{Ordering}
 use Rattle.std.specs.declared.cmp.Ordering.TheVariants.{Less, Equal, Greater}
-use Rattle.std.specs.Ordering.{is_eq, nat_cmp, ordering_reverse, ordering_then}
-use Rattle.std.specs.BTreeMap.{is_at}
-use Rattle.std.specs.Cmp.{ranked, nat_cmp_is, tied_itself, eq_by_cmp_equiv}
-use Rattle.std.specs.Map.{keys_of, values_of}
-use Rattle.std.proofs.lemmas.Bool.{cases_Bool, cases_lt, lt-leb, le-leb, lt-ltb, le-ltb}
+use Rattle.std.specs.Ordering.{nat_cmp, ordering_then}
+use Rattle.std.specs.Cmp.{ranked, nat_cmp_is}
+use Rattle.std.proofs.lemmas.Bool.{cases_lt, lt-leb, le-leb, lt-ltb, le-ltb}
 use Rattle.std.proofs.lemmas.Int.{ints}
 use Rattle.std.proofs.lemmas.List.{map-id}
-use Rattle.std.proofs.lemmas.List.Elements.{All-from_recursion}
+use Rattle.std.proofs.lemmas.List.Elements.{All-map, All-nil, All-push}
 use Rattle.std.proofs.lemmas.List.Sorted.{IsNonDecreasingBy-from_sort, sum_by-IsPermutation}
 use Rattle.std.proofs.lemmas.List.Sums.{sum_by_push}
-use Rattle.std.proofs.lemmas.Map.{lookup-none}
-use Rattle.std.proofs.lemmas.Map.Entries.{lookup_head, lookup_tail, none_below_head, none_past_head}
-use Rattle.std.proofs.lemmas.Map.Keys.{IsDistinct-from_sorted, sorted_tail}
 use Rattle.iv_lines.specs.RecordValue.{RecordValue, IsPlaced}
 use Rattle.iv_lines.specs.CoveredPositions.{covers}
 use Rattle.iv_cover.specs.Depth.{depth}
-use Rattle.iv_track.proofs.NumberOrder.{pair_total, pair_exact}
-use Rattle.iv_ledger.specs.Entries.{IsLedger, value_at, pair_cmp}
+use Rattle.iv_track.proofs.NumberOrder.{pair_total}
+use Rattle.iv_ledger.specs.Entries.{IsLedger, pair_cmp}
+use Rattle.iv_ledger.proofs.Splits.{ledger_nil, sorted_insert}
 use Rattle.iv_depth.specs.Changes.{ChangeKey, Entries, total, reaches, AreChangesOf}
-use Rattle.iv_depth.specs.Inside.Edges.{Remaining, RiseFrom, net, TakesChange}
-use Rattle.iv_depth.specs.Inside.NetChanges.{key_of, change_key_of, reached, AreEdgesOf, GivesKeyChange}
+use Rattle.iv_depth.specs.Inside.Edges.{Remaining, RiseFrom, net, TakesChange, GivesChange}
+use Rattle.iv_depth.specs.Inside.NetChanges.{key_of, change_key_of, reached, AreEdgesOf, AreNetChanges}
 use Rattle.iv_depth.proofs.OrderLemmas.{rise-sorted}
 
 -- ---- keys
 
 -- keys ascend as ranks and positions do
-key-order : (a b : ℕ) → a < b → pair_cmp (change_key_of a) (change_key_of b) ≡ Less
+key-order : (a b : ℕ) → b < a → pair_cmp (change_key_of a) (change_key_of b) ≡ Greater
 key-order a b h = go (nat_cmp (a / 2 ^ 32) (b / 2 ^ 32)) refl
   where
-    go : (o : Ordering) → o ≡ nat_cmp (a / 2 ^ 32) (b / 2 ^ 32) → pair_cmp (change_key_of a) (change_key_of b) ≡ Less
-    go Less is = subst (λ (o : Ordering). ordering_then o (nat_cmp (a % 2 ^ 32) (b % 2 ^ 32)) ≡ Less) is refl
+    go : (o : Ordering) → o ≡ nat_cmp (a / 2 ^ 32) (b / 2 ^ 32) → pair_cmp (change_key_of a) (change_key_of b) ≡ Greater
+    go Greater is = subst (λ (o : Ordering). ordering_then o (nat_cmp (a % 2 ^ 32) (b % 2 ^ 32)) ≡ Greater) is refl
     go Equal is =
         let same : a / 2 ^ 32 ≡ b / 2 ^ 32 = ranked (a / 2 ^ 32) (b / 2 ^ 32) Equal is in
-        let low : a % 2 ^ 32 < b % 2 ^ 32 = omega (arith, h, same) in
-        subst (λ (o : Ordering). ordering_then o (nat_cmp (a % 2 ^ 32) (b % 2 ^ 32)) ≡ Less) is (sym (nat_cmp_is (a % 2 ^ 32) (b % 2 ^ 32) Less low))
-    go Greater is =
-        let more : b / 2 ^ 32 < a / 2 ^ 32 = ranked (a / 2 ^ 32) (b / 2 ^ 32) Greater is in
-        absurd (omega (arith, h, more))
+        let high : b % 2 ^ 32 < a % 2 ^ 32 = omega (arith, h, same) in
+        subst (λ (o : Ordering). ordering_then o (nat_cmp (a % 2 ^ 32) (b % 2 ^ 32)) ≡ Greater) is (sym (nat_cmp_is (a % 2 ^ 32) (b % 2 ^ 32) Greater high))
+    go Less is =
+        let less : a / 2 ^ 32 < b / 2 ^ 32 = ranked (a / 2 ^ 32) (b / 2 ^ 32) Less is in
+        absurd (omega (arith, h, less))
 
 place-key : (seq p : ℕ) → p < 2 ^ 32 → change_key_of (key_of seq p) ≡ (seq, p)
 place-key seq p low =
@@ -115,105 +109,70 @@ gathered-all records left some_starts some_stops starts stops none g starts_move
     sum : (d s t d' s' t' : ℕ) → d + t ≡ s → d' ≡ d → s' ≡ s → t' ≡ t → d' + t' ≡ s'
     sum d s t d' s' t' e f g h = omega arith
 
--- ---- all changes that keys give
+-- ---- the changes of edges, one after another
 
--- they are past a key that is below
-given-past : (keys : Remaining) (from k : ℕ) (es : Entries) (last : Remaining) → k < from → RiseFrom from keys → Yields GivesKeyChange keys es last
-    → AllByRecursion (λ y. pair_cmp (change_key_of k) y ≡ Less) (keys_of es)
-given-past keys from k [] last low rise y = tt
-given-past keys from k (e ∷ es) last low rise y =
-    let key : ℕ = y.1.0 in
-    let t : TakesChange from keys key e.1 y.0 = y.1.2 from rise in (
-      subst (λ (p : ChangeKey). pair_cmp (change_key_of k) p ≡ Less) (sym y.1.1) (key-order k key (omega (arith, low, t.low))),
-      given-past y.0 (key + 1) k es last (omega (arith, low, t.low)) t.later y.2,
-    )
+-- one entry more
+total-push : (passes : ChangeKey → Bool) (es : Entries) (e : ChangeKey × ℤ) → total passes (es ++ e ∷ []) ≡ total passes es +ℤ (if passes e.0 then e.1 else pos 0)
+total-push passes [] e = omega (arith, ints)
+total-push passes (f ∷ es) e = omega (arith, ints, total-push passes es e)
 
-pub given-ledger : (keys : Remaining) (from : ℕ) (es : Entries) (last : Remaining) → RiseFrom from keys → Yields GivesKeyChange keys es last → IsLedger pair_cmp es
-unfolding IsStrictlySortedBy
-given-ledger keys from [] last rise y = tt
-given-ledger keys from (e ∷ es) last rise y =
-    let key : ℕ = y.1.0 in
-    let t : TakesChange from keys key e.1 y.0 = y.1.2 from rise in (
-      subst (λ (p : ChangeKey). AllByRecursion (λ q. pair_cmp p q ≡ Less) (keys_of es)) (sym y.1.1) (given-past y.0 (key + 1) key es last (omega arith) t.later y.2),
-      given-ledger y.0 (key + 1) es last t.later y.2,
-    )
+-- the changes so far, and those at the edges that are left, are those of all edges; all keys so far are below the ones left
+pub record AreBuilt (edges : Remaining) (entries : Entries) (left : Remaining) : Type 0 where
+  pub from : ℕ
+  pub rise : RiseFrom from left
+  pub below : (key : ℕ) → from ≤ key → All (λ e. pair_cmp (change_key_of key) e.0 ≡ Greater) entries
+  pub ordered : IsLedger pair_cmp entries
+  pub changes : All (λ e. e.1 ≢ pos 0) entries
+  pub sums : (passes : ChangeKey → Bool) → net (λ key. passes (change_key_of key)) edges ≡ total passes entries +ℤ net (λ key. passes (change_key_of key)) left
 
-given-others : (keys : Remaining) (from : ℕ) (es : Entries) (last : Remaining) → RiseFrom from keys → Yields GivesKeyChange keys es last → AllByRecursion (λ z. z ≢ pos 0) (values_of es)
-given-others keys from [] last rise y = tt
-given-others keys from (e ∷ es) last rise y =
-    let key : ℕ = y.1.0 in
-    let t : TakesChange from keys key e.1 y.0 = y.1.2 from rise in
-    (t.other, given-others y.0 (key + 1) es last t.later y.2)
+-- none yet
+pub built-begin : (edges : Remaining) (entries : Entries) → RiseFrom 0 edges → entries ≡ [] → AreBuilt edges entries edges
+built-begin edges entries rise none = subst (λ (es : Entries). AreBuilt edges es edges) (sym none) (record {
+  from = 0;
+  rise = rise;
+  below = λ key past. All-nil (λ (e : ChangeKey × ℤ). pair_cmp (change_key_of key) e.0 ≡ Greater);
+  ordered = ledger_nil ChangeKey ℤ pair_cmp;
+  changes = All-nil (λ (e : ChangeKey × ℤ). e.1 ≢ pos 0);
+  sums = λ passes. omega (arith, ints);
+})
 
-module _ (passes : ChangeKey → Bool) where
-  abbrev at_key : ℕ → Bool
-  at_key key = passes (change_key_of key)
+-- the next change
+pub built-next : (edges left after : Remaining) (entries more : Entries) (key : ℕ) (z : ℤ) → GivesChange left (Some (key, z)) after
+    → more ≡ entries ++ (change_key_of key, z) ∷ [] → AreBuilt edges entries left → AreBuilt edges more after
+built-next edges left after entries more key z gives pushed b =
+    let t : TakesChange b.from left key z after = gives b.from b.rise in
+    subst (λ (es : Entries). AreBuilt edges es after) (sym pushed) (record {
+      from = key + 1;
+      rise = t.later;
+      below = λ k past.
+          All-push (λ (e : ChangeKey × ℤ). pair_cmp (change_key_of k) e.0 ≡ Greater) entries (change_key_of key, z) (b.below k (omega (arith, past, t.low))) (key-order k key (omega (arith, past)));
+      ordered = sorted_insert pair_total (change_key_of key) z entries [] (b.below key t.low) (All-nil (λ (e : ChangeKey × ℤ). pair_cmp (change_key_of key) e.0 ≡ Less))
+          (subst (IsLedger pair_cmp) (sym (append-nil entries)) b.ordered);
+      changes = All-push (λ (e : ChangeKey × ℤ). e.1 ≢ pos 0) entries (change_key_of key, z) b.changes t.other;
+      sums = λ passes. omega (arith, ints, b.sums passes, t.sums (λ k. passes (change_key_of k)), total-push passes entries (change_key_of key, z));
+    })
 
-  given-sums : (keys : Remaining) (from : ℕ) (es : Entries) (last : Remaining) → RiseFrom from keys → Yields GivesKeyChange keys es last
-      → ((low : ℕ) → RiseFrom low last → net at_key last ≡ pos 0) → total passes es ≡ net at_key keys
-  given-sums keys from [] last rise y none = sym (none from (subst (RiseFrom from) y rise)) ∙ ap (net at_key) (sym y)
-  given-sums keys from (e ∷ es) last rise y none =
-      let key : ℕ = y.1.0 in
-      let t : TakesChange from keys key e.1 y.0 = y.1.2 from rise in
-      let rest : total passes es ≡ net at_key y.0 = given-sums y.0 (key + 1) es last t.later y.2 none in
-      ap (λ (z : ℤ). (if passes e.0 then e.1 else pos 0) +ℤ z) rest
-      ∙ ap (λ (p : ChangeKey). (if passes p then e.1 else pos 0) +ℤ net at_key y.0) y.1.1
-      ∙ sym (t.sums at_key)
+-- there is no next one
+pub built-all : (edges left after : Remaining) (entries : Entries) → GivesChange left None after → AreBuilt edges entries left → AreNetChanges edges entries
+built-all edges left after entries none b = record {
+  ordered = b.ordered;
+  changes = All-map (λ z. z ≢ pos 0) (λ (e : ChangeKey × ℤ). e.1) entries b.changes;
+  sums = λ passes. omega (arith, ints, b.sums passes, none b.from b.rise (λ k. passes (change_key_of k)));
+}
 
--- ledgers with the same values are one
-at-head : (e : ChangeKey × ℤ) (es : Entries) → value_at pair_cmp (e ∷ es) e.0 ≡ Some e.1
-at-head e es = lookup_head (is_at (pair_cmp e.0)) e es (ap is_eq (tied_itself pair_total e.0))
-
-none-below : (k : ChangeKey) (e : ChangeKey × ℤ) (es : Entries) → IsLedger pair_cmp (e ∷ es) → pair_cmp k e.0 ≡ Less → value_at pair_cmp (e ∷ es) k ≡ None
-none-below k e es s less = lookup-none (is_at (pair_cmp k)) (e ∷ es) (none_below_head pair_total k e es s less)
-
-none-past : (k : ChangeKey) (e : ChangeKey × ℤ) (es : Entries) → IsLedger pair_cmp (e ∷ es) → is_at (pair_cmp k) e.0 ≡ true → value_at pair_cmp es k ≡ None
-none-past k e es s tie = lookup-none (is_at (pair_cmp k)) es (none_past_head (eq_by_cmp_equiv pair_total) k e es (IsDistinct-from_sorted pair_cmp (keys_of (e ∷ es)) s) tie)
-
-one-ledger : (es fs : Entries) → IsLedger pair_cmp es → IsLedger pair_cmp fs → ((k : ChangeKey) → value_at pair_cmp es k ≡ value_at pair_cmp fs k) → es ≡ fs
-one-ledger [] [] s t same = refl
-one-ledger [] (f ∷ fs) s t same = let none : None ≡ Some f.1 = same f.0 ∙ at-head f fs in cc
-one-ledger (e ∷ es) [] s t same = let none : Some e.1 ≡ None = sym (at-head e es) ∙ same e.0 in cc
-one-ledger (e ∷ es) (f ∷ fs) s t same =
-    go (λ tails. one-ledger es fs (sorted_tail pair_cmp e.0 (keys_of es) s) (sorted_tail pair_cmp f.0 (keys_of fs) t) tails) (pair_cmp e.0 f.0) refl
-  where
-    go : (((k : ChangeKey) → value_at pair_cmp es k ≡ value_at pair_cmp fs k) → es ≡ fs) → (o : Ordering) → pair_cmp e.0 f.0 ≡ o → e ∷ es ≡ f ∷ fs
-    go further Less is = let none : Some e.1 ≡ None = sym (at-head e es) ∙ same e.0 ∙ none-below e.0 f fs t is in cc
-    go further Greater is =
-        let less : pair_cmp f.0 e.0 ≡ Less = pair_total.antisymm f.0 e.0 ∙ ap ordering_reverse is in
-        let none : None ≡ Some f.1 = sym (none-below f.0 e es s less) ∙ same f.0 ∙ at-head f fs in
-        cc
-    go further Equal is =
-        let keys : e.0 ≡ f.0 = pair_exact e.0 f.0 is in
-        let found : Some e.1 ≡ Some f.1 = sym (at-head e es) ∙ same e.0 ∙ ap (value_at pair_cmp (f ∷ fs)) keys ∙ at-head f fs in
-        let values : e.1 ≡ f.1 = cc in
-        let rest : es ≡ fs = further (λ k. tail k keys (cases_Bool (is_at (pair_cmp k) e.0))) in
-        λ i. (keys i, values i) ∷ rest i
-      where
-        tail : (k : ChangeKey) → e.0 ≡ f.0 → (is_at (pair_cmp k) e.0 ≡ true) ⊎ (is_at (pair_cmp k) e.0 ≡ false) → value_at pair_cmp es k ≡ value_at pair_cmp fs k
-        tail k keys (inl tie) = none-past k e es s tie ∙ sym (none-past k f fs t (ap (is_at (pair_cmp k)) (sym keys) ∙ tie))
-        tail k keys (inr apart) =
-            sym (lookup_tail (is_at (pair_cmp k)) e es apart) ∙ same k ∙ lookup_tail (is_at (pair_cmp k)) f fs (ap (is_at (pair_cmp k)) (sym keys) ∙ apart)
-
+-- the edges of records rise
 pub edges-rise : (records : List RecordValue) (starts stops : List ℕ) → AreEdgesOf records starts stops
     → RiseFrom 0 (record { starts = map (λ key. key) starts; stops = map (λ key. key) stops })
 edges-rise records starts stops h = rw (map-id starts, map-id stops) (record { starts = h.starts_rise; stops = h.stops_rise })
 
--- the changes that the edges of records give are those of the records
-pub edges-changes : (records : List RecordValue) (starts stops : List ℕ) (es entries : Entries) → AreEdgesOf records starts stops
-    → Drains GivesKeyChange (record { starts = map (λ key. key) starts; stops = map (λ key. key) stops }) es → IsLedger pair_cmp entries
-    → ((k : ChangeKey) → value_at pair_cmp entries k ≡ value_at pair_cmp es k) → AreChangesOf records entries
-edges-changes records starts stops es entries h run ordered same =
-    let keys : Remaining = record { starts = map (λ key. key) starts; stops = map (λ key. key) stops } in
-    let rise : RiseFrom 0 keys = edges-rise records starts stops h in
-    let up : IsLedger pair_cmp es = given-ledger keys 0 es run.1.0 rise run.1.1 in
-    subst (AreChangesOf records) (sym (one-ledger entries es ordered up same)) (record {
-      ordered = up;
-      changes = All-from_recursion (λ z. z ≢ pos 0) (values_of es) (given-others keys 0 es run.1.0 rise run.1.1);
-      depths = λ seq p.
-          given-sums (reaches seq p) keys 0 es run.1.0 rise run.1.1 (λ low past. run.1.2 low past (λ key. reaches seq p (change_key_of key)))
-          ∙ rw (map-id starts, map-id stops) (difference _ _ _ (h.depths seq p));
-    })
+-- the net changes at the edges of records are those of the records
+pub edges-changes : (records : List RecordValue) (starts stops : List ℕ) (entries : Entries) → AreEdgesOf records starts stops
+    → AreNetChanges (record { starts = map (λ key. key) starts; stops = map (λ key. key) stops }) entries → AreChangesOf records entries
+edges-changes records starts stops entries h are = record {
+  ordered = are.ordered;
+  changes = are.changes;
+  depths = λ seq p. sym (are.sums (reaches seq p)) ∙ rw (map-id starts, map-id stops) (difference _ _ _ (h.depths seq p));
+}
   where
     difference : (d t s : ℕ) → d + t ≡ s → pos s -ℤ pos t ≡ pos d
     difference d t s e = omega (arith, ints, e)

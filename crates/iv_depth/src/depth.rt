@@ -13,11 +13,11 @@ ghost use Rattle.iv_depth.specs.RegionRows.{covered_runs_in};
 use crate::changes::{Changes, add_record, remove_record};
 use crate::depth_rows::{DepthOutput, put_genome};
 use crate::edges::Edges;
-use crate::net_changes::edges_of;
+use crate::net_changes::{changes_of, edges_of};
 use crate::region::{length_of, put_region};
 use iv_bytes::{Sink, WriteFault};
 use iv_cover::Kept;
-use iv_ledger::{Ledger, Meter};
+use iv_ledger::Meter;
 use iv_lines::{Genome, RecordRef};
 use iv_track::Track;
 use std::alloc::{AllocError, Allocator, Global};
@@ -63,7 +63,7 @@ impl<A: Allocator + Copy> Kept<A> for Depth<A> {
             stops: stops.as_slice(),
         };
         Ok(Depth {
-            changes: Ledger::from_entries(alloc, edges)?,
+            changes: changes_of(alloc, edges)?,
         })
     }
 

@@ -1,10 +1,11 @@
 //! Net changes of depth, from where the records of a track start and stop.
 ghost use Rattle.std.specs.Prelude.{◌≡◌, IfOk};
-ghost use Rattle.std.specs.Iterator.{at_most};
-ghost use Rattle.iv_depth.specs.Inside.NetChanges.{AreEdgesOf, GivesKeyChange, key_of, change_key_of};
+ghost use Rattle.iv_depth.specs.Inside.Edges.{RiseFrom};
+ghost use Rattle.iv_depth.specs.Inside.NetChanges.{AreEdgesOf, AreNetChanges, key_of, change_key_of};
 
+use crate::changes::Changes;
 use crate::edges::Edges;
-use iv_ledger::Meter;
+use iv_ledger::{LedgerBuilder, Meter, Natural};
 use iv_places::order_neighbors;
 use iv_track::Track;
 use std::alloc::{AllocError, Allocator};
@@ -37,6 +38,21 @@ pub(crate) fn edges_of<A: Allocator + Copy>(
     Ok((starts, stops))
 }
 
+/// The net changes at keys of starts and stops. None is 0.
+pub(crate) fn changes_of<A: Allocator + Copy>(
+    alloc: A,
+    mut edges: Edges<'_, u64, u64>,
+) -> Result<Changes<A>, AllocError>
+    requires { RiseFrom 0 edges }
+    ensures { IfOk result (AreNetChanges edges.entry) }
+{
+    let mut built = LedgerBuilder::new(alloc)?;
+    while let Some((key, change)) = edges.next_change() {
+        built.push(unpacked(key), change)?;
+    }
+    built.finish(Natural)
+}
+
 /// A rank and a position as one number, a key: keys ascend as they do, and sort faster.
 fn packed(seq: u32, position: u32) -> u64
     ensures { result ≡ key_of seq position }
@@ -49,20 +65,4 @@ fn unpacked(key: u64) -> (u32, u32)
     ensures { result ≡ change_key_of key }
 {
     ((key / POSITIONS) as u32, (key % POSITIONS) as u32)
-}
-
-impl<'a> Iterator for Edges<'a, u64, u64> {
-    ghost use Rattle.iv_depth.specs.Inside.Edges.{edge_count};
-
-    type Item = ((u32, u32), i64);
-
-    ghost next_gives = { GivesKeyChange };
-
-    ghost remaining = { λ keys. at_most (edge_count keys) };
-
-    /// The next net change at keys of starts and stops, in order. None is 0.
-    fn next(&mut self) -> Option<((u32, u32), i64)> {
-        let (key, change) = self.next_change()?;
-        Some((unpacked(key), change))
-    }
 }

@@ -10,9 +10,9 @@ use Rattle.std.specs.declared.cmp.Ordering.{Ordering}
 use Rattle.std.specs.declared.vec.Vec.{Vec}
 use Rattle.std.proofs.lemmas.List.{length-append, length-map, map-append, drop-map}
 use Rattle.std.proofs.lemmas.List.Elements.{All-nil, All-cons, All-append, All-weaker, All-from_recursion, recursion_from_All}
-use Rattle.iv_ledger.specs.Entries.{IsLedger, seen}
+use Rattle.iv_ledger.specs.Entries.{IsLedger}
 use Rattle.iv_ledger.specs.Inside.Chunks.{concatenated, before, from, IsFilled, AreFilled, AreChunks, IsFound, IsGap, IsInside}
-use Rattle.iv_ledger.specs.Inside.Seen.{IsStored, seen_chunk, seen_chunks}
+use Rattle.iv_ledger.specs.Inside.Seen.{IsStored, seen, seen_chunk, seen_chunks}
 use Rattle.iv_ledger.specs.declared.entry_index.EntryIndex.{EntryIndex}
 use Rattle.iv_ledger.proofs.ChunkLemmas.{before-from, concatenated-set_written, filled-set, from_here}
 use Rattle.iv_ledger.proofs.MapLemmas.{IsEntry, entry_read, entry_taken, found_insert, found_set, in_order, counted_found, whole_gathered, whole_none, whole_removed, gap_insert, whole_inserted}

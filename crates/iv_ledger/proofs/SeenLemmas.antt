@@ -9,8 +9,7 @@ use Rattle.std.proofs.lemmas.List.Elements.{All-map}
 use Rattle.std.proofs.lemmas.Option.{slice_get-map}
 use Rattle.std.specs.Option.{option_map}
 use Rattle.iv_ledger.specs.Inside.Chunks.{concatenated, before, from, IsFilled, AreFilled, IsInside, IsWithin}
-use Rattle.iv_ledger.specs.Entries.{seen}
-use Rattle.iv_ledger.specs.Inside.Seen.{seen_chunk, seen_chunks}
+use Rattle.iv_ledger.specs.Inside.Seen.{seen, seen_chunk, seen_chunks}
 use Rattle.iv_ledger.specs.declared.entry_index.EntryIndex.{EntryIndex}
 
 module _ {X Y : Type 0} (f : X → Y) where
@@ -100,7 +99,7 @@ module _ {K S V Z : Type 0} (read : K → S) where
   first-seen cs p r is =
       ap (option_map (seen read)) is ∙ sym (slice_get-map (seen read) (from cs p) 0) ∙ ap (λ (es : List (S × V)). slice_get es 0) (sym (seen-from cs p))
 
--- entries whose keys are read as they are
+-- entries whose keys are read as they are, as in their natural order: so `LedgerBuilder::finish` gives the entries that were pushed
 pub seen-same : {K V : Type 0} (es : List (K × V)) → map (seen (λ (k : K). k)) es ≡ es
 seen-same [] = refl
 seen-same {K = K} {V = V} (e ∷ es) = ap (λ (fs : List (K × V)). e ∷ fs) (seen-same es)

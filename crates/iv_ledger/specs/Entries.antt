@@ -28,10 +28,6 @@ module _ {K V : Type 0} (cmp : K → K → Ordering) where
   abbrev pub last_until : List (K × V) → K → Option (K × V)
   last_until es k = find (λ e. is_ge (cmp k e.0)) (reverse es)
 
--- an entry with what its key means
-abbrev pub seen : {K S : Type 0} → (K → S) → {V : Type 0} → K × V → S × V
-seen read e = (read e.0, e.1)
-
 -- an entry that is lent, with what its key means
 abbrev pub lent_entry : {L S V : Type 0} → (L → S) → L × Bor V → S × V
 lent_entry lent e = (lent e.0, e.1.now)

@@ -1,6 +1,7 @@
 //! A ledger that is built from its first entry to its last.
 ghost use Rattle.std.specs.Prelude.{◌≡◌, ◌≤◌, ◌++◌, ◌∷◌, [], All, map, vec_len, IfOk, OnOk, OnErr};
-ghost use Rattle.iv_ledger.specs.Entries.{IsLedger, seen};
+ghost use Rattle.iv_ledger.specs.Entries.{IsLedger};
+ghost use Rattle.iv_ledger.specs.Inside.Seen.{seen};
 ghost use Rattle.iv_ledger.specs.Inside.Chunks.{AreFilled, concatenated, most_at_once};
 
 use crate::entry_index::MOST_IN_CHUNK;

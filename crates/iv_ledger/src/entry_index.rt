@@ -3,11 +3,11 @@ ghost use Rattle.std.specs.Prelude.{◌≡◌, ◌+◌, ◌-◌, ◌<◌, ◌≤
 ghost use Rattle.std.specs.List.{filter, slice_get, HoldsAt};
 ghost use Rattle.std.specs.Ordering.{is_le, is_lt};
 ghost use Rattle.std.specs.List.Sorted.{IsPartitionPoint};
-ghost use Rattle.iv_ledger.specs.Entries.{IsLedger, seen};
+ghost use Rattle.iv_ledger.specs.Entries.{IsLedger};
 ghost use Rattle.std.specs.Option.{option_copied};
 ghost use Rattle.iv_ledger.specs.Inside.Chunks.{AreChunks, AreFilled, AreSmall, IsFound, IsGap, IsInside, IsWithin, IsSplit, IsIndexWithRoom, before, from, concatenated, most_in_chunk, starts_by};
 ghost use Rattle.iv_ledger.specs.Inside.Replaced.{IsAmong, IsReplaced};
-ghost use Rattle.iv_ledger.specs.Inside.Seen.{seen_chunks};
+ghost use Rattle.iv_ledger.specs.Inside.Seen.{seen, seen_chunks};
 ghost use Rattle.std.specs.Prelude.{map};
 
 use crate::order::Seeks;

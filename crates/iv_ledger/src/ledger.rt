@@ -1,17 +1,16 @@
 //! An ordered map that counts its calls.
-ghost use Rattle.std.specs.Prelude.{◌≡◌, ◌+◌, ◌^◌, ◌<◌, List, None, Some, [], All, length, map, IfOk, IfErr, OnOk, OnErr};
+ghost use Rattle.std.specs.Prelude.{◌≡◌, ◌+◌, ◌^◌, ◌<◌, None, Some, [], length, map, IfOk, IfErr, OnOk, OnErr};
 ghost use Rattle.std.specs.Option.{option_map, option_copied};
 ghost use Rattle.std.specs.Map.{remove_entry, set_value};
 ghost use Rattle.std.specs.BTreeMap.{is_at, insert_entry};
-ghost use Rattle.std.specs.Iterator.{IsFinite, Drains};
 ghost use Rattle.std.specs.List.{filter};
 ghost use Rattle.std.specs.Ordering.{is_le};
-ghost use Rattle.iv_ledger.specs.Entries.{IsLedger, value_at, first_from, first_after, last_until, lent_entry, seen};
+ghost use Rattle.iv_ledger.specs.Entries.{IsLedger, value_at, first_from, first_after, last_until, lent_entry};
 ghost use Rattle.iv_ledger.specs.Inside.Chunks.{concatenated};
-ghost use Rattle.iv_ledger.specs.Inside.Seen.{IsStored};
+ghost use Rattle.iv_ledger.specs.Inside.Seen.{IsStored, seen};
 ghost use Rattle.iv_ledger.specs.Steps.{ticked};
 
-use crate::builder::{LedgerBuilder, MOST_ENTRIES};
+use crate::builder::MOST_ENTRIES;
 use crate::entry_index::{self, find, index_after, index_from, insert_at, join_small, remove_at};
 use crate::meter::Meter;
 use crate::order::{Abbreviated, Keeps, Lends, Natural, Order, Seeks};
@@ -56,22 +55,6 @@ impl<K: Ord + Abbreviated + Drop, V: Drop, A: Allocator + Clone + Drop> Ledger<K
     {
         Ledger::with_order(alloc, Natural)
     }
-
-    /// The ledger of the entries that an iterator gives up to its first `None`: built at once, and no step.
-    ///
-    /// Their keys ascend.
-    pub fn from_entries<I: Iterator<Item = (K, V)>>(
-        alloc: A,
-        entries: I,
-    ) -> Result<Self, AllocError>
-        requires starts { I.can_next entries }
-        requires ends { IsFinite (I.remaining entries) }
-        requires ascend { (es : List (K × V)) → Drains I.next_gives entries es → IsLedger K.cmp es }
-        ensures values { IfOk result (λ l. (es : List (K × V)) × Drains I.next_gives entries es × ((k : K) → value_at K.cmp l k ≡ value_at K.cmp es k)) }
-        ensures ordered { IfOk result (λ l. IsLedger K.cmp l) }
-    {
-        Ledger::with_entries(alloc, Natural, entries)
-    }
 }
 
 impl<K: Drop, V: Drop, A: Allocator + Clone + Drop, O: Order<K> + Drop> Ledger<K, V, A, O> {
@@ -85,28 +68,6 @@ impl<K: Drop, V: Drop, A: Allocator + Clone + Drop, O: Order<K> + Drop> Ledger<K
             starts: Starts::new(),
             len: 0,
         }
-    }
-
-    /// The ledger of the entries that an iterator gives up to its first `None`, in this order: built at once, and no step.
-    ///
-    /// What is read of their keys ascends.
-    pub fn with_entries<I: Iterator<Item = (K, V)>>(
-        alloc: A,
-        order: O,
-        entries: I,
-    ) -> Result<Self, AllocError>
-        requires starts { I.can_next entries }
-        requires ends { IsFinite (I.remaining entries) }
-        requires keys { (es : List (K × V)) → Drains I.next_gives entries es → All (λ e. O.IsKey order e.0) es }
-        requires ascend { (es : List (K × V)) → Drains I.next_gives entries es → IsLedger O.cmp (map (seen (O.read order)) es) }
-        ensures entries { IfOk result (λ l. (es : List (K × V)) × Drains I.next_gives entries es × (l ≡ map (seen (O.read order)) es)) }
-        ensures ordered { IfOk result (λ l. IsLedger O.cmp l) }
-    {
-        let mut built = LedgerBuilder::new(alloc)?;
-        for (key, value) in entries {
-            built.push(key, value)?;
-        }
-        built.finish(order)
     }
 
     /// The ledger of these chunks, which have so many entries, in this order.

@@ -24,7 +24,7 @@ pub struct Walk<'a, K, V, A: Allocator = Global, O: Order<K> = Natural> {
 
 impl<'a, K, V, A: Allocator, O: Order<K>> Model for Walk<'a, K, V, A, O> {
     ghost use Rattle.std.specs.Prelude.{List, All, ◌++◌, map};
-    ghost use Rattle.iv_ledger.specs.Entries.{seen};
+    ghost use Rattle.iv_ledger.specs.Inside.Seen.{seen};
     ghost use Rattle.iv_ledger.specs.Inside.Chunks.{AreFilled, concatenated};
 
     ghost Value = { List (O.Seen × V) };

@@ -9,7 +9,7 @@ use Rattle.std.proofs.lemmas.List.{drop_all, length-take-le, map-append, take_al
 use Rattle.std.proofs.lemmas.List.Elements.{All-head, All-nil, All-push, All-tail, All-take}
 use Rattle.std.proofs.lemmas.List.Sorted.{All-permutation, IsPermutation-reverse}
 use Rattle.std.proofs.lemmas.Option.{get_or_from_slice_get, slice_get-get_or}
-use Rattle.iv_ledger.specs.Entries.{seen}
+use Rattle.iv_ledger.specs.Inside.Seen.{seen}
 use Rattle.iv_track.specs.Inside.Counted.{grouped, grouped_from}
 
 module _ {X : Type 0} where

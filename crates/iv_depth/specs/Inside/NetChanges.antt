@@ -1,9 +1,11 @@
 -- Where records start and stop, as keys in order, and the net changes of depth there. This is the state of a build, as seen by its proof.
-use Rattle.std.specs.Prelude.{◌≡◌, ℕ, ◌+◌, ◌*◌, ◌/◌, ◌%◌, ◌^◌, List, Option, Some, None, count_by, ℤ}
+use Rattle.std.specs.Prelude.{◌≡◌, ◌≢◌, ℕ, ◌+◌, ◌*◌, ◌/◌, ◌%◌, ◌^◌, Bool, List, All, count_by, pos}
+use Rattle.std.specs.Map.{values_of}
 use Rattle.iv_lines.specs.RecordValue.{RecordValue}
+use Rattle.iv_ledger.specs.Entries.{IsLedger, pair_cmp}
 use Rattle.iv_cover.specs.Depth.{depth}
-use Rattle.iv_depth.specs.Changes.{ChangeKey, reaches}
-use Rattle.iv_depth.specs.Inside.Edges.{Rise, Remaining, GivesChange}
+use Rattle.iv_depth.specs.Changes.{ChangeKey, Entries, total, reaches}
+use Rattle.iv_depth.specs.Inside.Edges.{Rise, Remaining, net}
 
 -- a rank and a position as one number, a key: keys ascend as they do
 abbrev pub key_of : ℕ → ℕ → ℕ
@@ -23,7 +25,8 @@ pub record AreEdgesOf (records : List RecordValue) (starts stops : List ℕ) : T
   pub stops_rise : Rise 0 stops
   pub depths : (seq p : ℕ) → depth records seq p + reached seq p stops ≡ reached seq p starts
 
--- a call gave the next change that is not 0 with the rank and position of its key, or there is none
-abbrev pub GivesKeyChange : Remaining → Option (ChangeKey × ℤ) → Remaining → Type 0
-GivesKeyChange old (Some c) new = (key : ℕ) × (c.0 ≡ change_key_of key) × GivesChange old (Some (key, c.1)) new
-GivesKeyChange old None new = GivesChange old None new
+-- these are the net changes at the keys of edges: they ascend, no change is 0, and their sums are those of the edges
+pub record AreNetChanges (edges : Remaining) (entries : Entries) : Type 0 where
+  pub ordered : IsLedger pair_cmp entries
+  pub changes : All (λ z. z ≢ pos 0) (values_of entries)
+  pub sums : (passes : ChangeKey → Bool) → net (λ key. passes (change_key_of key)) edges ≡ total passes entries

@@ -1,11 +1,14 @@
--- Chunks of entries with what their keys mean.
+-- Entries, and chunks of them, with what their keys mean.
 use Rattle.std.specs.Prelude.{ℕ, All, List, map}
 use mathlib.Core.Path.{sym, ◌∙◌}
 use Rattle.std.proofs.lemmas.List.{length-map}
 use Rattle.std.specs.declared.cmp.Ordering.{Ordering}
 use Rattle.std.specs.declared.vec.Vec.{Vec}
-use Rattle.iv_ledger.specs.Entries.{seen}
 use Rattle.iv_ledger.specs.Inside.Chunks.{AreFilled, IsWhole, concatenated}
+
+-- an entry with what its key means
+abbrev pub seen : {K S : Type 0} → (K → S) → {V : Type 0} → K × V → S × V
+seen read e = (read e.0, e.1)
 
 module _ {K S : Type 0} (read : K → S) where
   -- a chunk with what its keys mean

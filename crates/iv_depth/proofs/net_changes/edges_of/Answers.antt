@@ -1,4 +1,4 @@
-use Rattle.std.proofs.Common.{◌∙◌, ℕ, ◌∷◌, List, sym, ap, subst}
+use Rattle.std.proofs.Common.{◌∙◌, ℕ, List, ap, subst}
 use Rattle.std.proofs.lemmas.List.{with_items_is}
 use Rattle.std.proofs.lemmas.List.Sorted.{IsPermutation-trans}
 use Rattle.std.specs.List.Sorted.{IsPermutation}

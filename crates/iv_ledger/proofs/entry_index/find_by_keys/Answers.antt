@@ -4,8 +4,8 @@ use Rattle.std.specs.List.{HoldsAt}
 use Rattle.std.specs.List.Sorted.{IsPartitionPoint}
 use Rattle.std.specs.declared.cmp.Ordering.TheVariants.{Less, Equal, Greater}
 use Rattle.std.proofs.lemmas.List.{length-map}
-use Rattle.iv_ledger.specs.Inside.Seen.{seen_chunk, seen_chunks}
-use Rattle.iv_ledger.specs.Entries.{IsLedger, seen}
+use Rattle.iv_ledger.specs.Inside.Seen.{seen, seen_chunk, seen_chunks}
+use Rattle.iv_ledger.specs.Entries.{IsLedger}
 use Rattle.iv_ledger.proofs.FindLemmas.{found_near, no_chunk, gap, turned}
 use Rattle.iv_ledger.proofs.SearchLemmas.{chunk_sorted}
 use Rattle.iv_ledger.proofs.SeenLemmas.{holds_seen, inside-seen, seen_at, within-seen}

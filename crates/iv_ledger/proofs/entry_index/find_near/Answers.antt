@@ -3,8 +3,7 @@ use Rattle.std.specs.Vec.{vec_items}
 use Rattle.std.specs.List.{HoldsAt}
 use Rattle.std.proofs.lemmas.List.{length-map}
 use Rattle.std.specs.declared.cmp.Ordering.TheVariants.{Equal}
-use Rattle.iv_ledger.specs.Entries.{seen}
-use Rattle.iv_ledger.specs.Inside.Seen.{seen_chunk, seen_chunks}
+use Rattle.iv_ledger.specs.Inside.Seen.{seen, seen_chunk, seen_chunks}
 use Rattle.iv_ledger.proofs.FindLemmas.{found_near}
 use Rattle.iv_ledger.proofs.SeenLemmas.{holds_seen, seen_at}
 use Rattle.iv_ledger.proofs.entry_index.find_near.Goals as goal

@@ -2,8 +2,7 @@ use Rattle.std.proofs.Common.{arith, rules, ◌<◌, ◌≤◌, ◌+◌, ◌≡�
 use Rattle.std.specs.Vec.{vec_items}
 use Rattle.std.specs.declared.cmp.Ordering.TheVariants.{Greater}
 use Rattle.std.proofs.lemmas.List.{length-map}
-use Rattle.iv_ledger.specs.Entries.{seen}
-use Rattle.iv_ledger.specs.Inside.Seen.{seen_chunk, seen_chunks}
+use Rattle.iv_ledger.specs.Inside.Seen.{seen, seen_chunk, seen_chunks}
 use Rattle.iv_ledger.proofs.FindLemmas.{below_place, greater_from_gt}
 use Rattle.iv_ledger.proofs.SeenLemmas.{seen_at}
 use Rattle.iv_ledger.proofs.entry_index.is_above_last.Goals as goal

@@ -1,7 +1,7 @@
 use Rattle.std.proofs.Common.{rules, ◌≡◌, map, arith}
 use Rattle.std.specs.declared.cmp.Ordering.TheVariants.{Less, Greater}
 use Rattle.std.proofs.lemmas.List.{length-map}
-use Rattle.iv_ledger.specs.Entries.{seen}
+use Rattle.iv_ledger.specs.Inside.Seen.{seen}
 use Rattle.iv_ledger.proofs.SearchLemmas.{up_to_greater, from_less_of}
 use Rattle.iv_ledger.proofs.SeenLemmas.{seen_at}
 use Rattle.iv_ledger.proofs.entry_index.search.Goals as goal

@@ -1,7 +1,7 @@
 use Rattle.std.proofs.Common.{◌≡◌, ◌-◌, ◌≤◌, length, map}
 use Rattle.std.specs.List.{AllWithin}
 use Rattle.std.specs.declared.cmp.Ordering.TheVariants.{Less, Greater}
-use Rattle.iv_ledger.specs.Entries.{seen}
+use Rattle.iv_ledger.specs.Inside.Seen.{seen}
 use Rattle.iv_ledger.proofs.entry_index.search.Given as goal
 
 abbrev pub invariant-loop-low : goal.invariant-loop-low

@@ -1,7 +1,8 @@
 use Rattle.std.proofs.Common.{◌≡◌, ◌∙◌, ◌∷◌, ◌+◌, ◌-◌, ℕ, List, length, map, reverse, sym, ap, subst, arith}
 use Rattle.std.specs.Prelude.{All}
 use Rattle.std.proofs.lemmas.Result.{IfOk-weaker}
-use Rattle.iv_ledger.specs.Entries.{IsLedger, seen}
+use Rattle.iv_ledger.specs.Entries.{IsLedger}
+use Rattle.iv_ledger.specs.Inside.Seen.{seen}
 use Rattle.iv_lines.specs.RecordValue.{record_cmp, records_total}
 use Rattle.iv_places.specs.Inside.Places.{HeldRests, IsPlace, record_at}
 use Rattle.iv_places.specs.declared.place.Place.{Place}

@@ -1,14 +1,13 @@
 use Rattle.iv_depth.specs.Inside.NetChanges.{AreEdgesOf}
-use Rattle.iv_depth.proofs.NetChangesLemmas.{edges-rise, edges-changes, given-ledger}
+use Rattle.iv_depth.proofs.NetChangesLemmas.{edges-rise, edges-changes}
 use Rattle.iv_depth.proofs.depth.DepthKept.build.Goals as goal
 
-pub from_entries-requires-clause-ascend : goal.from_entries-requires-clause-ascend
-from_entries-requires-clause-ascend g c es run =
-    let records = c.args.track.now.records in
+pub changes_of-requires : goal.changes_of-requires
+changes_of-requires g c =
     let starts = c.as_slice.result.now in
     let stops = c.as_slice-2.result.now in
-    let edges : AreEdgesOf records starts stops = rw (c.as_slice.ensures.value, c.as_slice-2.ensures.value) c.in_ok-starts.ensures in
-    given-ledger _ 0 es run.1.0 (edges-rise records starts stops edges) run.1.1
+    let edges : AreEdgesOf c.args.track.now.records starts stops = rw (c.as_slice.ensures.value, c.as_slice-2.ensures.value) c.in_ok-starts.ensures in
+    edges-rise c.args.track.now.records starts stops edges
 
 pub returns-clause-right : goal.returns-clause-right
 returns-clause-right g c =
@@ -16,5 +15,4 @@ returns-clause-right g c =
     let starts = c.as_slice.result.now in
     let stops = c.as_slice-2.result.now in
     let edges : AreEdgesOf records starts stops = rw (c.as_slice.ensures.value, c.as_slice-2.ensures.value) c.in_ok-starts.ensures in
-    let e = c.in_ok-from_entries.ensures in
-    edges-changes records starts stops e.values.0 c.in_ok-from_entries.field-0 edges e.values.1 e.ordered e.values.2
+    edges-changes records starts stops c.in_ok-changes_of.field-0 edges c.in_ok-changes_of.ensures

@@ -1,6 +1,6 @@
 use Rattle.std.proofs.Common.{◌∙◌, ap, length, map}
 use Rattle.std.proofs.lemmas.Result.{IfOk-weaker}
-use Rattle.iv_ledger.specs.Entries.{seen}
+use Rattle.iv_ledger.specs.Inside.Seen.{seen}
 use Rattle.iv_ledger.proofs.LedgerLemmas.{stored_gathered}
 use Rattle.iv_ledger.proofs.builder.LedgerBuilder.finish.Goals as goal
 

@@ -2,8 +2,8 @@ use Rattle.std.proofs.Common.{rules, refl, arith, sym, ap, ◌∙◌, ◌≡◌,
 use Rattle.std.specs.Vec.{vec_items}
 use Rattle.std.specs.Option.{option_map}
 use Rattle.std.proofs.lemmas.List.{length-map}
-use Rattle.iv_ledger.specs.Entries.{lent_entry, seen}
-use Rattle.iv_ledger.specs.Inside.Seen.{seen_chunk, seen_chunks}
+use Rattle.iv_ledger.specs.Entries.{lent_entry}
+use Rattle.iv_ledger.specs.Inside.Seen.{seen, seen_chunk, seen_chunks}
 use Rattle.iv_ledger.proofs.MapLemmas.{found_last, gap_no_last, gap_within, gap_last}
 use Rattle.iv_ledger.proofs.SeenLemmas.{seen_at}
 use Rattle.iv_ledger.proofs.LedgerLemmas.{seen_read, key_at, key_inside}

@@ -5,7 +5,7 @@ use Rattle.std.proofs.lemmas.Slice.{between_to_end}
 use Rattle.std.specs.Prelude.{All}
 use Rattle.std.proofs.lemmas.List.Elements.{All-drop}
 use Rattle.iv_ledger.specs.Inside.Chunks.{concatenated, AreFilled, IsFilled}
-use Rattle.iv_ledger.specs.Entries.{seen}
+use Rattle.iv_ledger.specs.Inside.Seen.{seen}
 use Rattle.iv_ledger.proofs.ChunkLemmas.{from_at}
 use Rattle.iv_ledger.proofs.SeenLemmas.{seen-from}
 use Rattle.iv_ledger.proofs.LedgerLemmas.{keys_from}
