@@ -8,8 +8,7 @@ use Rattle.iv_lines.specs.Named.{names_of}
 use Rattle.iv_lines.specs.Read.{Fits}
 use Rattle.iv_lines.specs.RecordValue.{RecordValue}
 use Rattle.iv_ledger.specs.Entries.{IsLedger, value_at}
-use Rattle.iv_cover.specs.Blocks.{block_at}
-use Rattle.iv_cover.specs.TrackBlocks.{start_of, stop_of}
+use Rattle.iv_cover.specs.Blocks.{block_at, start_of, stop_of}
 use Rattle.iv_lines.proofs.ListLemmas.{Mem, filter-agree, filter-filter, filter-none, all-mem, mem-all, same_tests}
 use Rattle.iv_blocks.specs.Inside.Groups.{is_in_group, starts_between, between, members_between, is_minus}
 use Rattle.iv_blocks.specs.Groups.{is_on_side, group, listed}

@@ -17,8 +17,7 @@ use Rattle.iv_lines.specs.Ordered.{AreInOrder}
 use Rattle.iv_lines.specs.Read.{Fits}
 use Rattle.iv_lines.specs.RecordText.{record_text}
 use Rattle.iv_lines.specs.RecordValue.{RecordValue, record_cmp}
-use Rattle.iv_cover.specs.Blocks.{blocks_below, block_at}
-use Rattle.iv_cover.specs.TrackBlocks.{start_of, stop_of}
+use Rattle.iv_cover.specs.Blocks.{blocks_below, block_at, start_of, stop_of}
 use Rattle.iv_lines.specs.CoveredPositions.{on}
 use Rattle.iv_lines.specs.declared.interval.Interval.{Interval}
 use Rattle.iv_cover.proofs.Groups.{mem-append}

@@ -1,7 +1,7 @@
 -- The rows of the members of numbered blocks are those of the cluster.
 use Rattle.std.proofs.Common.{◌≡◌, ℕ, zero, suc, ◌+◌, ◌≤◌, ◌++◌, inl, inr, List, [], ◌∷◌, map, length, Option, Some, None, refl, sym, ◌∙◌, ap, ap₂, subst, arith, All, append_assoc, length-append}
 use Rattle.std.specs.Option.{option_map}
-use Rattle.std.specs.Prelude.{sum}
+use Rattle.std.specs.Prelude.{filter, sum}
 use Rattle.std.specs.List.{flat_map, range_with_len, sum_by}
 use Rattle.std.proofs.lemmas.Bool.{cases_Bool, cond-true, cond-false}
 use Rattle.std.proofs.lemmas.List.{map-append, length-map}
@@ -11,40 +11,28 @@ use Rattle.iv_lines.specs.Genome.{Sequences, sequence_length, seq_count}
 use Rattle.iv_lines.specs.Ordered.{AreInOrder}
 use Rattle.iv_lines.specs.Read.{IsOnGenome}
 use Rattle.iv_lines.specs.RecordValue.{RecordValue}
-use Rattle.iv_cover.specs.Blocks.{blocks_below, is_block_start, block_stop, members}
+use Rattle.iv_cover.specs.Blocks.{blocks_below, is_block_start, block_stop, members, start_of, stop_of}
 use Rattle.iv_cover.specs.Inside.RemainingBlocks.{is_joined, block_of, block_with, still_open, remaining_blocks}
-use Rattle.iv_cover.specs.TrackBlocks.{BlockWithMembers, start_of, stop_of, block_on, blocks_on, blocks_of}
+use Rattle.iv_cover.specs.Inside.TrackBlocks.{BlockWithMembers, block_on, blocks_on, blocks_of}
 use Rattle.iv_lines.specs.CoveredPositions.{on}
-use Rattle.iv_cover.proofs.RemainingLemmas.{remaining-joined, remaining-split_up}
+use Rattle.iv_cover.proofs.RemainingLemmas.{members_of, remaining-joined, remaining-members, remaining-split_up}
 use Rattle.iv_cover.proofs.Cover.{home}
 use Rattle.iv_cover.proofs.WalkLemmas.{gathered, gathered-more, merge-all, on-in}
 use Rattle.iv_cover.proofs.Positions.{values, values-none, values-some}
-use Rattle.iv_lines.proofs.ListLemmas.{Mem, mem-filter, mem-contains}
+use Rattle.iv_lines.proofs.ListLemmas.{Mem, filter-all, mem-filter, mem-contains}
 use Rattle.iv_blocks.specs.ClusterRows.{blocks_before, cluster_row}
+use Rattle.iv_blocks.specs.Inside.Groups.{is_on}
+use Rattle.iv_blocks.specs.declared.group.Side.TheVariants.{Both}
 use Rattle.iv_blocks.specs.Inside.Texts.{block_number, cluster_text}
 use Rattle.iv_blocks.proofs.KeptLemmas.{flat_map-flat_map}
 use Rattle.iv_blocks.proofs.NumberLemmas.{at, own, own-number, same-home}
 use Rattle.iv_blocks.specs.Inside.BlockSweeps.{numbered_row, numbered_rows}
 
--- ---- the records that are in the blocks
+-- ---- the blocks that remain
 
--- the members of a block that may be open
-abbrev pub open_members : Option BlockWithMembers → List RecordValue
-open_members None = []
-open_members (Some b) = b.members
-
-abbrev pub members_of : List BlockWithMembers → List RecordValue
-members_of blocks = flat_map (λ b. b.members) blocks
-
--- each record that is left is in one of the remaining blocks, in order
-pub remaining-members : (d : ℕ) (records : List RecordValue) (current : Option BlockWithMembers) → members_of (remaining_blocks d current records) ≡ open_members current ++ records
-remaining-members d [] None = refl
-remaining-members d [] (Some b) = refl
-remaining-members d (r ∷ records) None = remaining-members d records (Some (block_of r))
-remaining-members d (r ∷ records) (Some b) = elim (cases_Bool (is_joined d b r)) [
-  | inl e ↦ ap members_of (remaining-joined d b r records e) ∙ remaining-members d records (Some (block_with b r)) ∙ append_assoc b.members (r ∷ []) records
-  | inr e ↦ ap members_of (remaining-split_up d b r records e) ∙ ap (λ (l : List RecordValue). b.members ++ l) (remaining-members d records (Some (block_of r)))
-]
+-- all are on the side that is both
+pub on-both : (records : List RecordValue) → filter (is_on Both) records ≡ records
+on-both records = filter-all (is_on Both) records (λ q m. refl)
 
 -- there are no more blocks than records, beside one that is open
 remaining-count : (d : ℕ) (records : List RecordValue) (current : Option BlockWithMembers) → length (remaining_blocks d current records) ≤ length records + length (still_open current)

@@ -9,11 +9,10 @@ use Rattle.iv_lines.specs.Genome.{Sequences, seq_count, sequence_name, sequence_
 use Rattle.iv_lines.specs.Named.{names_of}
 use Rattle.iv_lines.specs.Read.{Fits, IsOnGenome}
 use Rattle.iv_lines.specs.RecordValue.{RecordValue}
-use Rattle.iv_cover.specs.Blocks.{block_stop, block_at, blocks_below}
+use Rattle.iv_cover.specs.Blocks.{block_stop, block_at, blocks_below, start_of, stop_of}
 use Rattle.iv_lines.specs.CoveredPositions.{covers}
 use Rattle.iv_cover.specs.Depth.{depth}
 use Rattle.iv_cover.specs.Runs.{empty_runs}
-use Rattle.iv_cover.specs.TrackBlocks.{start_of, stop_of}
 use Rattle.iv_lines.specs.declared.interval.Interval.{Interval}
 use Rattle.iv_cover.proofs.Cover.{Free, Covered, some_start, block_at_start, block_at-some}
 use Rattle.iv_cover.proofs.Groups.{mem-left, mem-right, mem-append}

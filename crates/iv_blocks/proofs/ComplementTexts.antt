@@ -1,15 +1,12 @@
--- Where the blocks of records are, and where the next one starts.
-use Rattle.std.proofs.Common.{◌≡◌, ℕ, Bool, false, not, List, [], ◌∷◌, map, Option, Some, None, refl, sym, ◌∙◌, ap, inl, inr, All}
+-- Where the blocks of records are.
+use Rattle.std.proofs.Common.{◌≡◌, ℕ, Bool, false, not, List, map, Option, Some, None, refl, sym, ◌∙◌, ap, All}
 use Rattle.std.specs.List.{range_with_len}
 use Rattle.std.specs.Option.{option_map}
-use Rattle.std.proofs.lemmas.Bool.{cases_Bool}
 use Rattle.iv_lines.specs.Genome.{Sequences, seq_count, sequence_length}
 use Rattle.iv_lines.specs.Read.{IsOnGenome}
 use Rattle.iv_lines.specs.RecordValue.{RecordValue}
-use Rattle.iv_cover.specs.Blocks.{block_at, blocks_below}
-use Rattle.iv_cover.specs.Inside.RemainingBlocks.{is_joined, block_of, block_with, remaining_blocks}
-use Rattle.iv_cover.specs.TrackBlocks.{BlockWithMembers, start_of, stop_of, block_on, blocks_on, blocks_of}
-use Rattle.iv_cover.proofs.RemainingLemmas.{remaining-joined, remaining-split_up}
+use Rattle.iv_cover.specs.Blocks.{block_at, blocks_below, start_of, stop_of}
+use Rattle.iv_cover.specs.Inside.TrackBlocks.{block_on, blocks_on, blocks_of}
 use Rattle.iv_cover.proofs.Positions.{values-agree}
 use Rattle.iv_blocks.specs.Inside.Texts.{complement_text}
 use Rattle.iv_blocks.specs.Groups.{group}
@@ -18,21 +15,7 @@ use Rattle.iv_blocks.proofs.ComplementLemmas.{place_of, interval_at, intervals_o
 use Rattle.iv_blocks.proofs.KeptLemmas.{flat_map-agree, map-filter_map}
 use Rattle.iv_blocks.proofs.UnstrandedLemmas.{map-flat_map}
 use Rattle.iv_blocks.specs.Inside.BlockCursor.{texts}
-use Rattle.iv_blocks.specs.Inside.BlockSweeps.{interval_of, next_start}
-
--- ---- the next block
-
--- a block that is open starts where it did
-open-start : (d : ℕ) (records : List RecordValue) (b : BlockWithMembers) → next_start (map interval_of (remaining_blocks d (Some b) records)) ≡ Some (b.sequence, b.start)
-open-start d [] b = refl
-open-start d (r ∷ records) b = elim (cases_Bool (is_joined d b r)) [
-  | inl e ↦ ap (λ (l : List BlockWithMembers). next_start (map interval_of l)) (remaining-joined d b r records e) ∙ open-start d records (block_with b r)
-  | inr e ↦ ap (λ (l : List BlockWithMembers). next_start (map interval_of l)) (remaining-split_up d b r records e)
-]
-
--- the next block starts with the first record
-pub remaining-start : (d : ℕ) (r : RecordValue) (records : List RecordValue) → next_start (map interval_of (remaining_blocks d None (r ∷ records))) ≡ Some (r.seq, r.start)
-remaining-start d r records = open-start d records (block_of r)
+use Rattle.iv_blocks.specs.Inside.BlockSweeps.{interval_of}
 
 -- ---- where the blocks are
 

@@ -4,9 +4,8 @@ use Rattle.std.specs.List.{range_with_len, cons_option}
 use Rattle.std.specs.Option.{option_map}
 use Rattle.std.proofs.lemmas.Bool.{cases_lt, cases_eq, cases_Bool, lt-ltb, le-ltb, both_ways}
 use Rattle.iv_lines.specs.RecordValue.{RecordValue}
-use Rattle.iv_cover.specs.Blocks.{is_block_start, block_stop, block_at}
+use Rattle.iv_cover.specs.Blocks.{is_block_start, block_stop, block_at, start_of, stop_of}
 use Rattle.iv_cover.specs.Runs.{Run, empty_runs}
-use Rattle.iv_cover.specs.TrackBlocks.{start_of, stop_of}
 use Rattle.iv_lines.specs.declared.interval.Interval.{Interval}
 use Rattle.iv_cover.proofs.BlockLemmas.{covered-in_block}
 use Rattle.iv_cover.proofs.Cover.{Free, Covered, Lasting, IsBlock, cases_covered, block_at_start, block-test, block_at-some, block_at-none, block_unique, none_within}

@@ -10,10 +10,9 @@ use Rattle.iv_lines.specs.Named.{names_of}
 use Rattle.iv_lines.specs.Read.{Fits}
 use Rattle.iv_lines.specs.RecordValue.{RecordValue}
 use Rattle.iv_lines.proofs.ListLemmas.{Mem, mem-contains, filter-none, any-found, any-at}
-use Rattle.iv_cover.specs.Blocks.{is_block_start}
+use Rattle.iv_cover.specs.Blocks.{is_block_start, start_of, stop_of}
 use Rattle.iv_cover.specs.Depth.{depth}
 use Rattle.iv_cover.specs.Runs.{Run, empty_runs}
-use Rattle.iv_cover.specs.TrackBlocks.{start_of, stop_of}
 use Rattle.iv_cover.proofs.Cover.{Free, Lasting, IsBlock, next_start, home, home-starts, home-le}
 use Rattle.iv_cover.proofs.EmptyLemmas.{empty_runs-none, empty_runs-skip}
 use Rattle.iv_cover.proofs.EmptyMeanings.{empty-bare}

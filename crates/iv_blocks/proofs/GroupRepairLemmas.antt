@@ -12,8 +12,7 @@ use Rattle.iv_lines.specs.declared.record_ref.Strand.{Strand}
 use Rattle.iv_lines.specs.declared.record_ref.Strand.TheVariants.{Plus, Minus, Dot}
 use Rattle.iv_ledger.specs.Entries.{IsLedger, value_at}
 use Rattle.iv_ledger.specs.Steps.{TakesUpTo}
-use Rattle.iv_cover.specs.TrackBlocks.{start_of, stop_of}
-use Rattle.iv_cover.specs.Blocks.{block_at}
+use Rattle.iv_cover.specs.Blocks.{block_at, start_of, stop_of}
 use Rattle.iv_cover.specs.Inside.Blocks.{reaches}
 use Rattle.iv_lines.proofs.ListLemmas.{Mem, any-at, mem-filter, mem-filter_from, all-mem, mem-all, filter-agree, filter-filter, filter-weaker, same_tests}
 use Rattle.iv_cover.proofs.Groups.{HasOneMore, one_more}

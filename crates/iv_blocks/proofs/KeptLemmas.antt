@@ -8,8 +8,7 @@ use Rattle.iv_lines.specs.Genome.{Sequences, seq_count, sequence_name, sequence_
 use Rattle.iv_lines.specs.Named.{names_of}
 use Rattle.iv_lines.specs.Read.{Fits}
 use Rattle.iv_lines.specs.RecordValue.{RecordValue}
-use Rattle.iv_cover.specs.Blocks.{block_at, blocks_below}
-use Rattle.iv_cover.specs.TrackBlocks.{start_of, stop_of}
+use Rattle.iv_cover.specs.Blocks.{block_at, blocks_below, start_of, stop_of}
 use Rattle.iv_cover.proofs.Cover.{no_start-test, block_at-none}
 use Rattle.iv_cover.proofs.WalkLemmas.{blocks-none}
 use Rattle.iv_cover.proofs.Positions.{values-agree}

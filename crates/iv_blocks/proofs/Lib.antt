@@ -2,6 +2,7 @@ pub mod EntryLemmas
 pub mod InOrderLemmas
 pub mod KeptLemmas
 pub mod MergeLemmas
+pub mod JoinedBlocksLemmas
 pub mod UnstrandedLemmas
 pub mod NameLemmas
 pub mod Keys
@@ -22,11 +23,9 @@ pub mod GapLemmas
 pub mod ComplementLemmas
 pub mod ClusterLemmas
 pub mod NumberLemmas
-pub mod ComingLemmas
 pub mod MergeTexts
 pub mod ComplementTexts
 pub mod ClusterTexts
-pub mod SideLemmas
 pub mod RoomLemmas
 pub mod TextLemmas
 pub mod RegionLemmas

@@ -5,8 +5,8 @@ use Rattle.std.specs.List.{flat_map, range_with_len}
 use Rattle.std.proofs.lemmas.List.Folds.{flat_map-map}
 use Rattle.iv_lines.specs.Genome.{Sequences, seq_count, sequence_name, sequence_length}
 use Rattle.iv_lines.specs.RecordValue.{RecordValue}
-use Rattle.iv_cover.specs.Blocks.{blocks_below}
-use Rattle.iv_cover.specs.TrackBlocks.{start_of, stop_of, block_on, blocks_on, blocks_of}
+use Rattle.iv_cover.specs.Blocks.{blocks_below, start_of, stop_of}
+use Rattle.iv_cover.specs.Inside.TrackBlocks.{block_on, blocks_on, blocks_of}
 use Rattle.iv_lines.specs.CoveredPositions.{on}
 use Rattle.iv_cover.specs.declared.column.ColumnSummary.{ColumnSummary}
 use Rattle.iv_blocks.specs.Groups.{group, sides, listed}

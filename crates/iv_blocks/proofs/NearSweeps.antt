@@ -5,7 +5,7 @@ use Rattle.std.proofs.lemmas.Bool.{cond-true, cond-false, cases_lt, and_parts, a
 use Rattle.iv_lines.specs.Genome.{Sequences}
 use Rattle.iv_lines.specs.Ordered.{AreInOrder}
 use Rattle.iv_lines.specs.RecordValue.{RecordValue, record_cmp}
-use Rattle.iv_cover.specs.TrackBlocks.{start_of, stop_of}
+use Rattle.iv_cover.specs.Blocks.{start_of, stop_of}
 use Rattle.iv_lines.proofs.InOrderLemmas.{all-recursion, in_order-filter}
 use Rattle.iv_lines.proofs.ListLemmas.{Mem, any-found, filter-all, filter-none, filter-weaker}
 use Rattle.iv_lines.proofs.PrecedesLemmas.{precedes-from}

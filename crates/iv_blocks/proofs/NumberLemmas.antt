@@ -9,8 +9,7 @@ use Rattle.iv_lines.specs.Genome.{Sequences, sequence_length}
 use Rattle.iv_lines.specs.Read.{IsOnGenome}
 use Rattle.iv_lines.specs.RecordValue.{RecordValue}
 use Rattle.iv_cover.specs.BlockTerms.{BelongsTo}
-use Rattle.iv_cover.specs.Blocks.{is_block_start, block_at, block_stop, members}
-use Rattle.iv_cover.specs.TrackBlocks.{start_of, stop_of}
+use Rattle.iv_cover.specs.Blocks.{is_block_start, block_at, block_stop, members, start_of, stop_of}
 use Rattle.iv_lines.specs.CoveredPositions.{on}
 use Rattle.iv_cover.proofs.BlockLemmas.{blocks-home}
 use Rattle.iv_cover.proofs.Cover.{home, home-le, home-last, home-starts}

@@ -21,7 +21,7 @@ use Rattle.iv_lines.specs.Read.{Fits}
 use Rattle.iv_lines.specs.RecordValue.{RecordValue}
 use Rattle.iv_lines.proofs.ListLemmas.{Mem, mem-filter, all-mem, filter-agree, filter-none}
 use Rattle.iv_ledger.specs.Entries.{IsLedger, value_at}
-use Rattle.iv_cover.specs.TrackBlocks.{start_of, stop_of}
+use Rattle.iv_cover.specs.Blocks.{start_of, stop_of}
 use Rattle.iv_cover.proofs.Cover.{Lasting, IsBlock, ends_before}
 use Rattle.iv_blocks.specs.Groups.{group, listed, sides}
 use Rattle.iv_blocks.specs.Inside.Lookups.{IsLastBlock}

@@ -4,8 +4,7 @@ use Rattle.std.specs.Option.{option_map, option_or}
 use Rattle.std.proofs.lemmas.Bool.{cond-true, cond-false, cases_Bool, cases_lt, cases_eq, both_ways}
 use Rattle.std.proofs.lemmas.Option.{none-some, same_Some}
 use Rattle.iv_lines.specs.RecordValue.{RecordValue}
-use Rattle.iv_cover.specs.Blocks.{is_block_start, block_stop, block_at}
-use Rattle.iv_cover.specs.TrackBlocks.{start_of, stop_of}
+use Rattle.iv_cover.specs.Blocks.{is_block_start, block_stop, block_at, start_of, stop_of}
 use Rattle.iv_lines.proofs.ListLemmas.{Mem, mem-filter, filter-weaker, same_tests}
 use Rattle.iv_cover.proofs.Groups.{HasOneMore}
 use Rattle.iv_cover.proofs.Cover.{Covered, StartsAt, start_from, start-test, Lasting, lasting-fewer, IsBlock, IsRun, Free, run-alone, run-first, run-all, covered-more, block_unique, block_at_start, block-test, block-stop, block_at-some, block_at-none, no_start-test, none_within, stops_within, same_outside, removed_within, starts_in, starts_in-true, starts_in-from, home, home-starts, home-le, home-last, home-in, stops, free-past_last, free-none}

@@ -6,9 +6,9 @@ use Rattle.iv_lines.specs.Genome.{Sequences, seq_count, sequence_name, sequence_
 use Rattle.iv_lines.specs.Ordered.{AreInOrder}
 use Rattle.iv_lines.specs.Read.{IsOnGenome}
 use Rattle.iv_lines.specs.RecordValue.{RecordValue, record_cmp}
-use Rattle.iv_cover.specs.Blocks.{blocks_below}
+use Rattle.iv_cover.specs.Blocks.{blocks_below, start_of, stop_of}
 use Rattle.iv_cover.specs.Inside.RemainingBlocks.{remaining_blocks}
-use Rattle.iv_cover.specs.TrackBlocks.{BlockWithMembers, start_of, stop_of, block_on, blocks_on}
+use Rattle.iv_cover.specs.Inside.TrackBlocks.{BlockWithMembers, block_on, blocks_on}
 use Rattle.iv_lines.specs.CoveredPositions.{on}
 use Rattle.iv_lines.proofs.InOrderLemmas.{in_order-filter}
 use Rattle.iv_cover.proofs.WalkLemmas.{gathered-more, gathered-none_from, merge-all, on-none, blocks-none}

@@ -1,8 +1,6 @@
 -- The blocks of a walk with strands together, as they are kept.
-use Rattle.std.proofs.Common.{◌≡◌, ℕ, ◌+◌, max, Bool, true, false, List, [], ◌∷◌, ◌++◌, map, length, ◌==◌, ◌&&◌, nat_le, Some, None, refl, sym, ◌∙◌, ap, subst, append-nil, append_assoc, All}
-use Rattle.std.specs.Iterator.{Drains}
+use Rattle.std.proofs.Common.{◌≡◌, ℕ, false, List, [], ◌∷◌, ◌++◌, map, ◌==◌, refl, sym, ◌∙◌, ap, subst, append-nil, All}
 use Rattle.std.specs.List.{flat_map, range_with_len}
-use Rattle.std.proofs.lemmas.Iterator.Consumers.{YieldsList-from_shown}
 use Rattle.std.proofs.lemmas.List.Elements.{All-weaker}
 use Rattle.std.proofs.Math.Bool.{and-true}
 use Rattle.std.proofs.lemmas.List.{map-append}
@@ -10,21 +8,16 @@ use Rattle.iv_lines.specs.Genome.{Sequences, seq_count, sequence_length}
 use Rattle.iv_lines.specs.Named.{names_of}
 use Rattle.iv_lines.specs.Read.{Fits, IsOnGenome}
 use Rattle.iv_lines.specs.RecordValue.{RecordValue}
-use Rattle.iv_cover.specs.Blocks.{blocks_below}
-use Rattle.iv_cover.specs.TrackBlocks.{BlockWithMembers, start_of, stop_of, block_on, blocks_on, blocks_of, with_members}
+use Rattle.iv_cover.specs.Blocks.{blocks_below, start_of, stop_of}
+use Rattle.iv_cover.specs.Inside.TrackBlocks.{BlockWithMembers, block_on, blocks_on, blocks_of}
 use Rattle.iv_lines.specs.CoveredPositions.{on}
 use Rattle.iv_lines.proofs.ListLemmas.{filter-agree}
 use Rattle.iv_ledger.specs.Entries.{IsLedger, value_at}
-use Rattle.iv_track.proofs.CountedLemmas.{given-items}
-use Rattle.iv_cover.specs.Inside.RemainingBlocks.{remaining_blocks, is_joined}
-use Rattle.iv_lines.specs.declared.interval.Interval.{Interval}
-use Rattle.iv_cover.specs.declared.column.ColumnSummary.{ColumnSummary}
-use Rattle.iv_cover.proofs.RemainingLemmas.{remaining-begun, remaining-joined, remaining-split_up}
 use Rattle.iv_blocks.specs.Inside.Groups.{is_in_group}
 use Rattle.iv_blocks.specs.Groups.{group, sides, listed}
 use Rattle.iv_blocks.specs.KeptBlocks.{Key, Entries, key_cmp, kept_at}
 use Rattle.iv_blocks.specs.MergeRows.{side_blocks}
-use Rattle.iv_blocks.specs.Inside.UnstrandedBlocks.{kept_entry, entries_with, stop_entry, GivesStops}
+use Rattle.iv_blocks.specs.Inside.UnstrandedBlocks.{kept_entry, stop_entry}
 use Rattle.iv_blocks.specs.Inside.StoredBlocks.{plain_entry}
 use Rattle.iv_blocks.specs.declared.options.BlockOptions.{BlockOptions}
 use Rattle.iv_blocks.proofs.EntryLemmas.{rank_entries, all_entries}
@@ -39,10 +32,6 @@ all-lie g width records fit = All-weaker (Fits g width) (IsOnGenome g) (λ r fit
 pub map-flat_map : {X Y Z : Type 0} (h : Y → Z) (f : X → List Y) (xs : List X) → map h (flat_map f xs) ≡ flat_map (λ x. map h (f x)) xs
 map-flat_map h f [] = refl
 map-flat_map h f (x ∷ xs) = map-append h (f x) (flat_map f xs) ∙ ap (λ l. map h (f x) ++ l) (map-flat_map h f xs)
-
--- what is drained is what was left
-pub drained : (bs : List BlockWithMembers) (es : List (Key × ℕ)) → Drains GivesStops bs es → es ≡ map stop_entry bs
-drained bs es run = given-items bs es (map stop_entry bs) run (YieldsList-from_shown GivesStops (λ e. e) (map stop_entry) (λ s t h. ap length h.0) (λ s x t h. h) bs)
 
 module _ (o : BlockOptions) (g : Sequences) (width : ℕ) (records : List RecordValue) (fit : All (Fits g width) records) (together : o.stranded ≡ false) where
   -- the records of a sequence are its one group
@@ -92,38 +81,3 @@ module _ (o : BlockOptions) (g : Sequences) (width : ℕ) (records : List Record
         plain-alike l (map stop_entry (blocks_of o.distance g records)) k (same k)
         ∙ ap (λ (es : Entries). value_at key_cmp es k) (plain-kept (blocks_of o.distance g records))
         ∙ kept-found k
-
--- ---- entries that are made in one walk
-
-module _ (g : Sequences) (summaries : List ColumnSummary) (d : ℕ) where
-  -- the first record opens a block
-  pub entries-begun : (r : RecordValue) (records : List RecordValue) (block : Interval) → block ≡ record { seq = r.seq; start = r.start; stop = r.stop }
-      → entries_with g summaries d [] block (r ∷ []) records ≡ map (kept_entry g summaries) (remaining_blocks d None (r ∷ records))
-  entries-begun r records block is = ap (map (kept_entry g summaries)) (sym (remaining-begun d r records block is))
-
-  pub entries-alike : (es fs : Entries) (b c : Interval) (ms ns records : List RecordValue) → es ≡ fs → b ≡ c → ms ≡ ns → entries_with g summaries d es b ms records ≡ entries_with g summaries d fs c ns records
-  entries-alike es fs b c ms ns records p q r = λ i. entries_with g summaries d (p i) (q i) (r i) records
-
-  module _ (entries : Entries) (block : Interval) (members : List RecordValue) (r : RecordValue) (records : List RecordValue) (next : Interval)
-      (next_is : next ≡ record { seq = r.seq; start = r.start; stop = r.stop }) (test : Bool) (test_is : test ≡ ((next.seq == block.seq) && nat_le next.start (block.stop + d))) where
-    is_test : is_joined d (with_members block members) r ≡ test
-    is_test = sym (test_is ∙ ap (λ (n : Interval). (n.seq == block.seq) && nat_le n.start (block.stop + d)) next_is)
-
-    -- a record that joins the open block
-    pub entries-joined : (after : Interval) → after ≡ record { seq = block.seq; start = block.start; stop = max block.stop next.stop } → test ≡ true
-        → entries_with g summaries d entries after (members ++ r ∷ []) records ≡ entries_with g summaries d entries block members (r ∷ records)
-    entries-joined after after_is yes_test =
-        let whole : after ≡ record { seq = block.seq; start = block.start; stop = max block.stop r.stop }
-        = after_is ∙ ap (λ (n : Interval). record { seq = block.seq; start = block.start; stop = max block.stop n.stop }) next_is in
-        ap (λ (b : Interval). entries_with g summaries d entries b (members ++ r ∷ []) records) whole
-        ∙ ap (λ (bs : List BlockWithMembers). entries ++ map (kept_entry g summaries) bs) (sym (remaining-joined d (with_members block members) r records (is_test ∙ yes_test)))
-
-    -- a record that closes it
-    pub entries-split_up : (more : Entries) → more ≡ entries ++ kept_entry g summaries (with_members block members) ∷ [] → test ≡ false
-        → entries_with g summaries d more next (r ∷ []) records ≡ entries_with g summaries d entries block members (r ∷ records)
-    entries-split_up more more_is no_test =
-        let b : BlockWithMembers = with_members block members in
-        ap (λ (l : Entries). entries_with g summaries d l next (r ∷ []) records) more_is
-        ∙ append_assoc entries (kept_entry g summaries b ∷ []) (map (kept_entry g summaries) (remaining_blocks d (Some (with_members next (r ∷ []))) records))
-        ∙ ap (λ (bs : List BlockWithMembers). entries ++ kept_entry g summaries b ∷ map (kept_entry g summaries) bs) (sym (remaining-begun d r records next next_is))
-        ∙ ap (λ (bs : List BlockWithMembers). entries ++ map (kept_entry g summaries) bs) (sym (remaining-split_up d b r records (is_test ∙ no_test)))

@@ -4,9 +4,8 @@ use Rattle.std.specs.List.{range_with_len}
 use Rattle.iv_lines.specs.Genome.{Sequences, sequence_length}
 use Rattle.iv_lines.specs.RecordText.{record_text}
 use Rattle.iv_lines.specs.RecordValue.{RecordValue}
-use Rattle.iv_cover.specs.Blocks.{blocks_below}
+use Rattle.iv_cover.specs.Blocks.{blocks_below, start_of, stop_of}
 use Rattle.iv_lines.specs.CoveredPositions.{on}
-use Rattle.iv_cover.specs.TrackBlocks.{start_of, stop_of}
 
 -- how many blocks start below a position of the sequence of this rank
 abbrev pub blocks_before : ℕ → List RecordValue → ℕ → ℕ → ℕ

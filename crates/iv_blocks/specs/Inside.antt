@@ -1,5 +1,6 @@
 -- Definitions that no contract of the program or of the six public crates reaches.
 pub mod Groups
+pub mod JoinedBlocks
 pub mod UnstrandedBlocks
 pub mod MembersLeft
 pub mod BlockStorage

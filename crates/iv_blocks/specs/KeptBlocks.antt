@@ -5,8 +5,7 @@ use Rattle.std.specs.declared.cmp.Ordering.{Ordering}
 use Rattle.std.specs.Ordering.{nat_cmp, bool_cmp, ordering_then}
 use Rattle.iv_lines.specs.RecordValue.{RecordValue}
 use Rattle.iv_ledger.specs.Entries.{IsLedger, value_at}
-use Rattle.iv_cover.specs.Blocks.{last_passing, is_block_start, block_stop, block_at}
-use Rattle.iv_cover.specs.TrackBlocks.{start_of, stop_of}
+use Rattle.iv_cover.specs.Blocks.{last_passing, is_block_start, block_stop, block_at, start_of, stop_of}
 use Rattle.iv_cover.specs.Columns.{results_over}
 use Rattle.iv_cover.specs.declared.column.ColumnSummary.{ColumnSummary}
 use Rattle.iv_blocks.specs.Groups.{is_on_side, group, listed}

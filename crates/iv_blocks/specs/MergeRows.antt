@@ -5,8 +5,7 @@ use Rattle.iv_lines.specs.Genome.{Sequences, seq_count, sequence_name, sequence_
 use Rattle.iv_lines.specs.RecordValue.{RecordValue}
 use Rattle.iv_track.specs.Parts.{intervals_in}
 use Rattle.iv_track.specs.declared.region.Region.{Region}
-use Rattle.iv_cover.specs.Blocks.{blocks_below}
-use Rattle.iv_cover.specs.TrackBlocks.{start_of, stop_of}
+use Rattle.iv_cover.specs.Blocks.{blocks_below, start_of, stop_of}
 use Rattle.iv_cover.specs.Columns.{results_over}
 use Rattle.iv_cover.specs.declared.column.ColumnSummary.{ColumnSummary}
 use Rattle.iv_blocks.specs.Groups.{group, sides, listed}

@@ -3,11 +3,11 @@ ghost use Rattle.std.specs.Prelude.{◌≡◌};
 ghost use Rattle.iv_blocks.specs.KeptBlocks.{AreBlocksOf, block_steps};
 
 use crate::block_ledger::BlockLedger;
-use crate::entries::{UnstrandedBlocks, entries_of};
+use crate::entries::{entries_of, stops_of};
 use crate::group::Group;
 use crate::options::BlockOptions;
-use iv_cover::{BlockWalk, Kept};
-use iv_ledger::{Ledger, Meter};
+use iv_cover::Kept;
+use iv_ledger::{Meter, Natural};
 use iv_lines::{Genome, RecordRef};
 use iv_track::Track;
 use std::alloc::{AllocError, Allocator, Global};
@@ -43,7 +43,7 @@ impl<A: Allocator + Copy> Kept<A> for Blocks<A> {
 
     ghost repair_steps = { block_steps };
 
-    /// It allocates only the ledger, the results that are kept, and, while it is built, its entries and the members of a block.
+    /// It allocates only the ledger, the results that are kept, and, while it is built, the members of a block.
     /// If strands are together, the ledger is built at once from one walk over the track; else the blocks are inserted one by one.
     fn build(
         alloc: A,
@@ -53,8 +53,7 @@ impl<A: Allocator + Copy> Kept<A> for Blocks<A> {
         meter: &mut Meter,
     ) -> Result<Blocks<A>, AllocError> {
         if options.is_by_intervals() {
-            let sweep = BlockWalk::of(track.walk(0, 0, meter), options.distance);
-            let stops = Ledger::from_entries(alloc, UnstrandedBlocks::of(sweep, meter))?;
+            let stops = stops_of(alloc, options.distance, track, meter)?.finish(Natural)?;
             return Ok(Blocks {
                 options,
                 alloc,
@@ -62,8 +61,7 @@ impl<A: Allocator + Copy> Kept<A> for Blocks<A> {
             });
         }
         if !options.stranded {
-            let entries = entries_of(alloc, &options, track, genome, meter)?;
-            let blocks = Ledger::from_entries(alloc, entries.into_iter())?;
+            let blocks = entries_of(alloc, &options, track, genome, meter)?.finish(Natural)?;
             return Ok(Blocks {
                 options,
                 alloc,

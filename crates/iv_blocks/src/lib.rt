@@ -4,6 +4,7 @@
 
 mod block_cursor;
 mod block_ledger;
+mod block_members;
 mod blocks;
 mod cluster;
 mod cluster_region;
@@ -11,6 +12,7 @@ mod complement;
 mod complement_region;
 mod entries;
 mod group;
+mod joined_blocks;
 mod kept_block;
 mod lemmas;
 mod merge;
@@ -18,7 +20,7 @@ mod merge_region;
 mod merge_sweep;
 mod options;
 mod repair;
-mod side_blocks;
+mod side_records;
 mod sweeps;
 
 pub use blocks::Blocks;

@@ -4,17 +4,20 @@ ghost use Rattle.iv_bytes.specs.Sinks.{Puts};
 ghost use Rattle.iv_lines.specs.Ordered.{AreInOrder};
 ghost use Rattle.iv_lines.specs.Read.{IsOnGenome};
 ghost use Rattle.iv_cover.specs.Results.{HasRoom};
+ghost use Rattle.iv_cover.specs.Inside.TrackBlocks.{with_members};
 ghost use Rattle.iv_blocks.specs.Groups.{listed};
 ghost use Rattle.iv_blocks.specs.Inside.Groups.{is_on};
 ghost use Rattle.iv_blocks.specs.Inside.Texts.{merge_text};
 ghost use Rattle.iv_blocks.specs.Inside.MergeSweeps.{group_row, group_rows, sequence_rows};
 
+use crate::block_members::BlockMembers;
 use crate::group::Side;
+use crate::joined_blocks::JoinedBlocks;
 use crate::options::BlockOptions;
-use crate::side_blocks::{SideBlock, SideBlocks};
+use crate::side_records::SideRecords;
 use iv_bytes::{Sink, WriteFault, put_all};
 use iv_cover::{ColumnSummary, Value, asks_distinct, put_results};
-use iv_lines::{Genome, RowBuffer};
+use iv_lines::{Genome, Interval, RowBuffer};
 use iv_places::PlacedRecords;
 use std::alloc::{AllocError, Allocator, Global};
 use std::marker::Model;
@@ -119,8 +122,10 @@ fn put_side<'t, A: Allocator, S: Sink>(
     ensures room { vec_capacity values.old ≤ vec_capacity values.new }
 {
     let summaries = options.summaries.as_slice();
-    for found in SideBlocks::of(records, side, options.distance) {
-        put_block(summaries, name, &found, values, sink)?;
+    let on_side = SideRecords::of(records.again(), side);
+    let mut blocks = JoinedBlocks::of(on_side, options.distance);
+    while let Some((block, members)) = blocks.next_with_members(&mut ()) {
+        put_block(summaries, name, block, &members, values, sink)?;
     }
     Ok(())
 }
@@ -129,16 +134,17 @@ fn put_side<'t, A: Allocator, S: Sink>(
 fn put_block<'t, A: Allocator, S: Sink>(
     summaries: &[ColumnSummary],
     name: &'t [u8],
-    found: &SideBlock<'t>,
+    block: Interval,
+    members: &BlockMembers<SideRecords<'t>>,
     values: &mut Vec<Value<'t>, A>,
     sink: &mut S,
 ) -> Result<(), WriteFault>
-    requires room { HasRoom (vec_capacity values.old) (length found.now.members) summaries.now }
-    ensures text { Puts (S.state sink.old) (S.state sink.new) result (group_row name.now summaries.now found.now) }
+    requires room { HasRoom (vec_capacity values.old) (length members.now) summaries.now }
+    ensures text { Puts (S.state sink.old) (S.state sink.new) result (group_row name.now summaries.now (with_members block members.now)) }
     ensures room { vec_capacity values.old ≤ vec_capacity values.new }
 {
-    let (start, stop) = (u64::from(found.block.start), u64::from(found.block.stop));
+    let (start, stop) = (u64::from(block.start), u64::from(block.stop));
     RowBuffer::new().put_after_numbers(name, start, stop, sink)?;
-    put_results(summaries, name, &found.members, values, sink)?;
+    put_results(summaries, name, members, values, sink)?;
     put_all(sink, b"\n")
 }

@@ -1,16 +1,10 @@
 -- One step of a walk over the records that are left.
-use Rattle.std.proofs.Common.{ℕ, ◌≡◌, true, false, List, [], ◌∷◌, ◌++◌, Some, None, sym, ap, ap₂}
-use Rattle.std.proofs.lemmas.Bool.{cond-true, cond-false}
-use Rattle.iv_lines.specs.Intervals.{interval_of}
+use Rattle.std.proofs.Common.{ℕ, ◌≡◌, ◌∙◌, inl, inr, true, false, List, [], ◌∷◌, ◌++◌, Option, Some, None, refl, ap, ap₂, append_assoc}
+use Rattle.std.specs.List.{flat_map}
+use Rattle.std.proofs.lemmas.Bool.{cases_Bool, cond-true, cond-false}
 use Rattle.iv_lines.specs.RecordValue.{RecordValue}
-use Rattle.iv_lines.specs.declared.interval.Interval.{Interval}
-use Rattle.iv_cover.specs.TrackBlocks.{BlockWithMembers, with_members}
+use Rattle.iv_cover.specs.Inside.TrackBlocks.{BlockWithMembers}
 use Rattle.iv_cover.specs.Inside.RemainingBlocks.{is_joined, block_of, block_with, remaining_blocks}
-
--- the first record opens a block
-pub remaining-begun : (d : ℕ) (r : RecordValue) (rs : List RecordValue) (b : Interval) → b ≡ interval_of r
-    → remaining_blocks d None (r ∷ rs) ≡ remaining_blocks d (Some (with_members b (r ∷ []))) rs
-remaining-begun d r rs b is = ap (λ (n : Interval). remaining_blocks d (Some (with_members n (r ∷ []))) rs) (sym is)
 
 -- a record that joins the open block
 pub remaining-joined : (d : ℕ) (b : BlockWithMembers) (r : RecordValue) (rs : List RecordValue) → is_joined d b r ≡ true
@@ -25,3 +19,23 @@ pub remaining-split_up : (d : ℕ) (b : BlockWithMembers) (r : RecordValue) (rs 
 remaining-split_up d b r rs e =
     ap₂ (λ (l : List BlockWithMembers) (o : BlockWithMembers). l ++ remaining_blocks d (Some o) rs)
     (cond-false (is_joined d b r) [] (b ∷ []) e) (cond-false (is_joined d b r) (block_with b r) (block_of r) e)
+
+-- ---- the records that are in the blocks
+
+-- the members of a block that may be open
+abbrev pub open_members : Option BlockWithMembers → List RecordValue
+open_members None = []
+open_members (Some b) = b.members
+
+abbrev pub members_of : List BlockWithMembers → List RecordValue
+members_of blocks = flat_map (λ b. b.members) blocks
+
+-- each record that is left is in one of the remaining blocks, in order
+pub remaining-members : (d : ℕ) (records : List RecordValue) (current : Option BlockWithMembers) → members_of (remaining_blocks d current records) ≡ open_members current ++ records
+remaining-members d [] None = refl
+remaining-members d [] (Some b) = refl
+remaining-members d (r ∷ records) None = remaining-members d records (Some (block_of r))
+remaining-members d (r ∷ records) (Some b) = elim (cases_Bool (is_joined d b r)) [
+  | inl e ↦ ap members_of (remaining-joined d b r records e) ∙ remaining-members d records (Some (block_with b r)) ∙ append_assoc b.members (r ∷ []) records
+  | inr e ↦ ap members_of (remaining-split_up d b r records e) ∙ ap (λ (l : List RecordValue). b.members ++ l) (remaining-members d records (Some (block_of r)))
+]

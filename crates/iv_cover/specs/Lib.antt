@@ -1,5 +1,5 @@
 pub mod Blocks
-pub mod TrackBlocks
+pub mod RecordWalks
 pub mod BlockTerms
 pub mod Runs
 pub mod Depth

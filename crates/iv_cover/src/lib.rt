@@ -2,18 +2,17 @@
 //! kept views.
 #![tactic(auto)]
 
-mod block;
 mod column;
 mod kept;
 mod lemmas;
 mod number;
 mod op;
+mod record_walk;
 mod result_texts;
 mod summaries;
 mod value;
 mod values;
 
-pub use block::BlockWalk;
 pub use column::{Column, ColumnSummary, asks_distinct};
 pub use kept::Kept;
 pub use lemmas::{
@@ -22,6 +21,7 @@ pub use lemmas::{
 };
 pub use number::ParsedNumber;
 pub use op::Op;
+pub use record_walk::RecordWalk;
 pub use result_texts::{results, results_in, summary};
 pub use summaries::put_results;
 pub use value::Value;

@@ -13,7 +13,7 @@ use Rattle.iv_lines.specs.Read.{IsOnGenome}
 use Rattle.iv_lines.specs.RecordValue.{RecordValue, record_cmp}
 use Rattle.iv_cover.specs.Depth.{depth}
 use Rattle.iv_lines.specs.CoveredPositions.{on, covers}
-use Rattle.iv_cover.specs.TrackBlocks.{start_of, stop_of}
+use Rattle.iv_cover.specs.Blocks.{start_of, stop_of}
 use Rattle.iv_cover.proofs.DepthLemmas.{depth-cons}
 use Rattle.iv_lines.proofs.InOrderLemmas.{all-recursion}
 use Rattle.iv_lines.proofs.PrecedesLemmas.{Precedes, precedes-from}

@@ -1,5 +1,5 @@
 //! Records at places, lent one after another.
-ghost use Rattle.std.specs.Prelude.{◌≡◌, ◌≤◌, ◌==◌, nat_lt, [], ◌∷◌, All, MatchOption, filter, length, map, slice_get, take, drop};
+ghost use Rattle.std.specs.Prelude.{◌≡◌, ◌<◌, ◌≤◌, ◌^◌, ◌==◌, nat_lt, [], ◌∷◌, All, MatchOption, filter, length, map, slice_get, take, drop};
 ghost use Rattle.std.specs.Iterator.{YieldsFirst, item_count};
 ghost use Rattle.iv_lines.specs.RecordValue.{IsPlaced};
 ghost use Rattle.iv_lines.specs.Ordered.{AreInOrder};
@@ -60,6 +60,13 @@ impl<'t> PlacedRecords<'t> {
         ensures { result ≡ length self.now }
     {
         self.places.len()
+    }
+
+    /// A lemma for callers' proofs: 63 bits count the records. The call does nothing.
+    pub fn lemma_of_few(&self)
+        ensures { length self.now < 2 ^ 63 }
+    {
+        let _few = self.places.len();
     }
 
     /// Whether there is none.

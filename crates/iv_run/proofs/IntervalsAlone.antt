@@ -5,12 +5,11 @@ use Rattle.std.specs.List.{cons_option, filter_map, flat_map, list_any, range_wi
 use Rattle.std.specs.Option.{option_map}
 use Rattle.iv_lines.specs.Genome.{Sequences, seq_count, sequence_length, sequence_name}
 use Rattle.iv_lines.specs.RecordValue.{RecordValue}
-use Rattle.iv_cover.specs.Blocks.{block_at, block_stop, blocks_below, greatest, is_block_start, last_passing, members}
+use Rattle.iv_cover.specs.Blocks.{block_at, block_stop, blocks_below, greatest, is_block_start, last_passing, members, start_of, stop_of}
 use Rattle.iv_cover.specs.Inside.Blocks.{reaches}
 use Rattle.iv_lines.specs.CoveredPositions.{covers}
 use Rattle.iv_cover.specs.Depth.{depth}
 use Rattle.iv_cover.specs.Runs.{empty_runs}
-use Rattle.iv_cover.specs.TrackBlocks.{start_of, stop_of}
 use Rattle.iv_cover.specs.declared.column.ColumnSummary.{ColumnSummary}
 use Rattle.iv_blocks.specs.Inside.Texts.{complement_text, merge_text}
 use Rattle.iv_blocks.specs.ComplementRows.{gap_row}

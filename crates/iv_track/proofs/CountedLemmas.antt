@@ -1,8 +1,6 @@
 -- A list in order, its equal neighbours taken as one entry each.
-use Rattle.std.proofs.Common.{◌≡◌, ℕ, ◌+◌, ◌<◌, Bool, true, false, cond, List, [], ◌∷◌, length, refl, sym, ap, ◌∙◌, arith}
-use Rattle.std.specs.Prelude.{Option}
+use Rattle.std.proofs.Common.{◌≡◌, ℕ, ◌+◌, ◌<◌, Bool, true, false, cond, List, [], ◌∷◌, refl, sym, ap, ◌∙◌, arith}
 use Rattle.std.specs.Cmp.{IsTotalOrder, Equal-is, alike_right}
-use Rattle.std.specs.Iterator.{Drains, YieldsFirst}
 use Rattle.std.specs.List.{AllByRecursion}
 use Rattle.std.specs.List.Sorted.{IsStrictlySortedBy}
 use Rattle.std.specs.Map.{keys_of, values_of}
@@ -10,11 +8,8 @@ use Rattle.std.specs.Ordering.{is_eq, is_le, ordering_reverse}
 use Rattle.std.specs.declared.cmp.Ordering.{Ordering}
 use Rattle.std.specs.declared.cmp.Ordering.TheVariants.{Less, Equal, Greater}
 use Rattle.std.proofs.lemmas.Bool.{cond_both}
-use Rattle.std.proofs.lemmas.Iterator.{YieldsList, items_from_drains}
-use Rattle.std.proofs.lemmas.Iterator.Consumers.{YieldsList-from_shown}
 use Rattle.std.proofs.lemmas.List.Elements.{All-from_recursion}
 use Rattle.std.proofs.lemmas.List.Sums.{sum_by-cons}
-use Rattle.std.proofs.lemmas.List.{map-id}
 use Rattle.iv_lines.specs.Ordered.{InOrder}
 use Rattle.iv_lines.specs.Inside.Ordered.{copies_by}
 use Rattle.iv_track.specs.Copies.{expanded}
@@ -100,13 +95,3 @@ module _ {K : Type 0} (cmp : K → K → Ordering) (total : IsTotalOrder cmp) wh
       present : (ks : List K) → AllByRecursion (λ n. 0 < n) (values_of (grouped cmp ks))
       present [] = tt
       present (k ∷ ks) = from-present cmp k 1 ks (omega arith)
-
--- ---- what an iterator gives
-
--- the items that an iterator has given are those that it gives
-pub given-items : {S X : Type 0} {gives : S → Option X → S → Type 0} (s : S) (xs all : List X) → Drains gives s xs → YieldsList gives (λ x. x) s all → xs ≡ all
-given-items s xs all run list = sym (map-id xs) ∙ items_from_drains xs (run.1.0, run.1.1, λ _. (run.0, run.1.2)) list
-
-pub given-entries : {X : Type 0} (all xs : List X) → Drains (YieldsFirst (λ (es : List X). es)) all xs → xs ≡ all
-given-entries {X} all xs run =
-    given-items all xs all run (YieldsList-from_shown (YieldsFirst (λ (es : List X). es)) (λ e. e) (λ es. es) (λ s t h. ap length h.0) (λ s x t h. h) all)

@@ -1,14 +1,19 @@
 -- A walk over the entries of a track's map, seen as records.
-use Rattle.std.proofs.Common.{◌≡◌, ℕ, ◌<◌, Bool, true, false, cond, List, [], ◌∷◌, ◌++◌, refl, sym, ap, ◌∙◌, zero, suc}
+use Rattle.std.proofs.Common.{◌≡◌, ℕ, ◌<◌, ◌≤◌, arith, length, Bool, true, false, cond, List, [], ◌∷◌, ◌++◌, refl, sym, ap, ◌∙◌, zero, suc}
 use Rattle.std.specs.Prelude.{All, filter, replicate}
 use Rattle.std.specs.Map.{values_of}
 use Rattle.std.specs.Ordering.{nat_cmp}
 use Rattle.std.proofs.lemmas.Bool.{cond-true}
 use Rattle.std.proofs.lemmas.List.Elements.{filter-append, All-head, All-tail, All-cons}
+use Rattle.iv_lines.proofs.ListLemmas.{filter-weaker, filter-all}
 use Rattle.iv_lines.specs.RecordValue.{RecordValue}
 use Rattle.iv_track.specs.Copies.{expanded}
 use Rattle.iv_track.specs.Tracked.{is_from}
 use Rattle.iv_track.proofs.EntryIndexLemmas.{le_then, zero_le}
+
+-- no more pass than there are
+pub few : {K : Type 0} (p : K → Bool) (xs : List K) → length (filter p xs) ≤ length xs
+few p xs = omega (arith, filter-weaker p (λ q. true) xs (λ q m e. refl), ap length (filter-all (λ q. true) xs (λ q m. refl)))
 
 module _ {K : Type 0} where
   filter-replicate : (p : K → Bool) (n : ℕ) (k : K) → filter p (replicate n k) ≡ cond (p k) (replicate n k) []

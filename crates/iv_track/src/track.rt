@@ -277,6 +277,7 @@ impl<A: Allocator + Copy> Track<A> {
         ensures records { expanded result ≡ filter (is_from seq start) self.now.records }
         ensures each { length result ≡ different_records (filter (is_from seq start) self.now.records) }
         ensures present { All (λ n. 0 < n) (values_of result) }
+        ensures few { length (expanded result) < 2 ^ 32 }
         ensures ordered { AreInOrder self.now.records }
         ensures step { meter.new ≡ ticked meter.old }
     {

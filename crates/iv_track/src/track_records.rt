@@ -1,5 +1,5 @@
 //! A walk over the records of a track.
-ghost use Rattle.std.specs.Prelude.{◌≡◌};
+ghost use Rattle.std.specs.Prelude.{◌≡◌, ◌<◌, ◌^◌, length};
 ghost use Rattle.std.specs.Iterator.{YieldsFirst};
 ghost use Rattle.iv_ledger.specs.Steps.{TakesUpTo};
 ghost use Rattle.iv_track.specs.Lent.{again};
@@ -22,7 +22,7 @@ pub struct TrackRecords<'a, A: Allocator + Copy = Global> {
 }
 
 impl<'a, A: Allocator + Copy> Model for TrackRecords<'a, A> {
-    ghost use Rattle.std.specs.Prelude.{List, ◌++◌, ◌<◌, All};
+    ghost use Rattle.std.specs.Prelude.{List, ◌++◌, ◌<◌, ◌^◌, All, length};
     ghost use Rattle.std.specs.Map.{values_of};
     ghost use Rattle.iv_lines.specs.RecordValue.{RecordValue};
     ghost use Rattle.iv_track.specs.Copies.{expanded};
@@ -32,7 +32,7 @@ impl<'a, A: Allocator + Copy> Model for TrackRecords<'a, A> {
 
     ghost view = { λ w. again w.held ++ expanded w.entries };
 
-    ghost invariant = { λ w. All (λ n. 0 < n) (values_of w.entries) };
+    ghost invariant = { λ w. All (λ n. 0 < n) (values_of w.entries) × (length (again w.held ++ expanded w.entries) < 2 ^ 32) };
 }
 
 impl<'a, A: Allocator + Copy> TrackRecords<'a, A> {
@@ -45,7 +45,9 @@ impl<'a, A: Allocator + Copy> TrackRecords<'a, A> {
             return Some(next);
         }
         let (feature, count) = self.entries.next(meter)?;
-        self.held = Some((feature.again(), *count - 1));
+        if *count > 1 {
+            self.held = Some((feature.again(), *count - 1));
+        }
         Some(feature)
     }
 
@@ -60,6 +62,14 @@ impl<'a, A: Allocator + Copy> TrackRecords<'a, A> {
                 None => None,
             },
         }
+    }
+
+    /// A lemma for callers' proofs: 32 bits count the records that are left. The call does nothing.
+    pub fn lemma_of_few(&self)
+        ensures { length self.now < 2 ^ 32 }
+    {
+        // After this read the type's invariant is known.
+        let _held = &self.held;
     }
 }
 

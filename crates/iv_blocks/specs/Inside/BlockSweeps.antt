@@ -1,20 +1,15 @@
 -- What remains to be written during a sweep over blocks. This is the state of a print, as seen by its proof.
-use Rattle.std.specs.Prelude.{ℕ, ◌+◌, ◌++◌, List, [], ◌∷◌, Option, Some, None, codes, decimal}
+use Rattle.std.specs.Prelude.{ℕ, ◌+◌, ◌++◌, List, [], ◌∷◌, codes, decimal}
 use Rattle.std.specs.List.{flat_map}
 use Rattle.iv_lines.specs.Genome.{Sequences, sequence_name}
 use Rattle.iv_lines.specs.RecordText.{record_text}
 use Rattle.iv_lines.specs.RecordValue.{RecordValue}
 use Rattle.iv_lines.specs.declared.interval.Interval.{Interval}
-use Rattle.iv_cover.specs.TrackBlocks.{BlockWithMembers}
+use Rattle.iv_cover.specs.Inside.TrackBlocks.{BlockWithMembers}
 
 -- the interval of a block with members
 abbrev pub interval_of : BlockWithMembers → Interval
 interval_of b = record { seq = b.sequence; start = b.start; stop = b.stop }
-
--- where the first of the blocks starts: the rank of its sequence, and the position
-abbrev pub next_start : List Interval → Option (ℕ × ℕ)
-next_start [] = None
-next_start (b ∷ blocks) = Some (b.seq, b.start)
 
 -- the row of an interval: the sequence's name, start and stop between tabs, and a line feed
 abbrev pub interval_row : Sequences → Interval → List ℕ

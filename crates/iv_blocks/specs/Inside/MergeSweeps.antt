@@ -3,7 +3,7 @@ use Rattle.std.specs.Prelude.{ℕ, List, None, filter}
 use Rattle.std.specs.List.{flat_map}
 use Rattle.iv_lines.specs.RecordValue.{RecordValue}
 use Rattle.iv_cover.specs.Inside.RemainingBlocks.{remaining_blocks}
-use Rattle.iv_cover.specs.TrackBlocks.{BlockWithMembers}
+use Rattle.iv_cover.specs.Inside.TrackBlocks.{BlockWithMembers}
 use Rattle.iv_cover.specs.declared.column.ColumnSummary.{ColumnSummary}
 use Rattle.iv_blocks.specs.Groups.{is_on_side, listed, sides}
 use Rattle.iv_blocks.specs.MergeRows.{block_row}

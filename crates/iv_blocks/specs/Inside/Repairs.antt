@@ -6,7 +6,7 @@ use Rattle.std.specs.Map.{remove_entry}
 use Rattle.std.specs.BTreeMap.{is_at}
 use Rattle.iv_ledger.specs.Entries.{IsLedger, value_at}
 use Rattle.iv_cover.specs.Inside.Blocks.{reaches}
-use Rattle.iv_cover.specs.TrackBlocks.{start_of, stop_of}
+use Rattle.iv_cover.specs.Blocks.{start_of, stop_of}
 use Rattle.iv_blocks.specs.KeptBlocks.{Key, key_cmp, Kept, KeptBlocks}
 use Rattle.iv_blocks.specs.Inside.Lookups.{IsLastBlock}
 use Rattle.iv_blocks.specs.Inside.Insertion.{key_of, IsOfOther}

@@ -1,8 +1,8 @@
--- The blocks that remain of a walk over records in order. This is the state of `BlockWalk`, as seen by its proof: a new
--- `BlockWalk` shows `blocks_of`.
+-- The blocks that remain of a walk over records in order. This is the state of `JoinedBlocks` of `iv_blocks`, as
+-- seen by its proof: a new one shows `blocks_of`.
 use Rattle.std.specs.Prelude.{ℕ, ◌+◌, ◌==◌, ◌&&◌, nat_le, Bool, List, [], ◌∷◌, ◌++◌, max, Option, None, Some, if◌then◌else◌}
 use Rattle.iv_lines.specs.RecordValue.{RecordValue}
-use Rattle.iv_cover.specs.TrackBlocks.{BlockWithMembers}
+use Rattle.iv_cover.specs.Inside.TrackBlocks.{BlockWithMembers}
 
 -- the record joins the block: it is on the same sequence, and starts at most d past the block's stop
 abbrev pub is_joined : ℕ → BlockWithMembers → RecordValue → Bool

@@ -1,5 +1,5 @@
 -- Equal neighbours of a list as one entry each.
-use Rattle.std.specs.Prelude.{◌≡◌, ℕ, ◌+◌, ◌<◌, List, [], ◌∷◌, Option, Some, None, All, if◌then◌else◌}
+use Rattle.std.specs.Prelude.{◌≡◌, ℕ, ◌+◌, ◌<◌, List, [], ◌∷◌, All, if◌then◌else◌}
 use Rattle.std.specs.Map.{values_of}
 use Rattle.std.specs.declared.cmp.Ordering.{Ordering}
 use Rattle.std.specs.Ordering.{is_eq}
@@ -23,8 +23,3 @@ module _ {K : Type 0} (cmp : K → K → Ordering) where
     pub ordered : IsLedger cmp es
     pub present : All (λ n. 0 < n) (values_of es)
     pub counted : (k : K) → copies_by cmp (expanded es) k ≡ copies_by cmp keys k
-
--- the one that was read ahead, if there is one, and those that are left
-abbrev pub left : {K : Type 0} → Option K → List K → List K
-left None ks = ks
-left (Some k) ks = k ∷ ks

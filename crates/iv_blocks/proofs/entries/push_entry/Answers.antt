@@ -13,4 +13,4 @@ returns g c =
     = c.as_slice-2.ensures.value ∙ (rw (c.name_or_empty-name.ensures, c.as_slice.ensures) at c.in_ok-results.ensures) in
     let kept : c.in_ok-kept.kept ≡ record { stop = b.stop; results = results_over (sequence_name a.genome.now b.seq) (listed a.options.now.summaries) a.members.now }
     = c.in_ok-kept.ensures ∙ ap (λ (t : List ℕ). record { stop = b.stop; results = t }) texts in
-    c.in_ok-push.ensures.items ∙ ap₂ (λ (q : Key) (k : Kept). a.entries.now.items ++ (q, k) ∷ []) c.key_of.ensures kept
+    c.in_ok-push.ensures.ok ∙ ap₂ (λ (q : Key) (k : Kept). a.built.now ++ (q, k) ∷ []) c.key_of.ensures kept

@@ -5,7 +5,7 @@ use Rattle.iv_bytes.proofs.PutLemmas.{Underway-begin, Underway-more, Underway-fa
 use Rattle.iv_lines.specs.Genome.{Sequences}
 use Rattle.iv_lines.specs.Inside.Intervals.{interval_records}
 use Rattle.iv_lines.specs.declared.interval.Interval.{Interval}
-use Rattle.iv_cover.specs.TrackBlocks.{blocks_of}
+use Rattle.iv_cover.specs.Inside.TrackBlocks.{blocks_of}
 use Rattle.iv_blocks.specs.Inside.BlockSweeps.{interval_of, interval_row}
 use Rattle.iv_blocks.specs.Inside.Texts.{merge_text}
 use Rattle.iv_blocks.specs.IntervalOptions.{IsByIntervals}
@@ -19,18 +19,18 @@ text-is : (d : ℕ) (g : Sequences) (intervals : List Interval) (o : BlockOption
 text-is d g intervals o plain = flat_map-map (interval_row g) interval_of (blocks_of d g (interval_records intervals)) ∙ text-blocks d g (interval_records intervals) o plain
 
 pub loop-block-init : goal.loop-block-init
-loop-block-init g c = rw (c.into_iter-block-iterator.ensures.into_iter_gives ∙ c.of-block-items.ensures c.args.genome.now c.requires.on_genome) (Underway-begin _ _)
+loop-block-init g c = rw (c.of-blocks.ensures.blocks c.requires.order c.args.genome.now c.requires.on_genome) (Underway-begin _ _)
 
 pub loop-block-preserved : goal.loop-block-preserved
-loop-block-preserved g c = Underway-more _ _ _ _ _ _ (rw c.in-Some.ensures.steps at c.loop-block.invariant) c.in_ok-put_block.ensures
+loop-block-preserved g c = Underway-more _ _ _ _ _ _ (rw c.in-Some.ensures.1 at c.loop-block.invariant) c.in_ok-put_block.ensures
 
 pub returns-in_err-put_block : goal.returns-in_err-put_block
 returns-in_err-put_block g c = λ o plain.
     rw (← text-is c.args.distance c.args.genome.now c.args.intervals.now o plain)
     (Puts-err _ _ c.from_residual.result _ c.from_residual.ensures.0
-    (Underway-fails _ _ _ _ _ _ (rw c.in-Some.ensures.steps at c.loop-block.invariant) c.in_err-put_block.ensures))
+    (Underway-fails _ _ _ _ _ _ (rw c.in-Some.ensures.1 at c.loop-block.invariant) c.in_err-put_block.ensures))
 
 pub returns : goal.returns
 returns g c = λ o plain.
     rw (← text-is c.args.distance c.args.genome.now c.args.intervals.now o plain)
-    (Underway-ends _ _ _ (rw c.in-None.ensures.steps.0 at c.loop-block.invariant))
+    (Underway-ends _ _ _ (rw c.in_default.ensures.0 at c.loop-block.invariant))

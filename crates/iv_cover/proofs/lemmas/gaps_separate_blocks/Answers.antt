@@ -1,4 +1,4 @@
-use Rattle.iv_cover.specs.TrackBlocks.{start_of, stop_of}
+use Rattle.iv_cover.specs.Blocks.{start_of, stop_of}
 use Rattle.iv_cover.proofs.Meanings.{filled, starts-apart}
 use Rattle.iv_cover.proofs.lemmas.gaps_separate_blocks.Goals as goal
 

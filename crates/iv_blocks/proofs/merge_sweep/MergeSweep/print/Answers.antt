@@ -10,7 +10,7 @@ use Rattle.iv_cover.specs.Results.{HasRoom}
 use Rattle.iv_cover.proofs.FirstLemmas.{Underway-step, Underway-failed}
 use Rattle.iv_places.proofs.SequenceLemmas.{all-from, from-in, from-order, from-here, from-later}
 use Rattle.iv_blocks.proofs.RoomLemmas.{room-more}
-use Rattle.iv_blocks.proofs.SideLemmas.{few}
+use Rattle.iv_track.proofs.WalkLemmas.{few}
 use Rattle.iv_blocks.proofs.TextLemmas.{rows-next}
 use Rattle.iv_blocks.proofs.merge_sweep.MergeSweep.print.Goals as goal
 

@@ -1,4 +1,4 @@
-use Rattle.std.proofs.Common.{◌≡◌, ◌∙◌, length, sym, ap, subst}
+use Rattle.std.proofs.Common.{◌≡◌, ◌∙◌, List, length, sym, ap, subst, arith}
 use Rattle.std.specs.Prelude.{filter}
 use Rattle.std.proofs.lemmas.List.Kept.{IsStrictlySortedBy-filter}
 use Rattle.iv_lines.specs.RecordValue.{RecordValue, record_cmp, records_total}
@@ -11,7 +11,8 @@ use Rattle.iv_track.specs.Tracked.{Tracked, different_records, is_from}
 use Rattle.iv_lines.specs.Ordered.{AreInOrder}
 use Rattle.iv_track.proofs.Counts.{in_order-expanded}
 use Rattle.iv_track.proofs.DifferentLemmas.{different-expanded, keys-filter}
-use Rattle.iv_track.proofs.WalkLemmas.{expanded-filter, present-filter}
+use Rattle.iv_track.proofs.TrackLemmas.{len-rows}
+use Rattle.iv_track.proofs.WalkLemmas.{few, expanded-filter, present-filter}
 use Rattle.iv_track.proofs.track.Track.entries_from.Given as given
 use Rattle.iv_track.proofs.track.Track.entries_from.Goals as goal
 
@@ -35,6 +36,19 @@ returns-clause-records g c = ap expanded (passed g c) ∙ meant g c
 
 pub returns-clause-present : goal.returns-clause-present
 returns-clause-present g c = rw (passed g c) (present-filter (λ e. is_from c.args.seq c.args.start e.0) c.self.inside.ledger c.self.invariant.track.present)
+
+pub returns-clause-few : goal.returns-clause-few
+returns-clause-few g c =
+    let i = c.self.inside in
+    let t = c.self.invariant.track in
+    omega (
+      arith,
+      ap (λ (l : List RecordValue). length l) (ap expanded (passed g c) ∙ expanded-filter (is_from c.args.seq c.args.start) i.ledger),
+      few (is_from c.args.seq c.args.start) (expanded i.ledger),
+      len-rows i.ledger i.len i.width i.limit t,
+      t.room,
+      t.bounded,
+    )
 
 pub returns-clause-ordered : goal.returns-clause-ordered
 returns-clause-ordered g c =

@@ -1,0 +1,135 @@
+//! The blocks of a walk over records.
+ghost use Rattle.std.specs.Prelude.{◌≡◌, All, List, None};
+ghost use Rattle.iv_lines.specs.Genome.{Sequences};
+ghost use Rattle.iv_lines.specs.Ordered.{AreInOrder};
+ghost use Rattle.iv_lines.specs.Read.{IsOnGenome};
+ghost use Rattle.iv_lines.specs.RecordValue.{RecordValue};
+ghost use Rattle.iv_ledger.specs.Steps.{TakesUpTo};
+ghost use Rattle.iv_cover.specs.Inside.RemainingBlocks.{remaining_blocks};
+ghost use Rattle.iv_cover.specs.RecordWalks.{GivesRecord};
+ghost use Rattle.iv_cover.specs.Inside.TrackBlocks.{blocks_of, GivesFirst};
+ghost use Rattle.iv_blocks.specs.Inside.JoinedBlocks.{GivesBlock, IsFirstOf, ahead_of, first_start};
+
+use crate::block_members::BlockMembers;
+use iv_cover::RecordWalk;
+use iv_lines::Interval;
+use std::marker::Model;
+
+/// The blocks that remain of a walk over records.
+///
+/// Records of one sequence that overlap, are book-ended or lie at most `distance` bases apart are in one
+/// block. Blocks come by the sequence's rank, and then by start. The model is the list of those that are left,
+/// each with the records that are in it. No call takes memory.
+#[derive(Drop)]
+pub(crate) struct JoinedBlocks<W: RecordWalk> {
+    records: W,
+    // The record that closed the block before.
+    ahead: Option<W::Record>,
+    distance: u32,
+}
+
+impl<W: RecordWalk> Model for JoinedBlocks<W> {
+    ghost use Rattle.std.specs.Prelude.{List, None};
+    ghost use Rattle.iv_cover.specs.Inside.RemainingBlocks.{remaining_blocks};
+    ghost use Rattle.iv_blocks.specs.Inside.JoinedBlocks.{ahead_of};
+    ghost use Rattle.iv_cover.specs.Inside.TrackBlocks.{BlockWithMembers};
+
+    ghost Value = { List BlockWithMembers };
+
+    ghost view = { λ b. remaining_blocks b.distance None (ahead_of W.value b.ahead (W.left b.records)) };
+}
+
+impl<W: RecordWalk> JoinedBlocks<W> {
+    /// The blocks of the records that a walk has left.
+    ///
+    /// If these are in the order of a track, they are the blocks of the definition for every genome that the records are on.
+    pub(crate) fn of(records: W, distance: u32) -> Self
+        ensures left { result ≡ remaining_blocks distance None (W.left records) }
+        ensures blocks { AreInOrder (W.left records) → (g : Sequences) → All (IsOnGenome g) (W.left records) → result ≡ blocks_of distance g (W.left records) }
+    {
+        JoinedBlocks {
+            records,
+            ahead: None,
+            distance,
+        }
+    }
+
+    /// The next block, `None` after the last. It reads the walk up to the first record of the block after it.
+    pub(crate) fn next(&mut self, meter: &mut W::Meter) -> Option<Interval>
+        ensures { GivesFirst self.old result self.new }
+    {
+        let (block, _) = self.next_counted(meter)?;
+        Some(block)
+    }
+
+    /// The next block and the records that are in it, in their order; `None` after the last. It goes as far as `next`.
+    pub(crate) fn next_with_members(
+        &mut self,
+        meter: &mut W::Meter,
+    ) -> Option<(Interval, BlockMembers<W>)>
+        ensures { GivesBlock self.old result self.new }
+    {
+        let first = record_again::<W>(&self.ahead);
+        let records = self.records.again();
+        let (block, count) = self.next_counted(meter)?;
+        Some((block, BlockMembers::of(first, records, count)))
+    }
+
+    /// Where the next block starts: the rank of its sequence, and the position. `None` if no block is left. At most one step.
+    pub(crate) fn next_start(&mut self, meter: &mut W::Meter) -> Option<(u32, u32)>
+        ensures start { result ≡ first_start self.old }
+        ensures same { self.new ≡ self.old }
+        ensures steps { TakesUpTo (W.steps meter.old) (W.steps meter.new) 1 }
+    {
+        let record = next_of(&mut self.ahead, &mut self.records, meter)?;
+        let first = W::interval(&record);
+        self.ahead = Some(record);
+        Some((first.seq, first.start))
+    }
+
+    /// The next block, and how many records are in it.
+    fn next_counted(&mut self, meter: &mut W::Meter) -> Option<(Interval, u64)>
+        ensures { IsFirstOf self.old result self.new }
+    {
+        self.records.lemma_of_few();
+        let first = next_of(&mut self.ahead, &mut self.records, meter)?;
+        let mut block = W::interval(&first);
+        let mut count: u64 = 1;
+        while let Some(record) = self.records.next(meter) {
+            let next = W::interval(&record);
+            if !block.is_joined_by(next, self.distance) {
+                self.ahead = Some(record);
+                return Some((block, count));
+            }
+            block = block.with(next);
+            count += 1;
+        }
+        Some((block, count))
+    }
+}
+
+/// The record that was put back, or the next of the walk. At most one step.
+pub(crate) fn next_of<W: RecordWalk>(
+    ahead: &mut Option<W::Record>,
+    records: &mut W,
+    meter: &mut W::Meter,
+) -> Option<W::Record>
+    ensures none { ahead.new ≡ None }
+    ensures first { GivesRecord W.value (ahead_of W.value ahead.old (W.left records.old)) result (W.left records.new) }
+    ensures steps { TakesUpTo (W.steps meter.old) (W.steps meter.new) 1 }
+{
+    match ahead.take() {
+        Some(record) => Some(record),
+        None => records.next(meter),
+    }
+}
+
+/// A record that was put back, once more.
+pub(crate) fn record_again<W: RecordWalk>(ahead: &Option<W::Record>) -> Option<W::Record>
+    ensures { (records : List RecordValue) → ahead_of W.value result records ≡ ahead_of W.value ahead.now records }
+{
+    match ahead {
+        Some(record) => Some(W::record_again(record)),
+        None => None,
+    }
+}
