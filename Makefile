@@ -32,7 +32,7 @@ DOCUMENTS = README.md CHANGELOG.md LICENSE CITATION.cff packaging/r/bedkeep.R $(
 
 help:
 	@echo 'make try     in a minute, without a proof: the first session of the README, or a run of your own as in make try ARGS="merge -g sizes -i genes.bed"; it leaves $(UNPROVED)'
-	@echo 'make check   the examples of tests/, sizes, hints and options over that program, in minutes'
+	@echo 'make check   the examples of tests/, sizes, hints, options and system calls over that program, in minutes'
 	@echo 'make build   prove and build the program; it is left at $(PROGRAM)'
 	@echo 'make demo    build it, then run the scripts of examples/ over the files beside them'
 	@echo 'make install     put the built program, the man pages, its completions and the Python package below PREFIX (/usr/local)'
@@ -54,9 +54,11 @@ check:
 	python3 scripts/test/options.py $(UNPROVED)
 	python3 scripts/test/hints.py $(UNPROVED)
 	python3 scripts/test/sizes.py $(UNPROVED)
+	python3 scripts/test/system_calls.py $(UNPROVED)
 
 build:
 	RT=$(RT) python3 scripts/prove/build.py
+	RT=$(RT) scripts/prove/names_logic.sh crates/bedkeep/out/bedkeep
 	mkdir -p build && cp crates/bedkeep/out/bedkeep $(PROGRAM)
 
 demo: build
@@ -90,8 +92,11 @@ uninstall:
 dist: build
 	RT=$(RT) scripts/release/pack.sh
 
-# rt ci leaves the program that it proved and built beside the crate.
+# rt ci leaves the program that it proved and built beside the crate. What a script leaves out because a tool isn't there it also adds to
+# a file, LEFT_OUT.
+test: export LEFT_OUT = $(CURDIR)/build/left_out
 test:
+	@mkdir -p build && : > "$$LEFT_OUT"
 	python3 scripts/test/lint.py --try
 	python3 scripts/test/lint.py
 	python3 scripts/test/refused_rows.py
@@ -100,11 +105,14 @@ test:
 	python3 scripts/prove/reached.py --check
 	python3 scripts/prove/mutants.py --applies
 	RT=$(RT) scripts/prove/check.sh
-	mkdir -p build && cp crates/bedkeep/out/bedkeep $(PROGRAM)
+	RT=$(RT) scripts/prove/names_logic.sh crates/bedkeep/out/bedkeep
+	cp crates/bedkeep/out/bedkeep $(PROGRAM)
 	scripts/test/interactive.sh $(PROGRAM)
 	scripts/test/command_line.sh $(PROGRAM)
 	python3 scripts/test/transcripts.py $(PROGRAM)
 	python3 scripts/test/sizes.py $(PROGRAM)
+	python3 scripts/test/promised_sizes.py $(PROGRAM)
+	python3 scripts/test/system_calls.py $(PROGRAM)
 	python3 scripts/test/cuts.py $(PROGRAM)
 	python3 scripts/test/growth.py $(PROGRAM)
 	scripts/test/examples.sh $(PROGRAM)
@@ -117,6 +125,7 @@ test:
 	python3 scripts/test/hints.py $(PROGRAM)
 	python3 scripts/test/pages.py $(PROGRAM)
 	python3 scripts/test/fuzz.py $(PROGRAM) --seed 1 --seconds 20
+	@if [ -s "$$LEFT_OUT" ]; then sort -u "$$LEFT_OUT"; else echo 'nothing was left out'; fi
 
 mutants:
 	RT=$(RT) python3 scripts/prove/mutants.py

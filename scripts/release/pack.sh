@@ -8,6 +8,8 @@
 set -eu
 umask 022
 cd "$(dirname "$0")/../.."
+# shellcheck source=scripts/test/left_out.sh
+. scripts/test/left_out.sh
 scripts/release/wheel.sh
 program=build/static/bedkeep
 scripts/release/link_static.sh "$program"
@@ -15,13 +17,7 @@ if readelf --program-headers "$program" | grep -q INTERP || readelf --dynamic "$
     echo "$program needs a shared library" >&2
     exit 1
 fi
-# Releases of the toolchain have names of their own; what a proof rests on is their logic.
-toolchain=$("${RT:-rt}" version)
-logic="logic ${toolchain##* logic }"
-if ! "$program" --version | grep -q "^proved with .* $logic\$" || ! grep -qF "$logic" README.md; then
-    echo '--version or the README names another logic than rt version' >&2
-    exit 1
-fi
+scripts/prove/names_logic.sh "$program"
 scripts/test/interactive.sh "$program"
 scripts/test/command_line.sh "$program"
 python3 scripts/test/transcripts.py "$program"
@@ -169,7 +165,11 @@ END
             echo "$said" >&2
             exit 1
         fi
+    else
+        left_out 'a look at the Debian package' 'no lintian'
     fi
+else
+    left_out 'the Debian package' 'no dpkg-deb'
 fi
 
 (cd build && sha256sum "${made[@]}" > SHA256SUMS && cat SHA256SUMS)

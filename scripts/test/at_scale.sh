@@ -27,7 +27,7 @@ PYTHONPATH=$(realpath "$(dirname "$0")/../../python")
 export PYTHONPATH
 cd "$found" || exit 1
 if ! command -v bgzip > /dev/null || ! command -v tabix > /dev/null; then
-    echo 'bgzip and tabix are not installed, so windows were left out'
+    left_out 'all runs by windows' 'no bgzip or tabix'
     exit 0
 fi
 ulimit -n 128
@@ -161,7 +161,7 @@ small() {
     if command -v snakemake > /dev/null; then
         same_workflow
     else
-        echo 'snakemake is not installed, so the Snakefile was left out'
+        left_out 'the Snakefile of examples/at_scale' 'no snakemake'
     fi
     [ "$failed" -ne 0 ] || echo "$compared runs by windows print what one run prints"
 }

@@ -1,6 +1,7 @@
 #!/usr/bin/env bash
 # How the built program ends beside real devices: its exit status, what is on standard error and what on standard output, if a file, the
-# script, the output or the messages fail, if there is too little memory or stack, and for help. Ordinary files are in tests/.
+# script, the output or the messages fail, if there is too little memory or stack, and for help; and after each run all files are as they
+# were. Ordinary files are in tests/.
 #
 #   scripts/test/command_line.sh build/bedkeep
 set -u
@@ -15,12 +16,28 @@ printf 'chr1\t12\t18\nchr1\t32\t33\n' > other.bed
 printf 'open\tm\tmerge\nprint\tm\n' > prints
 printf 'open\tm\tmerge\nadd\tchr1\t90\t101\nprint\tm\n' > refused
 head -c 1048577 /dev/zero | tr '\0' x > long_line
+printf '>chr1\n%0100d\n>chr2\n%050d\n' 0 0 > all_bases.fa
+# A view of each kind, an edit, and prints of all.
+number=0
+: > all_views
+for view in merge 'merge -d 3 -c 2,3 -o sum,distinct' cluster complement 'complement -L' 'genomecov -bg' 'genomecov -bga' 'genomecov -d' intersect 'intersect -wa -wb' 'intersect -u' 'intersect -v' 'intersect -c' subtract 'subtract -A' getfasta 'getfasta -tab' records; do
+    number=$((number + 1))
+    printf 'open\tv%d\t%s\n' "$number" "$view" >> all_views
+done
+printf 'add\tchr1\t30\t40\nreplaceb\tchr1\t12\t18\tchr1\t5\t35\nremove\tchr1\t10\t20\nshowall\tchr1\t0\t50\nprintall\n' >> all_views
 mkdir directory
+
+# inputs: the names and sums of all files here but those that this script writes between runs
+inputs() {
+    find . -maxdepth 1 -type f ! -name out ! -name err ! -name wanted ! -name help ! -name example -exec sha256sum {} + | sort
+}
+given=$(inputs)
 
 # ends NAME STATUS STDERR: the run that just ended gave this status and these bytes on standard error
 ends() {
     local found=$?
     { [ "$found" -eq "$2" ] && printf '%b' "$3" | cmp -s - err; } || fails "$1: status $found, wanted $2; standard error: $(cat err)"
+    [ "$(inputs)" = "$given" ] || fails "$1: a file was changed, made or removed: $(inputs | diff <(echo "$given") -)"
 }
 
 # prints NAME STDOUT: and these on standard output
@@ -81,14 +98,6 @@ prints 'a line for which there is no memory' ''
 ends 'a file for which there is no memory' 0 ''
 prints 'a file for which there is no memory' 'chr1\t10\t20\n'
 # The stack: 1 MB of it is enough for a session with each kind of view, and for a run.
-printf '>chr1\n%0100d\n>chr2\n%050d\n' 0 0 > all_bases.fa
-number=0
-: > all_views
-for view in merge 'merge -d 3 -c 2,3 -o sum,distinct' cluster complement 'complement -L' 'genomecov -bg' 'genomecov -bga' 'genomecov -d' intersect 'intersect -wa -wb' 'intersect -u' 'intersect -v' 'intersect -c' subtract 'subtract -A' getfasta 'getfasta -tab' records; do
-    number=$((number + 1))
-    printf 'open\tv%d\t%s\n' "$number" "$view" >> all_views
-done
-printf 'add\tchr1\t30\t40\nreplaceb\tchr1\t12\t18\tchr1\t5\t35\nremove\tchr1\t10\t20\nshowall\tchr1\t0\t50\nprintall\n' >> all_views
 session -g sizes -i records.bed -b other.bed -fi all_bases.fa < all_views
 mv out wanted
 (ulimit -s 1024 && session -g sizes -i records.bed -b other.bed -fi all_bases.fa < all_views)

@@ -146,7 +146,7 @@ in_git
 if command -v git > /dev/null; then
     two_curators
 else
-    echo 'without git, so two branches are not merged'
+    left_out 'two branches that are merged' 'no git'
 fi
 views=$'blocks\tmerge -d 9|each\tcluster|free\tcomplement -L|depth\tgenomecov -bga|other\tintersect -wa -wb|left\tsubtract|count\tintersect -c'
 round_trip genes.bed 'add\tchrX\t5\t9\nadd\tchrX\t5\t9\nremove\tchr21\t31659600\t31668900\n' "$views" -g human.genome -b mask.bed

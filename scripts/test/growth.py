@@ -11,19 +11,16 @@ the least of five. The size n is found by doubling, until a run takes 20 ms: so 
 measured again, up to five times, before it counts.
 
 Sizes that have a limit near them are given, and there the rows are compared with rows that are made here, never by the program. Then the
-calls that read are counted, and how often each file is opened; each file is given as a named pipe; and the bytes that the program holds
-are measured.
+calls that read are counted; each file is given as a named pipe; and the bytes that the program holds are measured.
 
 Status 1 if something grows faster, or if a run fails, hangs or prints something else.
 """
-import ctypes
 import fcntl
 import functools
 import math
 import os
 import resource
 import select
-import struct
 import subprocess
 import sys
 import tempfile
@@ -450,31 +447,6 @@ def few_calls(runs):
     return f"{calls:,} calls read {size:,} bytes"
 
 
-def opened_once(runs):
-    """Each file is opened once: a pipe that is opened again may wait for a writer forever."""
-    files, rows = files_of_all_kinds(100)
-    folder = runs.write("opened", files)
-    opens = 0x20  # IN_OPEN
-    system = ctypes.CDLL(None)
-    watch = system.inotify_init1(os.O_NONBLOCK | os.O_CLOEXEC)
-    # Each open is an event of the folder and one of the file, in turn: two events that are the same would be one.
-    watched = [os.fsencode(folder / file) for file in ("", *"gabf")]
-    require(watch >= 0 and all(system.inotify_add_watch(watch, path, opens) >= 0 for path in watched), "nothing can be watched here")
-    try:
-        runs.run(ALL_FILES, "opened", rows=rows)
-        events = os.read(watch, 1 << 16)
-    finally:
-        os.close(watch)
-    found, at = [], 0
-    while at < len(events):
-        _, mask, _, length = struct.unpack_from("iIII", events, at)
-        name = events[at + 16 : at + 16 + length].rstrip(b"\0").decode()
-        found += [name] if mask & opens and name in list("gabf") else []
-        at += 16 + length
-    require(found == list("gabf"), f"files are opened in this order: {found}")
-    return "each file is opened once, in order"
-
-
 def named_pipes(runs):
     """Each file, and then all, may be a named pipe that is opened once, and read to its end."""
     files, rows = files_of_all_kinds(4_000)
@@ -595,7 +567,7 @@ def memory(runs):
     return "; ".join(found)
 
 
-CHECKS = [("calls that read", few_calls), ("opens", opened_once), ("named pipes", named_pipes), ("bytes held for each record or byte", memory)]
+CHECKS = [("calls that read", few_calls), ("named pipes", named_pipes), ("bytes held for each record or byte", memory)]
 
 
 def main():

@@ -25,6 +25,8 @@ holds <(tail -n 1 next_mqc.tsv) 'next\t1\t0\t1\t0\t0\t0\t0\t0\t0\t0\n'
 if Rscript -e 'library(GenomicRanges)' > /dev/null 2>&1; then
     ran+=(R)
     (cd "$top/packaging/r" && Rscript test.R > "$found/said" 2>&1) || fails "R: $(cat said)"
+else
+    left_out packaging/r 'no R with GenomicRanges'
 fi
 
 if command -v snakemake > /dev/null; then
@@ -52,11 +54,15 @@ END_OF_RULES
     grep -q '<html' listed/next_release.html || fails "the page was not made: $(cat listed/next_release.log said)"
     [ ! -e whole/next_release.bed ] || fails 'a refused line lets the rule go on'
     grep -q 'no such record' whole/next_release.log || fails 'the log has no refused line'
+else
+    left_out packaging/snakemake 'no snakemake'
 fi
 
 if command -v xmllint > /dev/null; then
     ran+=('the XML of Galaxy')
     xmllint --noout "$top/packaging/galaxy/bedkeep_apply.xml" || fails 'Galaxy: not well-formed'
+else
+    left_out 'the XML of packaging/galaxy' 'no xmllint'
 fi
 
 # galaxy BED STRICT: fills in the template of the tool's command as Galaxy would, and runs it in a folder of its own; false if it fails
@@ -76,8 +82,10 @@ END_OF_PYTHON
     (cd "$folder" && bash -e command > said 2>&1)
 }
 
+filled_in=
 for cheetah in python3 /usr/bin/python3; do
     if "$cheetah" -c 'import Cheetah' 2> /dev/null; then
+        filled_in=yes
         ran+=('its command')
         galaxy genes '' || fails "Galaxy: $(cat galaxy/genes/said)"
         galaxy next_release '' || fails "Galaxy: $(cat galaxy/next_release/said)"
@@ -89,6 +97,7 @@ for cheetah in python3 /usr/bin/python3; do
         break
     fi
 done
+[ -n "$filled_in" ] || left_out 'the command of packaging/galaxy' 'no Python with Cheetah'
 
 [ "$failed" -ne 0 ] || (IFS=,; echo "packaging: ${ran[*]}" | sed 's/,/, /g')
 exit "$failed"

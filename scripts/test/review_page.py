@@ -22,6 +22,7 @@ sys.dont_write_bytecode = True
 
 from bedkeep.review.output import write_page  # noqa: E402
 from pages import Page  # noqa: E402
+from trials import left_out  # noqa: E402
 
 GENOME = {"chr1": 1000, "2": 300, 'x&<"y': 0, "chr3": 5_000_000}
 NAMES = ["g1", "g2", 'a "b"<i>', "&amp;", "</script>", "caf\u00e9", "."]
@@ -270,7 +271,9 @@ def main():
                 shutil.copy(path, given.keep)
     for failure in failures:
         print(failure, file=sys.stderr)
-    seen = f"{clicks} clicks in {os.path.basename(browser)}" if browser else "Chromium isn't installed, so nothing was clicked"
+    if not browser:
+        left_out("all clicks on pages of review", "no Chromium")
+    seen = f"{clicks} clicks in {os.path.basename(browser)}" if browser else "no click"
     print(f"review: {given.scripts + 1} pages, {seen}; {len(failures)} failures")
     sys.exit(bool(failures))
 

@@ -37,6 +37,14 @@ def is_proved(program):
     return b"\nproved with " in subprocess.run([program, "--version"], stdout=subprocess.PIPE, check=True).stdout
 
 
+def left_out(what, why):
+    """Says what is left out because a tool isn't there, as left_out.sh does."""
+    line = f"left out: {what}: {why}"
+    print(line, flush=True)
+    with open(os.environ.get("LEFT_OUT", os.devnull), "a", encoding="utf-8") as file:
+        print(line, file=file)
+
+
 @contextlib.contextmanager
 def stopped_after(seconds, process):
     """Ends a process if it takes longer, by a signal that no test allows."""

@@ -39,6 +39,8 @@ if command -v snakemake > /dev/null; then
     for track in genes next_release; do
         [ -s "review/$track.html" ] || fails "the page of $track was not made: $(cat said)"
     done
+else
+    left_out 'examples/workflows by Snakemake' 'no snakemake'
 fi
 
 if command -v cwltool > /dev/null && command -v node nodejs > /dev/null; then
@@ -53,6 +55,8 @@ if command -v cwltool > /dev/null && command -v node nodejs > /dev/null; then
     grep -q "/$warning\$" next_release/messages.txt || fails 'next_release/messages.txt lacks the warning'
     grep -q "/$warning\$" next_release/refused.txt && fails 'next_release/refused.txt has the warning'
     absent next_release/rows.bed
+else
+    left_out 'examples/workflows by cwltool' 'no cwltool or node'
 fi
 
 [ "$failed" -ne 0 ] || echo "examples/workflows: ${ran[*]:-neither Snakemake nor cwltool is there}"
