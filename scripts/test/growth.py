@@ -524,7 +524,7 @@ def mostly_unnamed_bases(size):
 
 # The most bytes that may be held for each record or byte: about 30 % more than is held, and far less than a text that is kept.
 MEMORY = [
-    ("a run of merge", "merge -g g -i a", one_long_name, None, "VmHWM", 16),
+    ("a run of merge", "merge -g g -i a", one_long_name, None, "VmHWM", 21),
     ("a run of cluster", "cluster -g g -i a", one_long_name, None, "VmHWM", 21),
     ("a session", "session -g g -i a", one_long_name, prints("records"), "VmHWM", 45),
     ("a session with merge", "session -g g -i a", one_long_name, prints("merge"), "VmHWM", 60),

@@ -1,7 +1,7 @@
 -- The rows of the members of numbered blocks are those of the cluster.
 use Rattle.std.proofs.Common.{◌≡◌, ℕ, zero, suc, ◌+◌, ◌≤◌, ◌++◌, inl, inr, List, [], ◌∷◌, map, length, Option, Some, None, refl, sym, ◌∙◌, ap, ap₂, subst, arith, All, append_assoc, length-append}
 use Rattle.std.specs.Option.{option_map}
-use Rattle.std.specs.Prelude.{filter, sum}
+use Rattle.std.specs.Prelude.{sum}
 use Rattle.std.specs.List.{flat_map, range_with_len, sum_by}
 use Rattle.std.proofs.lemmas.Bool.{cases_Bool, cond-true, cond-false}
 use Rattle.std.proofs.lemmas.List.{map-append, length-map}
@@ -19,20 +19,14 @@ use Rattle.iv_cover.proofs.RemainingLemmas.{members_of, remaining-joined, remain
 use Rattle.iv_cover.proofs.Cover.{home}
 use Rattle.iv_cover.proofs.WalkLemmas.{gathered, gathered-more, merge-all, on-in}
 use Rattle.iv_cover.proofs.Positions.{values, values-none, values-some}
-use Rattle.iv_lines.proofs.ListLemmas.{Mem, filter-all, mem-filter, mem-contains}
+use Rattle.iv_lines.proofs.ListLemmas.{Mem, mem-filter, mem-contains}
 use Rattle.iv_blocks.specs.ClusterRows.{blocks_before, cluster_row}
-use Rattle.iv_blocks.specs.Inside.Groups.{is_on}
-use Rattle.iv_blocks.specs.declared.group.Side.TheVariants.{Both}
 use Rattle.iv_blocks.specs.Inside.Texts.{block_number, cluster_text}
 use Rattle.iv_blocks.proofs.KeptLemmas.{flat_map-flat_map}
 use Rattle.iv_blocks.proofs.NumberLemmas.{at, own, own-number, same-home}
 use Rattle.iv_blocks.specs.Inside.BlockSweeps.{numbered_row, numbered_rows}
 
 -- ---- the blocks that remain
-
--- all are on the side that is both
-pub on-both : (records : List RecordValue) → filter (is_on Both) records ≡ records
-on-both records = filter-all (is_on Both) records (λ q m. refl)
 
 -- there are no more blocks than records, beside one that is open
 remaining-count : (d : ℕ) (records : List RecordValue) (current : Option BlockWithMembers) → length (remaining_blocks d current records) ≤ length records + length (still_open current)

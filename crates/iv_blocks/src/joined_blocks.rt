@@ -55,6 +55,7 @@ impl<W: RecordWalk> JoinedBlocks<W> {
     }
 
     /// The next block, `None` after the last. It reads the walk up to the first record of the block after it.
+    #[inline(always)]
     pub(crate) fn next(&mut self, meter: &mut W::Meter) -> Option<Interval>
         ensures { GivesFirst self.old result self.new }
     {
@@ -76,6 +77,7 @@ impl<W: RecordWalk> JoinedBlocks<W> {
     }
 
     /// Where the next block starts: the rank of its sequence, and the position. `None` if no block is left. At most one step.
+    #[inline(always)]
     pub(crate) fn next_start(&mut self, meter: &mut W::Meter) -> Option<(u32, u32)>
         ensures start { result ≡ first_start self.old }
         ensures same { self.new ≡ self.old }
@@ -88,6 +90,7 @@ impl<W: RecordWalk> JoinedBlocks<W> {
     }
 
     /// The next block, and how many records are in it.
+    #[inline(always)]
     fn next_counted(&mut self, meter: &mut W::Meter) -> Option<(Interval, u64)>
         ensures { IsFirstOf self.old result self.new }
     {
@@ -109,6 +112,7 @@ impl<W: RecordWalk> JoinedBlocks<W> {
 }
 
 /// The record that was put back, or the next of the walk. At most one step.
+#[inline(always)]
 pub(crate) fn next_of<W: RecordWalk>(
     ahead: &mut Option<W::Record>,
     records: &mut W,

@@ -5,27 +5,23 @@ use Rattle.iv_lines.specs.Genome.{Sequences}
 use Rattle.iv_text.specs.BedFile.{Bed}
 use Rattle.iv_lines.specs.Chains.{if_ok}
 use Rattle.iv_lines.specs.Read.{Fits}
-use Rattle.iv_text.proofs.BedReadingLemmas.{fit-all}
+use Rattle.iv_places.specs.declared.held_columns.HeldColumns.TheVariants as held
 use Rattle.iv_workspace.specs.States.{State, begun}
 use Rattle.iv_run.specs.declared.fault.CliFault.{CliFault}
 use Rattle.iv_run.specs.declared.fault.CliFault.TheVariants.{Memory}
 use Rattle.iv_run.specs.Loading.{Parsed, parsed}
-use Rattle.iv_run.specs.RunFiles.{AreProjected, Reports}
-use Rattle.iv_run.proofs.WantedLemmas.{all-wide, held-whole}
+use Rattle.iv_run.specs.RunFiles.{AreOn, Reports}
+use Rattle.iv_run.proofs.WantedLemmas.{held-whole}
 use Rattle.iv_cli.specs.Loading.{loaded}
 
--- records that fit a genome
-pub fits-beside : (g : Sequences) (limit : ℕ) (o : Option Bed) → IfSome o (AreProjected (λ r. r) g limit) → IfSome o (λ file. All (Fits g file.width) file.records)
-fits-beside g limit None kept = tt
-fits-beside g limit (Some file) kept = fit-all g file.width file.records kept.held_all
+-- the records of a file that may be left out fit a genome, and are not too many
+pub fits-beside : (g : Sequences) (limit : ℕ) (o : Option Bed) → IfSome o (AreOn g limit) → IfSome o (λ file. All (Fits g file.width) file.records)
+fits-beside g limit None on = tt
+fits-beside g limit (Some file) on = on.fit
 
-pub wide-beside : (g : Sequences) (limit : ℕ) (o : Option Bed) → IfSome o (AreProjected (λ r. r) g limit) → IfSome o (λ file. All (λ r. r.width ≡ file.width) file.records)
-wide-beside g limit None kept = tt
-wide-beside g limit (Some file) kept = all-wide g limit file kept
-
-pub few-beside : (g : Sequences) (limit : ℕ) (o : Option Bed) → IfSome o (AreProjected (λ r. r) g limit) → IfSome o (λ file. length file.records ≤ limit)
-few-beside g limit None kept = tt
-few-beside g limit (Some file) kept = kept.few
+pub few-beside : (g : Sequences) (limit : ℕ) (o : Option Bed) → IfSome o (AreOn g limit) → IfSome o (λ file. length file.records ≤ limit)
+few-beside g limit None on = tt
+few-beside g limit (Some file) on = on.few
 
 -- ---- the session that files begin
 
@@ -35,11 +31,11 @@ module _ (width : ℕ) (sizes text : List ℕ) (other bases : Option (List ℕ))
   begins_at files = Ok (begun files.genome files.first files.second files.bases files.limit)
 
   -- the files are sound, and all of their records is held
-  pub begins : (files : Parsed) (s : State) → Reports (λ r. r) None (Ok files) (parsed width sizes text other bases limit)
+  pub begins : (files : Parsed) (s : State) → Reports held.All None (Ok files) (parsed width sizes text other bases limit)
       → s ≡ begun files.genome files.first files.second files.bases files.limit → loaded width sizes text other bases limit ≡ Ok s
   begins files s all is = ap (λ (read : Result Parsed CliFault). if_ok read begins_at) (all.1 ∙ ap Ok (sym (all.2 ∙ held-whole all.0))) ∙ ap Ok (sym is)
 
   -- a file is damaged
-  pub begins-not : (k : CliFault) → Reports (λ r. r) None (Err k) (parsed width sizes text other bases limit) → (k ≡ Memory) ⊎ (loaded width sizes text other bases limit ≡ Err k)
+  pub begins-not : (k : CliFault) → Reports held.All None (Err k) (parsed width sizes text other bases limit) → (k ≡ Memory) ⊎ (loaded width sizes text other bases limit ≡ Err k)
   begins-not k (inl memory) = inl memory
   begins-not k (inr is) = inr (ap (λ (read : Result Parsed CliFault). if_ok read begins_at) is)

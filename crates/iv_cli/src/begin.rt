@@ -1,35 +1,22 @@
 //! The session that the files of a run begin.
-ghost use Rattle.std.specs.Prelude.{◌≡◌, ◌≤◌, ◌⊎◌, All, Ok, Err, IfOk, IfErr, IfSome};
+ghost use Rattle.std.specs.Prelude.{◌≡◌, ◌≤◌, ◌⊎◌, Ok, Err, IfOk, IfErr};
 ghost use Rattle.std.specs.Option.{option_copied, option_map};
 ghost use Rattle.iv_track.specs.Tracked.{most_records};
 ghost use Rattle.iv_workspace.specs.States.{begun};
 ghost use Rattle.iv_cli.specs.Loading.{loaded};
 
 use iv_args::Plan;
-use iv_places::Places;
-use iv_run::{CliFault, Inputs, ParsedFile, RunFiles};
+use iv_places::HeldColumns;
+use iv_run::{CliFault, Inputs, RunFiles};
 use iv_workspace::Session;
 use std::alloc::Allocator;
-
-/// The records of a file that may be left out.
-fn into_places<A: Allocator + Copy>(file: Option<ParsedFile<Places<A>, A>>) -> Option<Places<A>>
-    requires { IfSome file (λ f. All (λ r. r.width ≡ f.width) f.records) }
-    ensures { result ≡ file }
-{
-    match file {
-        Some(file) => Some(file.into_places()),
-        None => None,
-    }
-}
 
 /// The session that the files of a run begin, with no view open.
 ///
 /// # Errors
 ///
 /// An allocation failed.
-pub fn begin_session<A: Allocator + Copy>(
-    files: RunFiles<Places<A>, A>,
-) -> Result<Session<A>, CliFault>
+pub fn begin_session<A: Allocator + Copy>(files: RunFiles<A>) -> Result<Session<A>, CliFault>
     requires { files.limit ≤ most_records }
     ensures ok { IfOk result (λ session. session ≡ begun files.genome files.first files.second files.bases files.limit) }
     ensures err { IfErr result (λ fault. fault ≡ CliFault.Memory) }
@@ -42,8 +29,7 @@ pub fn begin_session<A: Allocator + Copy>(
         fasta,
         limit,
     } = files;
-    let first = first.into_places();
-    Ok(Session::from_places(alloc, genome, first, into_places(second), fasta, limit)?)
+    Ok(Session::from_places(alloc, genome, first, second, fasta, limit)?)
 }
 
 /// The session that the files of a run begin, with no view open, or the fault of the first damaged file, given the bytes of the files.
@@ -64,5 +50,6 @@ pub fn load<A: Allocator + Copy>(
     ensures err { IfErr result (λ fault. (fault ≡ CliFault.Memory) ⊎
         (loaded plan.now.width inputs.now.sizes.now inputs.now.first.now (option_copied inputs.now.other) (option_map (λ text. text.items) bases) limit ≡ Err fault)) }
 {
-    begin_session(RunFiles::of_inputs(alloc, plan, inputs, bases, limit)?)
+    let files = RunFiles::of_inputs(alloc, plan, inputs, bases, limit, HeldColumns::All)?;
+    begin_session(files)
 }

@@ -1,12 +1,13 @@
-//! Walks over records: those of a track, and intervals of a file.
-ghost use Rattle.std.specs.Prelude.{◌≡◌, ◌<◌, ◌^◌, ℕ, List, length, map};
-ghost use Rattle.iv_lines.specs.Intervals.{interval_of, record_of_interval};
+//! Walks over records: those of a track, and those of a file.
+ghost use Rattle.std.specs.Prelude.{◌≡◌, ◌<◌, ◌^◌, ℕ, List, length};
+ghost use Rattle.iv_lines.specs.Intervals.{interval_of};
 ghost use Rattle.iv_lines.specs.RecordValue.{RecordValue};
 ghost use Rattle.iv_ledger.specs.Steps.{TakesUpTo};
 ghost use Rattle.iv_cover.specs.RecordWalks.{GivesRecord};
 
 use iv_ledger::Meter;
 use iv_lines::{Interval, RecordRef};
+use iv_places::PlacedRecords;
 use iv_track::TrackRecords;
 use std::alloc::Allocator;
 
@@ -79,42 +80,40 @@ impl<'a, A: Allocator + Copy> RecordWalk for TrackRecords<'a, A> {
     }
 }
 
-impl<'s> RecordWalk for &'s [Interval] {
-    type Record = Interval;
+impl<'t> RecordWalk for PlacedRecords<'t> {
+    type Record = RecordRef<'t>;
 
-    /// Intervals of a file are walked over without a step.
+    /// Records of a file are walked over without a step.
     type Meter = ();
 
-    ghost value = { record_of_interval };
+    ghost value = { λ r. r };
 
-    ghost left = { λ intervals. map record_of_interval intervals.now };
+    ghost left = { λ records. records };
 
     ghost steps = { λ _. 0 };
 
-    fn next(&mut self, _meter: &mut ()) -> Option<Interval> {
-        let intervals = *self;
-        let (first, others) = intervals.split_first()?;
-        *self = others;
-        Some(*first)
+    #[inline(always)]
+    fn next(&mut self, _meter: &mut ()) -> Option<RecordRef<'t>> {
+        Iterator::next(self)
     }
 
+    #[inline(always)]
     fn again(&self) -> Self {
-        *self
+        self.again()
     }
 
-    fn interval(given: &Interval) -> Interval
-        ensures { result ≡ interval_of (record_of_interval given.now) }
-    {
-        *given
+    #[inline(always)]
+    fn interval(given: &RecordRef<'t>) -> Interval {
+        given.lemma_of_interval();
+        Interval::of(given)
     }
 
-    fn record_again(given: &Interval) -> Interval
-        ensures { record_of_interval result ≡ record_of_interval given.now }
-    {
-        *given
+    #[inline(always)]
+    fn record_again(given: &RecordRef<'t>) -> RecordRef<'t> {
+        given.again()
     }
 
     fn lemma_of_few(&self) {
-        let _few = self.len();
+        self.lemma_of_few()
     }
 }

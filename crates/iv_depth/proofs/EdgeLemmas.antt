@@ -19,9 +19,10 @@ use Rattle.iv_lines.proofs.InOrderLemmas.{all-recursion}
 use Rattle.iv_lines.proofs.PrecedesLemmas.{Precedes, precedes-from}
 use Rattle.iv_lines.proofs.ListLemmas.{Mem}
 use Rattle.iv_places.proofs.SequenceLemmas.{is_from, from-here}
-use Rattle.iv_lines.specs.Inside.Intervals.{interval_records}
-use Rattle.iv_lines.specs.Intervals.{record_of_interval}
+use Rattle.iv_lines.specs.Intervals.{interval_of}
 use Rattle.iv_lines.specs.declared.interval.Interval.{Interval}
+use Rattle.iv_places.specs.Inside.Places.{interval_in}
+use Rattle.iv_places.specs.declared.place.Place.{Place}
 use Rattle.std.specs.Prelude.{ℤ, pos, ◌+ℤ◌, ◌-ℤ◌}
 use Rattle.iv_depth.specs.Inside.DepthChanges.{Gives, IsChange}
 use Rattle.iv_depth.specs.Inside.Edges.{up_to, Rise, BeginsElse, AreStopsOf, Passes, IsLeast, Remaining, RiseFrom, edge_count, net, SkipsEdges, TakesChange, GivesChange, IsAhead, starts_of, stops_of}
@@ -192,12 +193,10 @@ Gives-next seq old None new gives = λ g f from d ahead. (IsAhead-end (f seq) fr
 
 -- ---- the records of one sequence
 
--- intervals start and stop where their records do
-starts-are : (places : List Interval) (records : List RecordValue) → interval_records places ≡ records → starts_of places ≡ map start_of records
-starts-are places records same = sym (map-map start_of record_of_interval places) ∙ ap (map start_of) same
-
-stops-are : (places : List Interval) (records : List RecordValue) → interval_records places ≡ records → stops_of places ≡ map stop_of records
-stops-are places records same = sym (map-map stop_of record_of_interval places) ∙ ap (map stop_of) same
+-- the intervals of places that are those of records begin and end where the records do
+edges-are : (edge : Interval → ℕ) (places : List Place) (records : List RecordValue) → map interval_in places ≡ map interval_of records
+    → map (λ place. edge place.interval) places ≡ map (λ r. edge (interval_of r)) records
+edges-are edge places records same = sym (map-map edge interval_in places) ∙ ap (map edge) same ∙ map-map edge interval_of records
 
 module _ (g : Sequences) (seq : ℕ) where
   -- as many records cover p as start up to it, less those that stop up to it
@@ -237,14 +236,15 @@ module _ (g : Sequences) (seq : ℕ) where
       after q at on_it (inl lower) = absurd (omega (arith, at, on_it))
       after q at on_it (inr same) = same.1
 
-  module _ (records left here : List RecordValue) (places : List Interval) (left_is : left ≡ filter (is_from seq) records) (here_is : here ≡ on seq left)
-      (same : interval_records places ≡ here) where
+  module _ (records left here : List RecordValue) (places : List Place) (left_is : left ≡ filter (is_from seq) records) (here_is : here ≡ on seq left)
+      (same : map interval_in places ≡ map interval_of here) where
     pub places-few : length places ≤ length records
     places-few =
         omega (
           arith,
-          length-map places record_of_interval,
-          ap (λ (l : List RecordValue). length l) same,
+          length-map places interval_in,
+          ap (λ (l : List Interval). length l) same,
+          length-map here interval_of,
           ap (λ (l : List RecordValue). length l) here_is,
           length-filter (λ (r : RecordValue). r.seq == seq) left,
           count_by-le-length (λ (r : RecordValue). r.seq == seq) left,
@@ -258,8 +258,8 @@ module _ (g : Sequences) (seq : ℕ) where
         → IsAhead (depth records seq) 0 (sequence_length g seq) 0 (record { starts = starts_of places; stops = map (λ n. n) stops })
     IsAhead-begin stops order lie few are =
         let on_it : here ≡ on seq records = here_is ∙ ap (on seq) left_is ∙ from-here seq records in
-        let starts : starts_of places ≡ map start_of (on seq records) = starts-are places here same ∙ ap (map start_of) on_it in
-        let ends : stops_of places ≡ map stop_of (on seq records) = stops-are places here same ∙ ap (map stop_of) on_it in
+        let starts : starts_of places ≡ map start_of (on seq records) = edges-are (λ i. i.start) places here same ∙ ap (map start_of) on_it in
+        let ends : stops_of places ≡ map stop_of (on seq records) = edges-are (λ i. i.stop) places here same ∙ ap (map stop_of) on_it in
         rw (map-id stops) (record {
           rise = record { starts = rw starts (starts-rise 0 records order (λ r m at. omega arith)); stops = are.rise };
           low = omega arith;

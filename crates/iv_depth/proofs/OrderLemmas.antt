@@ -6,7 +6,7 @@ use Rattle.std.proofs.lemmas.List.Sorted.{IsNonDecreasingBy-drop, IsNonDecreasin
 use Rattle.std.proofs.lemmas.List.Sums.{sum_by-cons}
 use Rattle.std.specs.Prelude.{sum_by, nat_le, if◌then◌else◌}
 use Rattle.std.proofs.lemmas.List.{take_all, length-map}
-use Rattle.iv_lines.specs.declared.interval.Interval.{Interval}
+use Rattle.iv_places.specs.declared.place.Place.{Place}
 use Rattle.iv_depth.specs.Inside.Edges.{Rise, AreStopsOf, up_to, stops_of}
 
 pub up_to-sum : (p : ℕ) (ns : List ℕ) → up_to p ns ≡ sum_by (λ n. if nat_le n p then 1 else 0) ns
@@ -21,14 +21,14 @@ rise-sorted (n ∷ m ∷ ns) h =
     let rest : Rise 0 (m ∷ ns) = rise-sorted (m ∷ ns) (IsNonDecreasingBy-drop (λ x. x) 1 (n ∷ m ∷ ns) h) in
     (omega arith, (h 0 1 0 (omega arith) (omega arith), rest.1))
 
-pub AreStopsOf-sorted : (places : List Interval) (stops : List ℕ) → IsPermutation (stops_of places) stops → IsSorted nat_cmp stops → AreStopsOf places stops
+pub AreStopsOf-sorted : (places : List Place) (stops : List ℕ) → IsPermutation (stops_of places) stops → IsSorted nat_cmp stops → AreStopsOf places stops
 AreStopsOf-sorted places stops same sorted = record {
   rise = rise-sorted stops (IsNonDecreasingBy-from_sort (λ x. x) stops sorted);
   sums = λ p. up_to-sum p stops ∙ sum_by-IsPermutation (λ n. if nat_le n p then 1 else 0) (stops_of places) stops same ∙ sym (up_to-sum p (stops_of places));
 }
 
 -- all are written
-pub written-all : (index : ℕ) (places : List Interval) (stops : List ℕ) → take index stops ≡ take index (stops_of places) → length stops ≡ length places → length places ≤ index
+pub written-all : (index : ℕ) (places : List Place) (stops : List ℕ) → take index stops ≡ take index (stops_of places) → length stops ≡ length places → length places ≤ index
     → stops ≡ stops_of places
 written-all index places stops written len all =
-    sym (take_all index stops (omega (arith, len))) ∙ written ∙ take_all index (stops_of places) (omega (arith, length-map places (λ (interval : Interval). interval.stop)))
+    sym (take_all index stops (omega (arith, len))) ∙ written ∙ take_all index (stops_of places) (omega (arith, length-map places (λ (place : Place). place.interval.stop)))

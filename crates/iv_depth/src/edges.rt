@@ -2,10 +2,10 @@
 ghost use Rattle.std.specs.Prelude.{◌≡◌, ◌+◌, ◌<◌, ◌≤◌, ℕ, [], MatchOption, OnSome, length, map};
 ghost use Rattle.iv_depth.specs.Inside.Edges.{BeginsElse, GivesChange, IsLeast, Passes, Rise, edge_count};
 
-use iv_lines::Interval;
+use iv_places::Place;
 use std::marker::Model;
 
-/// An item that is at a position: an interval is at its start, and a number at itself.
+/// An item that is at a position: a place is at its start, and a number at itself.
 pub(crate) trait Positioned {
     ghost at: { Self → ℕ };
 
@@ -13,11 +13,11 @@ pub(crate) trait Positioned {
         ensures { result ≡ at self.now };
 }
 
-impl Positioned for Interval {
-    ghost at = { λ interval. interval.start };
+impl Positioned for Place {
+    ghost at = { λ place. place.interval.start };
 
     fn position(&self) -> u64 {
-        self.start as u64
+        self.interval.start as u64
     }
 }
 

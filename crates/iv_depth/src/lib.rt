@@ -1,4 +1,4 @@
-//! How many records cover each position: rows of depth, from changes of depth that are kept, or in one sweep over sorted intervals.
+//! How many records cover each position: rows of depth, from changes of depth that are kept, or in one sweep over sorted records.
 #![tactic(auto)]
 
 mod change_cursor;

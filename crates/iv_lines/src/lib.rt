@@ -4,7 +4,6 @@
 mod bed_record;
 mod fault;
 mod genome;
-mod holds_records;
 mod interval;
 mod lemmas;
 mod lines;
@@ -18,7 +17,6 @@ mod row_buffer;
 pub use bed_record::BedRecord;
 pub use fault::{Fault, LoadCause, LoadFault, RecordFault, fault_text, load_text};
 pub use genome::{Genome, MOST_LENGTH, is_bad_name};
-pub use holds_records::HoldsRecords;
 pub use interval::Interval;
 pub use lemmas::{
     first_line_ends_at_feed, genome_or_first_fault, last_line_ends_at_end, one_length_changes,

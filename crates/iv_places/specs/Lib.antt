@@ -1,2 +1,3 @@
 pub mod Cover
+pub mod HeldColumns
 pub mod Inside

@@ -1,7 +1,7 @@
-//! The records of a BED file as places and the rests of their lines, or as intervals alone.
+//! The records of a BED file as places and the rests of their lines.
 #![tactic(auto)]
 
-mod intervals;
+mod held_columns;
 mod order;
 mod place;
 mod placed_records;
@@ -9,7 +9,7 @@ mod places;
 mod ranks;
 mod rests;
 
-pub use intervals::{sort_intervals, split_sequence};
+pub use held_columns::HeldColumns;
 pub use order::order_neighbors;
 pub use place::Place;
 pub use placed_records::PlacedRecords;

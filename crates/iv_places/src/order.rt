@@ -21,6 +21,7 @@ fn compare_beside(rests: &[u8], width: u8, first: &Place, second: &Place) -> Ord
 }
 
 /// Compares the records of two places in the order of a track.
+#[inline(always)]
 pub(crate) fn compare(rests: &[u8], width: u8, first: &Place, second: &Place) -> Ordering
     ensures { result ≡ record_cmp (record_at width rests.now first.now) (record_at width rests.now second.now) }
 {
@@ -29,6 +30,7 @@ pub(crate) fn compare(rests: &[u8], width: u8, first: &Place, second: &Place) ->
 }
 
 /// Whether places are in the order of a track.
+#[inline(always)]
 pub(crate) fn are_in_order(rests: &[u8], width: u8, places: &[Place]) -> bool
     ensures { IsTrue result ↔ AreInOrder width rests.now places.now }
 {

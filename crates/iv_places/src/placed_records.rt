@@ -1,5 +1,5 @@
 //! Records at places, lent one after another.
-ghost use Rattle.std.specs.Prelude.{◌≡◌, ◌<◌, ◌≤◌, ◌^◌, ◌==◌, nat_lt, [], ◌∷◌, All, MatchOption, filter, length, map, slice_get, take, drop};
+ghost use Rattle.std.specs.Prelude.{◌≡◌, ◌<◌, ◌≤◌, ◌^◌, ◌==◌, nat_lt, [], ◌∷◌, All, IfOk, MatchOption, filter, length, map, slice_get, take, drop};
 ghost use Rattle.std.specs.Iterator.{YieldsFirst, item_count};
 ghost use Rattle.iv_lines.specs.RecordValue.{IsPlaced};
 ghost use Rattle.iv_lines.specs.Ordered.{AreInOrder};
@@ -8,7 +8,8 @@ ghost use Rattle.iv_places.specs.Inside.Places.{HasBase, IsPlace, interval_in, r
 ghost use Rattle.iv_lines.specs.Intervals.{interval_of};
 
 use crate::place::{Place, record_of};
-use iv_lines::RecordRef;
+use iv_lines::{Record, RecordRef};
+use std::alloc::{AllocError, Allocator};
 use std::marker::Model;
 
 /// Consecutive records, all of one width: lent, as a slice is. No call takes memory.
@@ -113,6 +114,21 @@ impl<'t> PlacedRecords<'t> {
             PlacedRecords::of_places(self.rests, front, self.width),
             PlacedRecords::of_places(self.rests, back, self.width),
         )
+    }
+
+    /// A copy of each record, in their order, which owns its columns.
+    ///
+    /// # Errors
+    ///
+    /// An allocation failed.
+    pub fn to_records<A: Allocator + Copy>(&self, alloc: A) -> Result<Vec<Record<A>, A>, AllocError>
+        ensures { IfOk result (λ records. records.items ≡ self.now) }
+    {
+        let mut records = Vec::with_capacity(alloc, self.len())?;
+        for record in self.again() {
+            records.push(record.to_record(alloc)?)?;
+        }
+        Ok(records)
     }
 
     /// The records on the sequence of this rank, and those on later ones.

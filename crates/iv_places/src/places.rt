@@ -1,5 +1,5 @@
 //! The records of a BED file as places beside the rests of their lines.
-ghost use Rattle.std.specs.Prelude.{◌≡◌, [], cond, ◌<◌, ℕ, All, map, refl, IfOk, OnOk};
+ghost use Rattle.std.specs.Prelude.{◌≡◌, ◌∷◌, ◌++◌, [], cond, ◌<◌, ℕ, All, map, IfOk, OnOk};
 ghost use Rattle.std.specs.List.{list_any};
 ghost use Rattle.iv_lines.specs.Ordered.{AreInOrder, ordered};
 ghost use Rattle.iv_places.specs.Inside.Joins.{grown, joined_places, touches};
@@ -15,7 +15,7 @@ use crate::place::Place;
 use crate::placed_records::PlacedRecords;
 use crate::ranks::marked;
 use crate::rests::Rests;
-use iv_lines::{HoldsRecords, Record, RecordRef};
+use iv_lines::{Record, RecordRef};
 use std::alloc::{AllocError, Allocator, Global};
 use std::marker::Model;
 
@@ -61,6 +61,16 @@ impl<A: Allocator> Model for Places<A> {
 }
 
 impl<A: Allocator + Copy> Places<A> {
+    /// No record yet. It takes no memory.
+    pub fn empty(alloc: A) -> Places<A>
+        ensures { result ≡ record { width = 3; records = [] } }
+    {
+        Places {
+            places: Vec::new(alloc),
+            rests: Rests::new(alloc, 3),
+        }
+    }
+
     /// Records of three columns, in the order of these places.
     pub fn of_intervals(places: Vec<Place, A>) -> Places<A>
         requires { All HasBase places.items }
@@ -82,7 +92,7 @@ impl<A: Allocator + Copy> Places<A> {
         requires each { All (λ r. r.width ≡ width) records.now }
         ensures { IfOk result (λ places. places ≡ record { width = width; records = records.now }) }
     {
-        let mut places: Places<A> = Places::empty(alloc);
+        let mut places = Places::empty(alloc);
         for record in records {
             places.hold(&record.as_ref())?;
         }
@@ -97,6 +107,22 @@ impl<A: Allocator + Copy> Places<A> {
         ensures each { All (λ r. r.width ≡ result) self.now.records }
     {
         self.rests.width()
+    }
+
+    /// Adds a record, which has as many columns as the others, after them.
+    ///
+    /// # Errors
+    ///
+    /// An allocation failed. The records are then unspecified.
+    #[inline(always)]
+    pub fn hold(&mut self, feature: &RecordRef<'_>) -> Result<(), AllocError>
+        requires { All (λ r. r.width ≡ feature.now.width) self.old.records }
+        ensures { OnOk result (self.new ≡ record { width = feature.now.width; records = self.old.records ++ feature.now ∷ [] }) }
+    {
+        self.rests.set_width(feature.width());
+        let place = self.rests.keep(feature)?;
+        self.places.push(place)?;
+        Ok(())
     }
 
     /// Says how many columns each record has, which is so if there is a record.
@@ -188,34 +214,5 @@ impl<A: Allocator + Copy> Places<A> {
     {
         // After this read the type's invariant is known.
         let _width = self.rests.width();
-    }
-}
-
-impl<A: Allocator + Copy> HoldsRecords<A> for Places<A> {
-    ghost projected = { λ r. r };
-
-    ghost records = { λ places. places.records };
-
-    ghost again = { λ r. refl };
-
-    ghost alike = { λ q r same. same };
-
-    fn empty(alloc: A) -> Self {
-        Places {
-            places: Vec::new(alloc),
-            rests: Rests::new(alloc, 3),
-        }
-    }
-
-    fn has_room(&self, limit: usize) -> bool {
-        self.places.len() < limit
-    }
-
-    #[inline(always)]
-    fn hold(&mut self, feature: &RecordRef<'_>) -> Result<(), AllocError> {
-        self.rests.set_width(feature.width());
-        let place = self.rests.keep(feature)?;
-        self.places.push(place)?;
-        Ok(())
     }
 }

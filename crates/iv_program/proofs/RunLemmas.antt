@@ -24,7 +24,7 @@ use Rattle.iv_args.specs.declared.subcommand.Subcommand.TheVariants as kind
 use Rattle.iv_args.specs.declared.plan.Slot.{Slot}
 use Rattle.iv_args.specs.declared.plan.Slot.TheVariants.{First, Other, Bases}
 use Rattle.iv_run.specs.Loading.{Parsed, parsed}
-use Rattle.iv_lines.specs.RecordValue.{RecordValue}
+use Rattle.iv_places.specs.declared.held_columns.HeldColumns.{HeldColumns}
 use Rattle.iv_lines.specs.declared.fault.LoadFault.{LoadFault}
 use Rattle.iv_fasta.specs.Fasta.{Bases as FoundBases}
 use Rattle.iv_fasta.specs.FastaReading.{Wanted}
@@ -110,9 +110,9 @@ module _ (plan : RunPlan) {f0 f1 : FilesState} {sizes : List ℕ} (read_sizes : 
       before-bases = reads-more (names_before plan Other) before-other read_other
 
       -- the genome file and the BED files are those of their texts
-      pub has-beds : (projected : RecordValue → RecordValue) (files : FilesRead) → files.run_genome.width ≡ plan.width → files.run_genome.limit ≡ plan.limit
-          → AreOf projected None sizes first other None files → HasBeds projected plan f0 f3 files
-      has-beds projected files width limit are = record {
+      pub has-beds : (which : HeldColumns) (files : FilesRead) → files.run_genome.width ≡ plan.width → files.run_genome.limit ≡ plan.limit → files.run_genome.columns ≡ which
+          → AreOf None sizes first other None files → HasBeds which plan f0 f3 files
+      has-beds which files width limit columns are = record {
         sizes = sizes;
         first = first;
         other = other;
@@ -122,11 +122,12 @@ module _ (plan : RunPlan) {f0 f1 : FilesState} {sizes : List ℕ} (read_sizes : 
         read = before-bases;
         width_is = width;
         limit_is = limit;
+        columns_is = columns;
         are = are;
       }
 
 -- the FASTA file of a plan was read after the others
-module _ (projected : RecordValue → RecordValue) (plan : RunPlan) {f0 f1 f2 : FilesState} {files : FilesRead} (beds : HasBeds projected plan f0 f1 files)
+module _ (which : HeldColumns) (plan : RunPlan) {f0 f1 f2 : FilesState} {files : FilesRead} (beds : HasBeds which plan f0 f1 files)
     {bases : Option (List ℕ)} (read_bases : ReadsNamed f1 plan.bases bases f2) where
   pub all-read : f2 ≡ after_reading (names_of plan) f0
   all-read = (reads-more (names_before plan Bases) beds.read read_bases).after
@@ -144,13 +145,15 @@ module _ (projected : RecordValue → RecordValue) (plan : RunPlan) {f0 f1 f2 : 
 
   -- what is reported of them is so for the texts
   pub has-texts : (wanted : Wanted) (fasta : Option (Result FoundBases LoadFault)) (said : Result Parsed CliFault) → IsIfNamed (IsFasta wanted files.run_genome.genome) bases fasta
-      → ((w : Wanted) (sizes first : List ℕ) (other found : Option (List ℕ)) → AreOf projected w sizes first other found (record files { fasta = fasta })
-      → Reports projected w said (parsed files.run_genome.width sizes first other found files.run_genome.limit))
-      → HasTexts projected wanted plan plan-texts said
+      → ((w : Wanted) (sizes first : List ℕ) (other found : Option (List ℕ)) → AreOf w sizes first other found (record files { fasta = fasta })
+      → Reports files.run_genome.columns w said (parsed files.run_genome.width sizes first other found files.run_genome.limit))
+      → HasTexts which wanted plan plan-texts said
   has-texts wanted fasta said named says =
-      subst (λ (n : ℕ). Reports projected wanted said (parsed plan.width beds.sizes beds.first beds.other bases n)) beds.limit_is
-      (subst (λ (w : ℕ). Reports projected wanted said (parsed w beds.sizes beds.first beds.other bases files.run_genome.limit)) beds.width_is
-      (says wanted beds.sizes beds.first beds.other bases (beds.are.0, beds.are.1, beds.are.2, named)))
+      let columns = files.run_genome.columns in
+      subst (λ (k : HeldColumns). Reports k wanted said (parsed plan.width beds.sizes beds.first beds.other bases plan.limit)) beds.columns_is
+      (subst (λ (n : ℕ). Reports columns wanted said (parsed plan.width beds.sizes beds.first beds.other bases n)) beds.limit_is
+      (subst (λ (w : ℕ). Reports columns wanted said (parsed w beds.sizes beds.first beds.other bases files.run_genome.limit)) beds.width_is
+      (says wanted beds.sizes beds.first beds.other bases (beds.are.0, beds.are.1, beds.are.2, named))))
 
 -- ---- scripts
 

@@ -2,18 +2,19 @@
 ghost use Rattle.std.specs.Prelude.{◌≡◌, List, ℕ, Option, None, Some, IfOk, IfErr, OnOk, OnErr, true, IfSome};
 ghost use Rattle.std.specs.Option.{option_copied};
 ghost use Rattle.iv_fasta.specs.FastaReading.{Wanted};
-ghost use Rattle.iv_run.specs.RunFiles.{AreAskedFor, AreWanted, IsFasta, IsIfNamed, IsOn, IsParsed};
+ghost use Rattle.iv_run.specs.RunFiles.{AreAskedFor, IsFasta, IsIfNamed, IsOn, IsParsed};
 ghost use Rattle.iv_program.specs.Files.{FilesState, opened, after_opening, after_closing, after_one, after_reading};
 ghost use Rattle.iv_program.specs.Inside.Files.{ReadsNamed, StopsAt, StopsFile, names_of};
-ghost use Rattle.iv_program.specs.Inside.Runs.{HasBeds, HasTexts};
+ghost use Rattle.iv_program.specs.Inside.Runs.{HasBeds, HasEnough, HasTexts};
+ghost use Rattle.iv_places.specs.declared.held_columns.HeldColumns.{HeldColumns};
 ghost use Rattle.iv_program.specs.Texts.{Texts, AreTexts};
 
 use iv_args::{Plan, Slot};
 use iv_bytes::{ReadFault, Source};
-use iv_lines::HoldsRecords;
-use iv_places::Places;
+use iv_places::HeldColumns;
 use iv_run::{
-    CliFault, FileFault, HeldFasta, HeldRecords, RunFiles, RunGenome, read_all, sound_files,
+    CliFault, FileFault, HeldFasta, HeldRecords, RunFiles, RunGenome, columns_for, read_all,
+    sound_files,
 };
 use std::alloc::Allocator;
 
@@ -70,13 +71,13 @@ fn read_file<A: Allocator + Copy, F: InputFiles>(
 }
 
 /// What is held of the file of this name.
-fn read_held<H: HoldsRecords<A>, A: Allocator + Copy, F: InputFiles>(
+fn read_held<A: Allocator + Copy, F: InputFiles>(
     files: &mut F,
     name: &[u8],
     run_genome: &RunGenome<A>,
-) -> Result<HeldRecords<H, A>, FileFault>
-    ensures ok { IfOk result (λ held. (text : List ℕ) × ReadsNamed (F.state files.old) (Some name.now) (Some text) (F.state files.new) × IsParsed H.projected run_genome.now.genome run_genome.now.width run_genome.now.limit text held) }
-    ensures is_on { IfOk result (IsOn H.projected run_genome.now.genome run_genome.now.limit) }
+) -> Result<HeldRecords<A>, FileFault>
+    ensures ok { IfOk result (λ held. (text : List ℕ) × ReadsNamed (F.state files.old) (Some name.now) (Some text) (F.state files.new) × IsParsed run_genome.now.columns run_genome.now.genome run_genome.now.width run_genome.now.limit text held) }
+    ensures is_on { IfOk result (IsOn run_genome.now.genome run_genome.now.limit) }
     ensures err { IfErr result (λ fault. StopsFile (F.state files.old) name.now fault (F.state files.new)) }
 {
     let mut file = files.open(name)?;
@@ -86,13 +87,13 @@ fn read_held<H: HoldsRecords<A>, A: Allocator + Copy, F: InputFiles>(
 }
 
 /// What is held of the second file of a plan, if it names one.
-fn read_second<H: HoldsRecords<A>, A: Allocator + Copy, F: InputFiles>(
+fn read_second<A: Allocator + Copy, F: InputFiles>(
     files: &mut F,
     plan: &Plan<'_, A>,
     run_genome: &RunGenome<A>,
-) -> Result<Option<HeldRecords<H, A>>, SlotFault>
-    ensures ok { IfOk result (λ held. (other : Option (List ℕ)) × ReadsNamed (F.state files.old) plan.now.other other (F.state files.new) × IsIfNamed (IsParsed H.projected run_genome.now.genome run_genome.now.width run_genome.now.limit) other held) }
-    ensures is_on { IfOk result (λ held. IfSome held (IsOn H.projected run_genome.now.genome run_genome.now.limit)) }
+) -> Result<Option<HeldRecords<A>>, SlotFault>
+    ensures ok { IfOk result (λ held. (other : Option (List ℕ)) × ReadsNamed (F.state files.old) plan.now.other other (F.state files.new) × IsIfNamed (IsParsed run_genome.now.columns run_genome.now.genome run_genome.now.width run_genome.now.limit) other held) }
+    ensures is_on { IfOk result (λ held. IfSome held (IsOn run_genome.now.genome run_genome.now.limit)) }
     ensures err { IfErr result (λ why. (why.0 ≡ Slot.Other)
         × ((name : List ℕ) × (plan.now.other ≡ Some name) × StopsFile (F.state files.old) name why.1 (F.state files.new))) }
 {
@@ -107,7 +108,7 @@ fn read_bases<A: Allocator + Copy, F: InputFiles>(
     files: &mut F,
     name: &[u8],
     run_genome: &RunGenome<A>,
-    first: Option<&HeldRecords<Places<A>, A>>,
+    first: Option<&HeldRecords<A>>,
 ) -> Result<HeldFasta<A>, FileFault>
     ensures ok { IfOk result (λ held. (wanted : Wanted) × (text : List ℕ) × AreAskedFor (option_copied first.entry) wanted × ReadsNamed (F.state files.old) (Some name.now) (Some text) (F.state files.new) × IsFasta wanted run_genome.now.genome text held) }
     ensures err { IfErr result (λ fault. StopsFile (F.state files.old) name.now fault (F.state files.new)) }
@@ -123,7 +124,7 @@ fn read_fasta<'g, A: Allocator + Copy, F: InputFiles>(
     files: &mut F,
     plan: &Plan<'_, A>,
     run_genome: &'g RunGenome<A>,
-    first: Option<&'g HeldRecords<Places<A>, A>>,
+    first: Option<&'g HeldRecords<A>>,
 ) -> Result<Option<HeldFasta<A>>, SlotFault>
     ensures ok { IfOk result (λ held. (wanted : Wanted) × (bases : Option (List ℕ)) × AreAskedFor (option_copied first.entry) wanted × ReadsNamed (F.state files.old) plan.now.bases bases (F.state files.new) × IsIfNamed (IsFasta wanted run_genome.now.genome) bases held) }
     ensures err { IfErr result (λ why. (why.0 ≡ Slot.Bases)
@@ -136,20 +137,21 @@ fn read_fasta<'g, A: Allocator + Copy, F: InputFiles>(
 }
 
 /// The genome of a run, its first file, and its second one, if the plan names it.
-type Beds<H, A> = (RunGenome<A>, HeldRecords<H, A>, Option<HeldRecords<H, A>>);
+type Beds<A> = (RunGenome<A>, HeldRecords<A>, Option<HeldRecords<A>>);
 
-/// Reads the genome file and the BED files of a plan, in the order of their slots.
-fn read_beds<H: HoldsRecords<A>, A: Allocator + Copy, F: InputFiles>(
+/// Reads the genome file and the BED files of a plan, in the order of their slots. These columns of BED files are held.
+fn read_beds<A: Allocator + Copy, F: InputFiles>(
     alloc: A,
     files: &mut F,
     plan: &Plan<'_, A>,
-) -> Result<Beds<H, A>, SlotFault>
-    ensures ok { IfOk result (λ beds. HasBeds H.projected plan.now (F.state files.old) (F.state files.new) (record { run_genome = beds.0; first = beds.1; second = beds.2; fasta = None })) }
-    ensures is_on { IfOk result (λ beds. IsOn H.projected beds.0.genome beds.0.limit beds.1 × IfSome beds.2 (IsOn H.projected beds.0.genome beds.0.limit)) }
+    columns: HeldColumns,
+) -> Result<Beds<A>, SlotFault>
+    ensures ok { IfOk result (λ beds. HasBeds columns plan.now (F.state files.old) (F.state files.new) (record { run_genome = beds.0; first = beds.1; second = beds.2; fasta = None })) }
+    ensures is_on { IfOk result (λ beds. IsOn beds.0.genome beds.0.limit beds.1 × IfSome beds.2 (IsOn beds.0.genome beds.0.limit)) }
     ensures err { IfErr result (λ why. StopsAt plan.now (F.state files.old) (F.state files.new) why.0 why.1) }
 {
     let sizes = in_slot(Slot::Sizes, read_file(alloc, files, plan.sizes_file()))?;
-    let run_genome = RunGenome::begin(alloc, plan, sizes.as_slice(), plan.limit());
+    let run_genome = RunGenome::begin(alloc, plan, sizes.as_slice(), plan.limit(), columns);
     let first = in_slot(
         Slot::First,
         read_held(files, plan.first_file(), &run_genome),
@@ -158,34 +160,35 @@ fn read_beds<H: HoldsRecords<A>, A: Allocator + Copy, F: InputFiles>(
     Ok((run_genome, first, second))
 }
 
-/// Reads all files of a plan, in the order of their slots, with all bases of the FASTA file. Then it checks that none is damaged.
-pub(crate) fn read_files<H: HoldsRecords<A>, A: Allocator + Copy, F: InputFiles>(
+/// Reads all files of a plan, in the order of their slots, with all columns of BED files and all bases of the FASTA file. Then it checks
+/// that none is damaged.
+pub(crate) fn read_files<A: Allocator + Copy, F: InputFiles>(
     alloc: A,
     files: &mut F,
     plan: &Plan<'_, A>,
-) -> Result<Result<RunFiles<H, A>, CliFault>, SlotFault>
-    ensures ok { IfOk result (λ read. (texts : Texts) × AreTexts (F.state files.old) plan.now texts × HasTexts H.projected None plan.now texts read) }
+) -> Result<Result<RunFiles<A>, CliFault>, SlotFault>
+    ensures ok { IfOk result (λ read. (texts : Texts) × AreTexts (F.state files.old) plan.now texts × HasTexts HeldColumns.All None plan.now texts read) }
     ensures limit { IfOk result (λ read. IfOk read (λ f. f.limit ≡ plan.now.limit)) }
     ensures after { OnOk result (F.state files.new ≡ after_reading (names_of plan.now) (F.state files.old)) }
     ensures err { IfErr result (λ why. StopsAt plan.now (F.state files.old) (F.state files.new) why.0 why.1) }
 {
-    let (run_genome, first, second) = read_beds(alloc, files, plan)?;
+    let (run_genome, first, second) = read_beds(alloc, files, plan, HeldColumns::All)?;
     let fasta = read_fasta(files, plan, &run_genome, None)?;
     Ok(sound_files(run_genome, first, second, fasta))
 }
 
-/// Reads all files of a plan, in the order of their slots, with the bases of those sequences that a record of the first file is on.
-/// Then it checks that none is damaged.
+/// Reads all files of a plan, in the order of their slots, with the columns and the bases that its rows need: bases of those sequences
+/// that a record of the first file is on. Then it checks that none is damaged.
 pub(crate) fn read_files_of_rows<A: Allocator + Copy, F: InputFiles>(
     alloc: A,
     files: &mut F,
     plan: &Plan<'_, A>,
-) -> Result<Result<RunFiles<Places<A>, A>, CliFault>, SlotFault>
-    ensures ok { IfOk result (λ read. (texts : Texts) × (wanted : Wanted) × AreTexts (F.state files.old) plan.now texts × HasTexts (λ r. r) wanted plan.now texts read × IfOk read (λ f. AreWanted wanted f.first.records)) }
+) -> Result<Result<RunFiles<A>, CliFault>, SlotFault>
+    ensures ok { IfOk result (λ read. (texts : Texts) × AreTexts (F.state files.old) plan.now texts × HasEnough plan.now texts read) }
     ensures after { OnOk result (F.state files.new ≡ after_reading (names_of plan.now) (F.state files.old)) }
     ensures err { IfErr result (λ why. StopsAt plan.now (F.state files.old) (F.state files.new) why.0 why.1) }
 {
-    let (run_genome, first, second) = read_beds(alloc, files, plan)?;
+    let (run_genome, first, second) = read_beds(alloc, files, plan, columns_for(plan))?;
     let fasta = read_fasta(files, plan, &run_genome, Some(&first))?;
     Ok(sound_files(run_genome, first, second, fasta))
 }

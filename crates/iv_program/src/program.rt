@@ -1,13 +1,10 @@
 //! The whole program: what the arguments ask for, the run of one subcommand, and how each run ends.
 ghost use Rattle.std.specs.Prelude.{◌≡◌, ◌≢◌, ◌⊎◌, ℕ, List, [], Some, None, IfOk, IfErr, MatchResult, OnOk, OnErr, map, true, false};
 ghost use Rattle.iv_bytes.specs.Sinks.{FailsIn, Takes, waiting};
-ghost use Rattle.iv_lines.specs.Intervals.{bare};
 ghost use Rattle.iv_args.specs.Notices.{notice_of};
 ghost use Rattle.iv_args.specs.Texts.{notice_text};
 ghost use Rattle.iv_args.specs.Arguments.{RunPlan, IsPlan, is_session};
 ghost use Rattle.iv_args.specs.declared.notice.Notice.{Notice};
-ghost use Rattle.iv_run.specs.IntervalsViews.{AskForIntervals};
-ghost use Rattle.iv_run.specs.Inside.IntervalsViews.{AskForColumns};
 ghost use Rattle.iv_run.specs.Shots.{shown};
 ghost use Rattle.iv_run.specs.ExitReasons.{ending_of as ending_of_fault, is_through, line_of, status_of};
 ghost use Rattle.iv_program.specs.Files.{after_reading};
@@ -15,19 +12,15 @@ ghost use Rattle.iv_program.specs.Outcomes.{IsSound, DoesAll, Hold, PrintsJust};
 ghost use Rattle.iv_program.specs.Program.{Runs, world};
 ghost use Rattle.iv_program.specs.Runs.{World};
 ghost use Rattle.iv_program.specs.Inside.Files.{StopsAt, names_of};
-ghost use Rattle.iv_fasta.specs.FastaReading.{Wanted};
-ghost use Rattle.iv_run.specs.RunFiles.{AreWanted};
-ghost use Rattle.iv_program.specs.Inside.Runs.{EndsRun, HasTexts, PrintsView, ReadsAll, StopsPlan};
+ghost use Rattle.iv_program.specs.Inside.Runs.{EndsRun, HasEnough, PrintsView, ReadsAll, StopsPlan};
 ghost use Rattle.iv_program.specs.Texts.{Texts, AreTexts};
 ghost use Rattle.iv_program.specs.declared.program.Ended.{Ended};
 
-use crate::files::{InputFiles, SlotFault, read_files, read_files_of_rows};
+use crate::files::{InputFiles, SlotFault, read_files_of_rows};
 use crate::script_run::run_session;
 use iv_args::{Notice, Plan};
 use iv_bytes::{Flush, Sink, Source, put_all};
-use iv_lines::Interval;
-use iv_places::Places;
-use iv_run::{CliFault, ExitReason, IntervalsView, RunFiles, shot_of_held};
+use iv_run::{CliFault, ExitReason, RunFiles, shot_of_held};
 use iv_session::SeesRefusals;
 use std::alloc::Allocator;
 
@@ -79,30 +72,14 @@ fn ending_of(done: Result<(), CliFault>) -> ExitReason
     }
 }
 
-/// Prints a view whose rows depend on nothing of a record except its interval, of the files that were read, unless one is damaged.
-fn shot_of_intervals<A: Allocator + Copy, W: Sink>(
-    view: IntervalsView,
-    files: Result<RunFiles<Vec<Interval, A>, A>, CliFault>,
-    output: &mut W,
-) -> ExitReason
-    ensures { (plan : RunPlan) (texts : Texts) → AskForIntervals plan.view view → HasTexts bare None plan texts files
-        → PrintsView plan texts (W.state output.old) (W.state output.new) result }
-{
-    match files {
-        Ok(files) => ending_of(files.print(view, output)),
-        Err(fault) => ExitReason::from(fault),
-    }
-}
-
-/// Prints a view that needs the columns of records, of the files that were read, unless one is damaged.
-fn shot_of_columns<A: Allocator + Copy, W: Sink>(
+/// Prints the view of a plan, of the files that were read, unless one is damaged.
+fn shot_of_files<A: Allocator + Copy, W: Sink>(
     alloc: A,
     plan: &Plan<'_, A>,
-    files: Result<RunFiles<Places<A>, A>, CliFault>,
+    files: Result<RunFiles<A>, CliFault>,
     output: &mut W,
 ) -> ExitReason
-    requires { AskForColumns plan.now.view }
-    ensures { (texts : Texts) (wanted : Wanted) → HasTexts (λ r. r) wanted plan.now texts files → IfOk files (λ f. AreWanted wanted f.first.records) → PrintsView plan.now texts (W.state output.old) (W.state output.new) result }
+    ensures { (texts : Texts) → HasEnough plan.now texts files → PrintsView plan.now texts (W.state output.old) (W.state output.new) result }
 {
     match files {
         Ok(files) => ending_of(shot_of_held(alloc, plan, files, output)),
@@ -123,12 +100,8 @@ fn print_view<A: Allocator + Copy, F: InputFiles, W: Sink>(
     ensures err { IfErr result (λ why. StopsAt plan.now (F.state files.old) (F.state files.new) why.0 why.1) }
     ensures nothing { OnErr result (W.state output.new ≡ W.state output.old) }
 {
-    if let Some(view) = IntervalsView::of_plan(plan) {
-        let read = read_files(alloc, files, plan)?;
-        return Ok(shot_of_intervals(view, read, output));
-    }
     let read = read_files_of_rows(alloc, files, plan)?;
-    Ok(shot_of_columns(alloc, plan, read, output))
+    Ok(shot_of_files(alloc, plan, read, output))
 }
 
 /// Does what a plan asks for.

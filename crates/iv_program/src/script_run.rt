@@ -5,6 +5,7 @@ ghost use Rattle.iv_args.specs.Arguments.{RunPlan, most_limit};
 ghost use Rattle.iv_program.specs.Files.{after_reading};
 ghost use Rattle.iv_program.specs.Inside.Files.{StopsAt, names_of};
 ghost use Rattle.iv_program.specs.Inside.Runs.{HasTexts, RunsScript, stopped_at};
+ghost use Rattle.iv_places.specs.declared.held_columns.HeldColumns.{HeldColumns};
 ghost use Rattle.iv_program.specs.Texts.{Texts, AreTexts};
 
 use crate::files::{InputFiles, SlotFault, read_files};
@@ -12,7 +13,6 @@ use crate::program::Ended;
 use iv_args::Plan;
 use iv_bytes::{Sink, Source};
 use iv_cli::{begin_session, ending_of_run};
-use iv_places::Places;
 use iv_run::{CliFault, ExitReason, RunFiles};
 use iv_session::{RunFault, ScriptLimits, SeesRefusals, Summary, run_script};
 use std::alloc::Allocator;
@@ -35,7 +35,7 @@ fn line_of_stop(done: &Result<Summary, RunFault>) -> u64
 /// damaged.
 fn run_over<A: Allocator + Copy, R: Source, W: Sink, E: Sink, O: SeesRefusals>(
     alloc: A,
-    files: Result<RunFiles<Places<A>, A>, CliFault>,
+    files: Result<RunFiles<A>, CliFault>,
     limit: u32,
     input: &mut R,
     output: &mut W,
@@ -44,7 +44,7 @@ fn run_over<A: Allocator + Copy, R: Source, W: Sink, E: Sink, O: SeesRefusals>(
 ) -> Ended
     requires same { IfOk files (λ f. f.limit ≡ limit) }
     requires few { limit ≤ most_limit }
-    ensures { (plan : RunPlan) (texts : Texts) → limit ≡ plan.limit → HasTexts (λ r. r) None plan texts files
+    ensures { (plan : RunPlan) (texts : Texts) → limit ≡ plan.limit → HasTexts HeldColumns.All None plan texts files
         → RunsScript plan texts
         (streams (R.state input.old) (W.state output.old) (E.state messages.old))
         (streams (R.state input.new) (W.state output.new) (E.state messages.new)) result.exit_reason result.line }

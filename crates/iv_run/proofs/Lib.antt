@@ -3,7 +3,7 @@ pub mod LoadLemmas
 pub mod ShotLemmas
 mod IntervalsAlone
 pub mod PieceLemmas
-pub mod IntervalsLemmas
+pub mod ColumnsLemmas
 pub mod WantedLemmas
 mod RunFilesLemmas
 pub mod FastaPieceLemmas

@@ -6,6 +6,8 @@ use Rattle.iv_text.specs.BedFile.{Bed, bed_of}
 use Rattle.iv_lines.specs.declared.fault.LoadFault.{LoadFault}
 use Rattle.iv_lines.specs.declared.fault.LoadCause.{LoadCause}
 use Rattle.iv_lines.specs.declared.fault.LoadCause.TheVariants as cause
+use Rattle.iv_places.specs.HeldColumns.{held_bed}
+use Rattle.iv_places.specs.declared.held_columns.HeldColumns.{HeldColumns}
 use Rattle.iv_run.specs.declared.fault.CliFault.{CliFault}
 use Rattle.iv_run.specs.declared.fault.CliFault.TheVariants.{Damaged, Memory}
 use Rattle.iv_args.specs.declared.plan.Slot.{Slot}
@@ -14,8 +16,7 @@ use Rattle.iv_fasta.specs.Fasta as Fasta
 use Rattle.iv_lines.specs.Chains.{if_ok, map_fault}
 use Rattle.iv_run.specs.Inside.Shots.{bases_said, second_of}
 use Rattle.iv_run.specs.Loading.{IsAnswer, Parsed, parsed, fault_of, damage_of}
-use Rattle.iv_text.specs.BedReading.{projected_bed, projected_or_fault}
-use Rattle.iv_lines.specs.RecordValue.{RecordValue}
+use Rattle.iv_text.specs.BedReading.{held_or_fault}
 use Rattle.iv_run.specs.RunFiles.{GenomeRead, IsGenomeOf, IsGenomeBy}
 
 -- a fault is reported as damage, unless it is out of memory
@@ -87,14 +88,14 @@ reports {T} slot answer said rest all k all_is is damage =
 
 -- ---- files of which the records are held
 
-pub kept-sound : (projected : RecordValue → RecordValue) (r : Result Bed LoadFault) (file : Bed) → projected_or_fault projected r ≡ Ok file → (bed : Bed) × (r ≡ Ok bed) × (file ≡ projected_bed projected bed)
-kept-sound projected (Ok bed) file is = let same : projected_bed projected bed ≡ file = cc in (bed, refl, sym same)
-kept-sound projected (Err f) file is = cc
+pub kept-sound : (which : HeldColumns) (r : Result Bed LoadFault) (file : Bed) → held_or_fault which r ≡ Ok file → (bed : Bed) × (r ≡ Ok bed) × (file ≡ held_bed which bed)
+kept-sound which (Ok bed) file is = let same : held_bed which bed ≡ file = cc in (bed, refl, sym same)
+kept-sound which (Err f) file is = cc
 
-pub kept-why : (projected : RecordValue → RecordValue) (r : Result Bed LoadFault) (f : LoadFault) → IsAnswer {T = Bed} (Err f) (projected_or_fault projected r) → IsWhy f r
-kept-why projected r f (inl memory) = inl memory
-kept-why projected (Ok bed) f (inr is) = cc
-kept-why projected (Err e) f (inr is) = let same : e ≡ f = cc in inr (ap Err same)
+pub kept-why : (which : HeldColumns) (r : Result Bed LoadFault) (f : LoadFault) → IsAnswer {T = Bed} (Err f) (held_or_fault which r) → IsWhy f r
+kept-why which r f (inl memory) = inl memory
+kept-why which (Ok bed) f (inr is) = cc
+kept-why which (Err e) f (inr is) = let same : e ≡ f = cc in inr (ap Err same)
 
 -- the genome file is damaged
 pub says-no_sizes : (sizes : List ℕ) (known : GenomeRead) (k : CliFault) → known.damage ≡ Some k → (f : LoadFault) × (k ≡ damage_of Sizes f) × IsWhy f (genome_of sizes) → IsGenomeOf sizes known

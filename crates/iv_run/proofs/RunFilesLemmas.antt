@@ -2,10 +2,9 @@
 use Rattle.std.proofs.Common.{◌≡◌, ◌∙◌, ◌⊎◌, inl, inr, ℕ, List, Option, None, Some, Result, Ok, Err, IfOk, IfErr, refl, sym, ap, subst}
 use Rattle.std.specs.Option.{option_map, option_transpose}
 use Rattle.iv_text.specs.BedFile.{Bed, bed_of}
-use Rattle.iv_text.specs.BedReading.{projected_bed, projected_or_fault}
+use Rattle.iv_text.specs.BedReading.{held_or_fault}
 use Rattle.iv_lines.specs.Genome.{Sequences}
 use Rattle.iv_lines.specs.GenomeFile.{genome_of}
-use Rattle.iv_lines.specs.RecordValue.{RecordValue}
 use Rattle.iv_lines.specs.declared.fault.LoadFault.{LoadFault}
 use Rattle.iv_lines.specs.declared.fault.LoadCause.TheVariants as cause
 use Rattle.iv_fasta.specs.Fasta.{Bases}
@@ -14,6 +13,8 @@ use Rattle.iv_args.specs.declared.plan.Slot.TheVariants as slot
 use Rattle.iv_run.specs.Inside.Shots.{bases_said, second_of}
 use Rattle.iv_run.specs.Loading.{IsAnswer, Parsed, parsed}
 use Rattle.iv_run.specs.RunFiles.{AreOf, FilesRead, GenomeRead, IsGenomeBy, IsGenomeOf, IsIfNamed, IsParsed, Reports}
+use Rattle.iv_places.specs.HeldColumns.{held_bed}
+use Rattle.iv_places.specs.declared.held_columns.HeldColumns.{HeldColumns}
 use Rattle.iv_run.specs.declared.fault.CliFault.{CliFault}
 use Rattle.iv_run.specs.declared.fault.CliFault.TheVariants.{Memory}
 use Rattle.iv_run.proofs.LoadLemmas.{IsDamage, IsReported, IsWhy, kept-sound, kept-why, past-first, past-genome, past-second, reports, with_bases}
@@ -63,41 +64,43 @@ module _ (sizes : List ℕ) (known : GenomeRead) (says : IsGenomeOf sizes known)
 
 -- ---- files of which the records are held
 
-answer-whole : (projected : RecordValue → RecordValue) (file r : Result Bed LoadFault) (why : LoadFault) → file ≡ Err why → IsAnswer file (projected_or_fault projected r) → IsAnswer file r
-answer-whole projected (Ok bed) r why is answer = absurd (cc is)
-answer-whole projected (Err f) r why is answer = kept-why projected r f answer
+answer-whole : (which : HeldColumns) (file r : Result Bed LoadFault) (why : LoadFault) → file ≡ Err why → IsAnswer file (held_or_fault which r) → IsAnswer file r
+answer-whole which (Ok bed) r why is answer = absurd (cc is)
+answer-whole which (Err f) r why is answer = kept-why which r f answer
 
-module _ (projected : RecordValue → RecordValue) (g : Sequences) (width limit : ℕ) where
+module _ (which : HeldColumns) (g : Sequences) (width limit : ℕ) where
   -- the second file is damaged
-  beside-why : (text : Option (List ℕ)) (file : Option (Result Bed LoadFault)) (why : LoadFault) → IsIfNamed (IsParsed projected g width limit) text file
+  beside-why : (text : Option (List ℕ)) (file : Option (Result Bed LoadFault)) (why : LoadFault) → IsIfNamed (IsParsed which g width limit) text file
       → option_transpose file ≡ Err why → IsWhy why (second_of g width limit text)
   beside-why None file why named is = absurd (cc (sym (ap (λ (o : Option (Result Bed LoadFault)). option_transpose o) named) ∙ is))
   beside-why (Some text) None why named is = absurd named
   beside-why (Some text) (Some (Ok bed)) why named is = absurd (cc is)
-  beside-why (Some text) (Some (Err f)) why named is = let same : f ≡ why = cc is in subst (λ (k : LoadFault). IsWhy k (second_of g width limit (Some text))) same (by (kept-why projected (bed_of g width limit text) f named))
+  beside-why (Some text) (Some (Err f)) why named is = let same : f ≡ why = cc is in subst (λ (k : LoadFault). IsWhy k (second_of g width limit (Some text))) same (by (kept-why which (bed_of g width limit text) f named))
     where
       by : IsWhy f (bed_of g width limit text) → IsWhy f (second_of g width limit (Some text))
       by (inl memory) = inl memory
       by (inr e) = inr (ap (λ (r : Result Bed LoadFault). option_transpose (Some r)) e)
 
   -- it is sound, or there is none
-  beside-sound : (text : Option (List ℕ)) (file : Option (Result Bed LoadFault)) (second : Option Bed) → IsIfNamed (IsParsed projected g width limit) text file
-      → option_transpose file ≡ Ok second → (whole : Option Bed) × (second_of g width limit text ≡ Ok whole) × (second ≡ option_map (projected_bed projected) whole)
+  beside-sound : (text : Option (List ℕ)) (file : Option (Result Bed LoadFault)) (second : Option Bed) → IsIfNamed (IsParsed which g width limit) text file
+      → option_transpose file ≡ Ok second → (whole : Option Bed) × (second_of g width limit text ≡ Ok whole) × (second ≡ option_map (held_bed which) whole)
   beside-sound None file second named is =
       let none : None ≡ second = cc (sym (ap (λ (o : Option (Result Bed LoadFault)). option_transpose o) named) ∙ is) in
       (None, refl, sym none)
   beside-sound (Some text) None second named is = absurd named
   beside-sound (Some text) (Some (Err f)) second named is = absurd (cc is)
   beside-sound (Some text) (Some (Ok file)) second named is =
-      let bed = kept-sound projected (bed_of g width limit text) file named in
+      let bed = kept-sound which (bed_of g width limit text) file named in
       let some : Some file ≡ second = cc is in
       (Some bed.0, ap (λ (r : Result Bed LoadFault). option_transpose (Some r)) bed.1, sym some ∙ ap Some bed.2)
 
 -- all files were read, and are those of these bytes
-module _ (projected : RecordValue → RecordValue) (wanted : Wanted) (sizes text : List ℕ) (other bases : Option (List ℕ)) (files : FilesRead)
-    (are : AreOf projected wanted sizes text other bases files) where
+module _ (wanted : Wanted) (sizes text : List ℕ) (other bases : Option (List ℕ)) (files : FilesRead) (are : AreOf wanted sizes text other bases files) where
   abbrev run_genome : GenomeRead
   run_genome = files.run_genome
+
+  abbrev which : HeldColumns
+  which = run_genome.columns
 
   abbrev ReportsFault : CliFault → Type 0
   ReportsFault k = IsReported k (parsed run_genome.width sizes text other bases run_genome.limit)
@@ -114,20 +117,20 @@ module _ (projected : RecordValue → RecordValue) (wanted : Wanted) (sizes text
     pub finish-first : (k : CliFault) → IsDamage slot.First files.first k → ReportsFault k
     finish-first k damage =
         report-first run_genome.width sizes text run_genome.limit run_genome.genome genome other bases files.first k
-        (answer-whole projected files.first (bed_of run_genome.genome run_genome.width run_genome.limit text) damage.0 damage.1 are.1) damage
+        (answer-whole which files.first (bed_of run_genome.genome run_genome.width run_genome.limit text) damage.0 damage.1 are.1) damage
 
     module _ (first : Bed) (first_is : files.first ≡ Ok first) where
-      bed : (bed : Bed) × (bed_of run_genome.genome run_genome.width run_genome.limit text ≡ Ok bed) × (first ≡ projected_bed projected bed)
-      bed = kept-sound projected (bed_of run_genome.genome run_genome.width run_genome.limit text) first (subst (IsParsed projected run_genome.genome run_genome.width run_genome.limit text) first_is are.1)
+      bed : (bed : Bed) × (bed_of run_genome.genome run_genome.width run_genome.limit text ≡ Ok bed) × (first ≡ held_bed which bed)
+      bed = kept-sound which (bed_of run_genome.genome run_genome.width run_genome.limit text) first (subst (IsParsed which run_genome.genome run_genome.width run_genome.limit text) first_is are.1)
 
       -- the second file is
       pub finish-second : (k : CliFault) → IsDamage slot.Other (option_transpose files.second) k → ReportsFault k
       finish-second k damage = report-second run_genome.width sizes text run_genome.limit run_genome.genome genome other bases bed.0 bed.1 (Err damage.0) k
-          (beside-why projected run_genome.genome run_genome.width run_genome.limit other files.second damage.0 are.2 damage.1) (damage.0, refl, damage.2)
+          (beside-why which run_genome.genome run_genome.width run_genome.limit other files.second damage.0 are.2 damage.1) (damage.0, refl, damage.2)
 
       module _ (second : Option Bed) (second_is : option_transpose files.second ≡ Ok second) where
-        beside : (whole : Option Bed) × (second_of run_genome.genome run_genome.width run_genome.limit other ≡ Ok whole) × (second ≡ option_map (projected_bed projected) whole)
-        beside = beside-sound projected run_genome.genome run_genome.width run_genome.limit other files.second second are.2 second_is
+        beside : (whole : Option Bed) × (second_of run_genome.genome run_genome.width run_genome.limit other ≡ Ok whole) × (second ≡ option_map (held_bed which) whole)
+        beside = beside-sound which run_genome.genome run_genome.width run_genome.limit other files.second second are.2 second_is
 
         -- the FASTA file is
         pub finish-bases : (k : CliFault) → IsDamage slot.Bases (option_transpose files.fasta) k → ReportsFault k
@@ -137,7 +140,7 @@ module _ (projected : RecordValue → RecordValue) (wanted : Wanted) (sizes text
 
         -- all are sound
         pub finish-all : (g : Sequences) (found : Option Bases) (limit : ℕ) → g ≡ run_genome.genome → option_transpose files.fasta ≡ Ok found → limit ≡ run_genome.limit
-            → Reports projected wanted (Ok (record { genome = g; first = first; second = second; bases = found; limit = limit })) (parsed run_genome.width sizes text other bases run_genome.limit)
+            → Reports which wanted (Ok (record { genome = g; first = first; second = second; bases = found; limit = limit })) (parsed run_genome.width sizes text other bases run_genome.limit)
         finish-all g found limit same is most =
             let held = wanted-found run_genome.genome wanted bases files.fasta found are.3 is in (
               record { genome = run_genome.genome; first = bed.0; second = beside.0; bases = held.0; limit = run_genome.limit },

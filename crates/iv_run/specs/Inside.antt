@@ -1,7 +1,5 @@
 -- Definitions that no contract of the program or of the six public crates reaches.
 pub mod Files
-pub mod Pieces
 pub mod Prints
 pub mod Shots
 pub mod Intervals
-pub mod IntervalsViews

@@ -2,7 +2,8 @@ pub mod ExitReasons
 pub mod Files
 pub mod Loading
 pub mod Shots
-pub mod IntervalsViews
+pub mod Columns
 pub mod RunFiles
 pub mod FastaPieces
+pub mod Pieces
 pub mod Inside

@@ -4,8 +4,11 @@ use Rattle.std.specs.Option.{option_map}
 use Rattle.iv_text.specs.BedFile.{Bed}
 use Rattle.iv_lines.specs.Genome.{Sequences}
 use Rattle.iv_lines.specs.GenomeFile.{genome_of}
-use Rattle.iv_text.specs.BedReading.{IsProjected, projected_bed, projected_bed_of}
+use Rattle.iv_text.specs.BedReading.{held_bed_of}
+use Rattle.iv_lines.specs.Read.{Fits}
 use Rattle.iv_lines.specs.RecordValue.{RecordValue}
+use Rattle.iv_places.specs.HeldColumns.{held_bed}
+use Rattle.iv_places.specs.declared.held_columns.HeldColumns.{HeldColumns}
 use Rattle.iv_lines.specs.declared.fault.LoadFault.{LoadFault}
 use Rattle.iv_fasta.specs.Fasta.{Bases, fasta_of}
 use Rattle.iv_fasta.specs.FastaReading.{Wanted, is_wanted, only, only_or_fault}
@@ -13,13 +16,14 @@ use Rattle.iv_run.specs.Loading.{IsAnswer, Parsed, parsed}
 use Rattle.iv_run.specs.declared.fault.CliFault.{CliFault}
 use Rattle.iv_run.specs.declared.fault.CliFault.TheVariants.{Memory}
 
--- the genome on which BED files are read; the report of a damaged genome file; which width a BED file without a record has, and how
--- many records each may have
+-- the genome on which BED files are read; the report of a damaged genome file; which width a BED file without a record has, how many
+-- records each may have, and which of their columns are held
 pub record GenomeRead : Type 0 where
   pub genome : Sequences
   pub damage : Option CliFault
   pub width : ℕ
   pub limit : ℕ
+  pub columns : HeldColumns
 
 -- the genome; the records of each BED file, or its fault; and the bases of the FASTA file, or its fault
 pub record FilesRead : Type 0 where
@@ -61,36 +65,37 @@ abbrev pub AreAskedFor : Option (Result Bed LoadFault) → Wanted → Type 0
 AreAskedFor None wanted = wanted ≡ None
 AreAskedFor (Some first) wanted = AreWantedOf wanted first
 
--- the records are projections of records of the file's width on the genome, and they are not more than the limit
-pub record AreProjected (projected : RecordValue → RecordValue) (g : Sequences) (limit : ℕ) (file : Bed) : Type 0 where
-  pub held_all : All (IsProjected projected g file.width) file.records
+-- the records are of the file's width, and on the genome, and they are not more than the limit
+pub record AreOn (g : Sequences) (limit : ℕ) (file : Bed) : Type 0 where
+  pub fit : All (Fits g file.width) file.records
   pub few : length file.records ≤ limit
 
 -- so are those of a file, unless it is damaged
-abbrev pub IsOn : (RecordValue → RecordValue) → Sequences → ℕ → Result Bed LoadFault → Type 0
-IsOn projected g limit held = IfOk held (AreProjected projected g limit)
+abbrev pub IsOn : Sequences → ℕ → Result Bed LoadFault → Type 0
+IsOn g limit held = IfOk held (AreOn g limit)
 
--- this is the BED file of a text with its records projected, or its first fault, or out of memory
-abbrev pub IsParsed : (RecordValue → RecordValue) → Sequences → ℕ → ℕ → List ℕ → Result Bed LoadFault → Type 0
-IsParsed projected g width limit text file = IsAnswer file (projected_bed_of projected g width limit text)
+-- this is the BED file of a text, with only the columns that are held, or its first fault, or out of memory
+abbrev pub IsParsed : HeldColumns → Sequences → ℕ → ℕ → List ℕ → Result Bed LoadFault → Type 0
+IsParsed which g width limit text file = IsAnswer file (held_bed_of which g width limit text)
 
--- the files are those of these bytes, with the records of BED files projected, and with the bases of the wanted sequences
-abbrev pub AreOf : (RecordValue → RecordValue) → Wanted → List ℕ → List ℕ → Option (List ℕ) → Option (List ℕ) → FilesRead → Type 0
-AreOf projected wanted sizes first second fasta_text files =
-    IsGenomeOf sizes files.run_genome × IsParsed projected files.run_genome.genome files.run_genome.width files.run_genome.limit first files.first
-    × IsIfNamed (IsParsed projected files.run_genome.genome files.run_genome.width files.run_genome.limit) second files.second
-    × IsIfNamed (IsFasta wanted files.run_genome.genome) fasta_text files.fasta
+-- the files are those of these bytes, with only the columns of BED files that are held, and with the bases of the wanted sequences
+abbrev pub AreOf : Wanted → List ℕ → List ℕ → Option (List ℕ) → Option (List ℕ) → FilesRead → Type 0
+AreOf wanted sizes first second fasta_text files =
+    let run = files.run_genome in
+    IsGenomeOf sizes run × IsParsed run.columns run.genome run.width run.limit first files.first
+    × IsIfNamed (IsParsed run.columns run.genome run.width run.limit) second files.second
+    × IsIfNamed (IsFasta wanted run.genome) fasta_text files.fasta
 
--- files with their records projected, and with the bases of the wanted sequences alone
-abbrev pub held_files : (RecordValue → RecordValue) → Wanted → Parsed → Parsed
-held_files projected wanted files = record files {
-  first = projected_bed projected files.first;
-  second = option_map (projected_bed projected) files.second;
+-- files with only the columns of BED files that are held, and with the bases of the wanted sequences alone
+abbrev pub held_files : HeldColumns → Wanted → Parsed → Parsed
+held_files which wanted files = record files {
+  first = held_bed which files.first;
+  second = option_map (held_bed which) files.second;
   bases = option_map (only wanted) files.bases;
 }
 
--- a call answers with files as they are held: their records projected, and the bases of the wanted sequences alone; or it reports the
+-- a call answers with files as they are held: these columns of BED files, and the bases of the wanted sequences alone; or it reports the
 -- fault of the first damaged file, or out of memory
-abbrev pub Reports : (RecordValue → RecordValue) → Wanted → Result Parsed CliFault → Result Parsed CliFault → Type 0
-Reports projected wanted (Ok files) said = (whole : Parsed) × (said ≡ Ok whole) × (files ≡ held_files projected wanted whole)
-Reports projected wanted (Err k) said = (k ≡ Memory) ⊎ (said ≡ Err k)
+abbrev pub Reports : HeldColumns → Wanted → Result Parsed CliFault → Result Parsed CliFault → Type 0
+Reports which wanted (Ok files) said = (whole : Parsed) × (said ≡ Ok whole) × (files ≡ held_files which wanted whole)
+Reports which wanted (Err k) said = (k ≡ Memory) ⊎ (said ≡ Err k)

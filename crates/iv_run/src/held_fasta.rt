@@ -12,6 +12,7 @@ use crate::input_files::{TakesPieces, read_pieces};
 use iv_bytes::Source;
 use iv_fasta::{Fasta, FastaReader};
 use iv_lines::{Genome, LoadFault};
+use iv_places::HeldColumns;
 use std::alloc::Allocator;
 
 /// The bases of a FASTA file, or its first fault.
@@ -46,9 +47,15 @@ fn finish_fasta<A: Allocator + Copy>(
 }
 
 impl<A: Allocator + Copy> TakesPieces<A> for Result<FastaReader<A>, LoadFault> {
-    ghost has_taken = { λ wanted genome limit front reading. FastaSoFar wanted genome front reading };
+    ghost has_taken = { λ wanted genome limit columns front reading. FastaSoFar wanted genome front reading };
 
-    fn take(self, genome: &Genome<A>, _limit: u32, piece: &[u8]) -> Result<Self, FileFault> {
+    fn take(
+        self,
+        genome: &Genome<A>,
+        _limit: u32,
+        _columns: HeldColumns,
+        piece: &[u8],
+    ) -> Result<Self, FileFault> {
         Ok(take_bytes(genome, self, piece))
     }
 }
@@ -67,6 +74,6 @@ pub(crate) fn read_fasta<A: Allocator + Copy, R: Source>(
     ensures err { IfErr result (λ why. StopsReading (R.state source.old) (R.state source.new) most why) }
 {
     let begun: Result<FastaReader<A>, LoadFault> = Ok(FastaReader::new(alloc, wanted));
-    let all = read_pieces(begun, genome, 0, source, most)?;
+    let all = read_pieces(begun, genome, 0, HeldColumns::All, source, most)?;
     Ok(finish_fasta(genome, all))
 }

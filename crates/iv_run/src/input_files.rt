@@ -1,26 +1,25 @@
 //! Files that are read from a source to their ends: all their bytes, or what is held of a file.
-ghost use Rattle.std.specs.Prelude.{◌≡◌, ◌↔◌, ◌<◌, ◌≤◌, ◌+◌, ◌^◌, ◌++◌, ℕ, All, List, [], false, length, None, Some, Result, IfOk, IfErr, OnOk};
+ghost use Rattle.std.specs.Prelude.{◌≡◌, ◌↔◌, ◌<◌, ◌≤◌, ◌+◌, ◌^◌, ◌++◌, ℕ, List, [], false, length, None, Some, Result, IfOk, IfErr, OnOk};
 ghost use Rattle.std.specs.Option.{option_copied, option_map};
 ghost use Rattle.iv_bytes.specs.Sources.{SourceState};
 ghost use Rattle.iv_text.specs.BedReading.{AreSoundLines, size_of};
 ghost use Rattle.iv_lines.specs.Genome.{Sequences};
 ghost use Rattle.iv_lines.specs.Widths.{IsWidth};
 ghost use Rattle.iv_fasta.specs.FastaReading.{Wanted};
-ghost use Rattle.iv_lines.specs.Inside.Intervals.{interval_records};
+ghost use Rattle.iv_places.specs.declared.held_columns.HeldColumns.{HeldColumns};
 ghost use Rattle.iv_run.specs.Files.{ReadsWhole, StopsReading};
 ghost use Rattle.iv_run.specs.Inside.Files.{EndsReading, HadMemory, IsPieceFault, IsTooLong};
-ghost use Rattle.iv_run.specs.Inside.Pieces.{SaysSoFar};
+ghost use Rattle.iv_run.specs.Pieces.{SaysSoFar};
 ghost use Rattle.iv_run.specs.RunFiles.{AreAskedFor, IsOn, IsParsed};
 ghost use Rattle.iv_run.specs.declared.fault.FileFault.{FileFault};
 ghost use Rattle.iv_run.specs.declared.fault.FileFault.TheVariants as fault;
 
 use crate::fault::FileFault;
 use iv_bytes::Source;
-use iv_lines::{Genome, HoldsRecords, Interval, LoadFault};
-use iv_places::Places;
+use iv_lines::{Genome, LoadFault};
+use iv_places::{HeldColumns, Places};
 use iv_text::BedReader;
-use std::alloc::{AllocError, Allocator, Global};
-use std::marker::{Model, PhantomData};
+use std::alloc::{AllocError, Allocator};
 
 /// Adds a piece to the bytes, up to this limit in all.
 fn take_piece<A: Allocator>(
@@ -69,32 +68,39 @@ pub fn too_long_above_the_limit()
 
 /// What takes a file in pieces, from its front to its end.
 pub trait TakesPieces<A: Allocator + Copy>: Sized + Drop {
-    /// It is so once these bytes were taken of a file on this genome. A BED file may have so many records; of a FASTA file these
-    /// sequences are wanted.
-    ghost has_taken: { Wanted → Sequences → ℕ → List ℕ → Self → Type 0 };
+    /// These bytes were taken of a file on this genome. Of a BED file, which may have so many records, these columns are held; of a
+    /// FASTA file these sequences are wanted.
+    ghost has_taken: { Wanted → Sequences → ℕ → HeldColumns → List ℕ → Self → Type 0 };
 
     /// Takes the next bytes.
-    fn take(self, genome: &Genome<A>, limit: u32, piece: &[u8]) -> Result<Self, FileFault>
-        requires { (wanted : Wanted) × (front : List ℕ) × has_taken wanted genome.now limit front self × (length front + length piece.now < 2 ^ 63) }
-        ensures ok { IfOk result (λ next. (wanted : Wanted) (front : List ℕ) → has_taken wanted genome.now limit front self → has_taken wanted genome.now limit (front ++ piece.now) next) }
+    fn take(
+        self,
+        genome: &Genome<A>,
+        limit: u32,
+        columns: HeldColumns,
+        piece: &[u8],
+    ) -> Result<Self, FileFault>
+        requires { (wanted : Wanted) × (front : List ℕ) × has_taken wanted genome.now limit columns front self × (length front + length piece.now < 2 ^ 63) }
+        ensures ok { IfOk result (λ next. (wanted : Wanted) (front : List ℕ) → has_taken wanted genome.now limit columns front self → has_taken wanted genome.now limit columns (front ++ piece.now) next) }
         ensures err { IfErr result (λ why. why ≡ fault.Memory) };
 }
 
 /// What has taken a file on this genome, read from a source to its end, at most `most` bytes. A BED file may have at most `limit`
-/// records.
+/// records, of which these columns are held.
 ///
 /// After a fault of the file no more of it is looked at, but it is read to its end.
 pub(crate) fn read_pieces<P: TakesPieces<A>, A: Allocator + Copy, R: Source>(
     begun: P,
     genome: &Genome<A>,
     limit: u32,
+    columns: HeldColumns,
     source: &mut R,
     most: u64,
 ) -> Result<P, FileFault>
-    requires begun { (wanted : Wanted) × P.has_taken wanted genome.now limit [] begun }
+    requires begun { (wanted : Wanted) × P.has_taken wanted genome.now limit columns [] begun }
     requires most { most < 2 ^ 63 }
     ensures ok { IfOk result (λ all. (text : List ℕ) × ReadsWhole (R.state source.old) (R.state source.new) most text
-        × ((wanted : Wanted) → P.has_taken wanted genome.now limit [] begun → P.has_taken wanted genome.now limit text all)) }
+        × ((wanted : Wanted) → P.has_taken wanted genome.now limit columns [] begun → P.has_taken wanted genome.now limit columns text all)) }
     ensures err { IfErr result (λ why. StopsReading (R.state source.old) (R.state source.new) most why) }
 {
     let mut reading = begun;
@@ -109,123 +115,77 @@ pub(crate) fn read_pieces<P: TakesPieces<A>, A: Allocator + Copy, R: Source>(
             return Err(FileFault::TooLong);
         }
         count += n as u64;
-        reading = reading.take(genome, limit, &piece[..n])?;
+        reading = reading.take(genome, limit, columns, &piece[..n])?;
     }
 }
 
-/// A BED file whose records an `H` holds, or its first fault.
-pub type HeldRecords<H, A> = Result<ParsedFile<H, A>, LoadFault>;
-
-/// What is held of the records of a BED file, and how many columns each of them has.
-#[derive(Drop)]
-pub struct ParsedFile<H: HoldsRecords<A>, A: Allocator + Copy = Global> {
-    width: u8,
-    held: H,
-    allocator: PhantomData<A>,
-}
-
-impl<H: HoldsRecords<A>, A: Allocator + Copy> Model for ParsedFile<H, A> {
-    ghost use Rattle.iv_lines.specs.Widths.{IsWidth};
-    ghost use Rattle.std.specs.Prelude.{◌≤◌};
-    ghost use Rattle.iv_text.specs.BedFile.{Bed};
-
-    ghost Value = { Bed };
-
-    ghost view = { λ f. record { width = f.width; records = H.records f.held } };
-
-    ghost invariant = { λ f. IsWidth f.width };
-}
-
-impl<H: HoldsRecords<A>, A: Allocator + Copy> ParsedFile<H, A> {
-    /// The number of columns of each record, 3 to 6.
-    pub(crate) fn width(&self) -> u8
-        ensures { result ≡ self.now.width }
-    {
-        self.width
-    }
-}
-
-impl<A: Allocator + Copy> ParsedFile<Vec<Interval, A>, A> {
-    /// The intervals of the file's records.
-    pub(crate) fn into_intervals(self) -> Vec<Interval, A>
-        ensures { interval_records result.items ≡ self.records }
-    {
-        self.held
-    }
-}
-
-impl<A: Allocator + Copy> ParsedFile<Places<A>, A> {
-    /// The file's records at their places.
-    pub fn into_places(self) -> Places<A>
-        requires { All (λ r. r.width ≡ self.width) self.records }
-        ensures { result ≡ self }
-    {
-        let ParsedFile { width, held, .. } = self;
-        let mut places = held;
-        places.set_width(width);
-        places
-    }
-}
+/// The records of a BED file at their places, or its first fault.
+pub type HeldRecords<A> = Result<Places<A>, LoadFault>;
 
 /// Takes the next bytes, unless there was a fault before.
-pub(crate) fn take_next<H: HoldsRecords<A>, A: Allocator + Copy>(
+pub(crate) fn take_next<A: Allocator + Copy>(
     genome: &Genome<A>,
     limit: u32,
-    so_far: Result<BedReader<H, A>, LoadFault>,
+    columns: HeldColumns,
+    so_far: Result<BedReader<A>, LoadFault>,
     piece: &[u8],
-) -> Result<BedReader<H, A>, LoadFault>
-    requires sound { IfOk so_far (λ d. AreSoundLines H.projected genome.now limit d.read) }
+) -> Result<BedReader<A>, LoadFault>
+    requires sound { IfOk so_far (λ d. AreSoundLines columns genome.now limit d.read) }
     requires few { IfOk so_far (λ d. size_of d + length piece.now < 2 ^ 64) }
-    ensures { (front : List ℕ) → SaysSoFar H.projected genome.now limit front so_far → SaysSoFar H.projected genome.now limit (front ++ piece.now) result }
+    ensures { (front : List ℕ) → SaysSoFar columns genome.now limit front so_far → SaysSoFar columns genome.now limit (front ++ piece.now) result }
 {
     let mut draft = so_far?;
-    draft.take_piece(genome, limit, piece)?;
+    draft.take_piece(genome, limit, columns, piece)?;
     Ok(draft)
 }
 
 /// What is held of a whole file, or its fault, once all bytes have come. Without a record it has the width that is handed in.
-pub(crate) fn finish<H: HoldsRecords<A>, A: Allocator + Copy>(
-    so_far: Result<BedReader<H, A>, LoadFault>,
+pub(crate) fn finish<A: Allocator + Copy>(
+    so_far: Result<BedReader<A>, LoadFault>,
     genome: &Genome<A>,
     empty_width: u8,
     limit: u32,
-) -> Result<ParsedFile<H, A>, LoadFault>
+    columns: HeldColumns,
+) -> HeldRecords<A>
     requires width { IsWidth empty_width }
-    requires sound { IfOk so_far (λ d. AreSoundLines H.projected genome.now limit d.read) }
+    requires sound { IfOk so_far (λ d. AreSoundLines columns genome.now limit d.read) }
     requires few { IfOk so_far (λ d. size_of d < 2 ^ 64) }
-    ensures says { (text : List ℕ) → SaysSoFar H.projected genome.now limit text so_far → IsParsed H.projected genome.now empty_width limit text result }
-    ensures is_on { IsOn H.projected genome.now limit result }
+    ensures says { (text : List ℕ) → SaysSoFar columns genome.now limit text so_far → IsParsed columns genome.now empty_width limit text result }
+    ensures is_on { IsOn genome.now limit result }
 {
-    let (width, held) = so_far?.finish(genome, empty_width, limit)?;
-    Ok(ParsedFile {
-        width,
-        held,
-        allocator: PhantomData,
-    })
+    let reader = so_far?;
+    let places = reader.finish(genome, empty_width, limit, columns)?;
+    Ok(places)
 }
 
 /// A BED file on this genome, given all its bytes. It may have at most `limit` records.
-pub(crate) fn parse_bed<H: HoldsRecords<A>, A: Allocator + Copy>(
+pub(crate) fn parse_bed<A: Allocator + Copy>(
     alloc: A,
     genome: &Genome<A>,
     empty_width: u8,
     limit: u32,
+    columns: HeldColumns,
     text: &[u8],
-) -> Result<ParsedFile<H, A>, LoadFault>
+) -> HeldRecords<A>
     requires { IsWidth empty_width }
-    ensures says { IsParsed H.projected genome.now empty_width limit text.now result }
-    ensures is_on { IsOn H.projected genome.now limit result }
+    ensures says { IsParsed columns genome.now empty_width limit text.now result }
+    ensures is_on { IsOn genome.now limit result }
 {
-    let said = take_next(genome, limit, Ok(BedReader::new(alloc)), text);
-    finish(said, genome, empty_width, limit)
+    let said = take_next(genome, limit, columns, Ok(BedReader::new(alloc)), text);
+    finish(said, genome, empty_width, limit, columns)
 }
 
-impl<H: HoldsRecords<A>, A: Allocator + Copy> TakesPieces<A>
-    for Result<BedReader<H, A>, LoadFault> {
-    ghost has_taken = { λ wanted genome limit front reading. SaysSoFar H.projected genome limit front reading };
+impl<A: Allocator + Copy> TakesPieces<A> for Result<BedReader<A>, LoadFault> {
+    ghost has_taken = { λ wanted genome limit columns front reading. SaysSoFar columns genome limit front reading };
 
-    fn take(self, genome: &Genome<A>, limit: u32, piece: &[u8]) -> Result<Self, FileFault> {
-        Ok(take_next(genome, limit, self, piece))
+    fn take(
+        self,
+        genome: &Genome<A>,
+        limit: u32,
+        columns: HeldColumns,
+        piece: &[u8],
+    ) -> Result<Self, FileFault> {
+        Ok(take_next(genome, limit, columns, self, piece))
     }
 }
 
@@ -237,13 +197,13 @@ impl<H: HoldsRecords<A>, A: Allocator + Copy> TakesPieces<A>
 /// An allocation failed.
 pub(crate) fn wanted_for<A: Allocator + Copy>(
     alloc: A,
-    first: Option<&HeldRecords<Places<A>, A>>,
+    first: Option<&HeldRecords<A>>,
 ) -> Result<Option<Vec<bool, A>>, AllocError>
     ensures { IfOk result (λ wanted. AreAskedFor (option_copied first.entry) (option_map (λ ranks. ranks.items) wanted)) }
 {
     match first {
         None => Ok(None),
-        Some(Ok(file)) => Ok(Some(file.held.ranks(alloc)?)),
+        Some(Ok(file)) => Ok(Some(file.ranks(alloc)?)),
         Some(Err(_)) => Ok(Some(Vec::new(alloc))),
     }
 }

@@ -2,18 +2,18 @@
 //! line on standard error.
 #![tactic(auto)]
 
+mod columns;
 mod exit_reason;
 mod fault;
 mod held_fasta;
 mod input_files;
-mod intervals_view;
 mod one_shot;
 mod run_files;
 
+pub use columns::columns_for;
 pub use exit_reason::{ExitReason, status};
 pub use fault::{CliFault, FileFault};
 pub use held_fasta::HeldFasta;
-pub use input_files::{HeldRecords, ParsedFile, TakesPieces, read_all, too_long_above_the_limit};
-pub use intervals_view::IntervalsView;
+pub use input_files::{HeldRecords, TakesPieces, read_all, too_long_above_the_limit};
 pub use one_shot::{shot, shot_of_held};
 pub use run_files::{Inputs, RunFiles, RunGenome, sound_files};

@@ -6,6 +6,8 @@ ghost use Rattle.iv_lines.specs.Genome.{Sequences};
 ghost use Rattle.iv_lines.specs.Ordered.{AreInOrder, ordered};
 ghost use Rattle.iv_lines.specs.Read.{IsOnGenome};
 ghost use Rattle.iv_lines.specs.RecordValue.{RecordValue};
+ghost use Rattle.iv_blocks.specs.Inside.Texts.{merge_text};
+ghost use Rattle.iv_places.specs.declared.held_columns.HeldColumns.{HeldColumns};
 ghost use Rattle.iv_fasta.specs.FastaReading.{Wanted};
 ghost use Rattle.iv_fasta.specs.FastaRows.{fasta_text};
 ghost use Rattle.iv_pair.specs.CoverAlone.{DependsOnCoverAlone, HaveBases};
@@ -14,25 +16,26 @@ ghost use Rattle.iv_view.specs.Inside.Texts.{records_text};
 ghost use Rattle.iv_view.specs.Views.{kept_text};
 ghost use Rattle.iv_run.specs.RunFiles.{AreWanted, Reports};
 ghost use Rattle.iv_run.specs.Loading.{parsed};
-ghost use Rattle.iv_run.specs.Inside.IntervalsViews.{AskForColumns, NeedsColumns};
+ghost use Rattle.iv_run.specs.Columns.{AreEnough};
 ghost use Rattle.iv_run.specs.Inside.Prints.{Prints};
 ghost use Rattle.iv_run.specs.Inside.Shots.{ordered_other, text_beside, view_beside};
 ghost use Rattle.iv_run.specs.Shots.{Shows, shown};
 
+use crate::columns::columns_for;
 use crate::fault::CliFault;
-use crate::intervals_view::IntervalsView;
 use crate::run_files::{Inputs, RunFiles};
 use iv_args::Plan;
-use iv_blocks::{MergeSweep, put_cluster};
+use iv_blocks::{BlockOptions, MergeSweep, put_cluster, put_complement, put_merge};
 use iv_bytes::{Buffered, Sink, WriteFault};
+use iv_depth::DepthSweep;
 use iv_fasta::{Fasta, FastaOutput, put_fasta};
-use iv_lines::{Fault, Genome, Interval, put_line};
+use iv_lines::{Fault, Genome, put_line};
 use iv_pair::{CountSweep, IntersectOutput, PairOutput, PairSweep, needs_cover_alone};
 use iv_places::{PlacedRecords, Places};
 use iv_view::{Available, KeptView, View, ViewFault, WrittenView};
 use std::alloc::{AllocError, Allocator};
 
-impl<A: Allocator + Copy> RunFiles<Places<A>, A> {
+impl<A: Allocator + Copy> RunFiles<A> {
     /// The view of a plan, beside these files and at the width of the first one's records.
     ///
     /// # Errors
@@ -48,13 +51,13 @@ impl<A: Allocator + Copy> RunFiles<Places<A>, A> {
         })
     }
 
-    /// Prints the text of a view that arguments ask for beside these files, and that needs the columns of records, through one buffer.
+    /// Prints the text of a view that arguments ask for beside these files, through one buffer.
     ///
     /// # Errors
     ///
     /// `Memory`, and then nothing was printed. `Output`, and then a prefix of the text was.
     fn print<S: Sink>(self, alloc: A, view: View, sink: &mut S) -> Result<(), CliFault>
-        requires { (arguments : List (List ℕ)) × AskForColumns arguments × (view_beside self arguments ≡ Ok view) }
+        requires { (arguments : List (List ℕ)) × (view_beside self arguments ≡ Ok view) }
         ensures { Prints (S.state sink.old) (S.state sink.new) result (text_beside self view) }
     {
         let mut buffer = Buffered::new(sink);
@@ -63,13 +66,13 @@ impl<A: Allocator + Copy> RunFiles<Places<A>, A> {
         Ok(())
     }
 
-    /// Puts the text of a view that arguments ask for beside these files, and that needs the columns of records.
+    /// Puts the text of a view that arguments ask for beside these files.
     ///
     /// # Errors
     ///
     /// `Memory`, and then nothing was put. `Output`, and then a prefix of the text was.
     fn put<S: Sink>(self, alloc: A, view: View, sink: &mut S) -> Result<(), CliFault>
-        requires { (arguments : List (List ℕ)) × AskForColumns arguments × (view_beside self arguments ≡ Ok view) }
+        requires { (arguments : List (List ℕ)) × (view_beside self arguments ≡ Ok view) }
         ensures text { Prints (S.state sink.old) (S.state sink.new) result (text_beside self view) }
         ensures alone { result ≡ Err CliFault.Memory → sink.new ≡ sink.old }
     {
@@ -83,14 +86,16 @@ impl<A: Allocator + Copy> RunFiles<Places<A>, A> {
 
     /// Puts the text of a view of the first file, for its records in the order of a track.
     fn put_kept_view<S: Sink>(self, alloc: A, view: KeptView, sink: &mut S) -> Result<(), CliFault>
-        requires { NeedsColumns view }
         ensures text { Prints (S.state sink.old) (S.state sink.new) result (kept_text None view self.genome (ordered self.first.records)) }
         ensures alone { result ≡ Err CliFault.Memory → sink.new ≡ sink.old }
     {
-        let RunFiles { genome, first, .. } = self;
-        let mut file = first.into_places();
-        file.sort(alloc)?;
-        sweep(alloc, view, file.records(), &genome, sink)
+        let RunFiles {
+            genome,
+            first: mut held,
+            ..
+        } = self;
+        held.sort(alloc)?;
+        sweep(alloc, view, held.records(), &genome, sink)
     }
 
     /// Puts these rows of both files, for their records in the order of a track. There is a second file.
@@ -101,14 +106,13 @@ impl<A: Allocator + Copy> RunFiles<Places<A>, A> {
     {
         let RunFiles {
             genome,
-            first,
+            mut first,
             second,
             ..
         } = self;
-        let Some(second) = second else {
+        let Some(mut second) = second else {
             return Err(CliFault::from(Fault::NoSecond));
         };
-        let (mut first, mut second) = (first.into_places(), second.into_places());
         first.sort(alloc)?;
         first.lemma_of_bases();
         sort_beside(alloc, output, &mut second)?;
@@ -124,14 +128,13 @@ impl<A: Allocator + Copy> RunFiles<Places<A>, A> {
     {
         let RunFiles {
             genome,
-            first,
+            first: mut records,
             fasta,
             ..
         } = self;
         let Some(fasta) = fasta else {
             return Err(CliFault::from(Fault::NoFasta));
         };
-        let mut records = first.into_places();
         records.sort(alloc)?;
         put_each(shown, &records.records(), &fasta, &genome, sink)?;
         Ok(())
@@ -142,18 +145,21 @@ impl<A: Allocator + Copy> RunFiles<Places<A>, A> {
         ensures text { Prints (S.state sink.old) (S.state sink.new) result (records_text self.genome (ordered self.first.records)) }
         ensures alone { result ≡ Err CliFault.Memory → sink.new ≡ sink.old }
     {
-        let RunFiles { genome, first, .. } = self;
-        let mut lines = first.into_places();
+        let RunFiles {
+            genome,
+            first: mut lines,
+            ..
+        } = self;
         lines.sort(alloc)?;
         put_lines(&lines.records(), &genome, sink)?;
         Ok(())
     }
 }
 
-/// Puts the text of a view that needs the columns of records: cluster, or a merge of each strand or with summaries.
+/// Puts the text of a kept view: of `merge`, `cluster`, `complement` or `genomecov`.
 ///
-/// All memory is allocated before the first byte is put: room for a value of each record if a merge asks for `distinct`. Else it
-/// takes none.
+/// All memory is allocated before the first byte is put: room for a value of each record if a merge asks for `distinct`, and for a stop
+/// of each for `genomecov`. Else it takes none.
 fn sweep<'t, A: Allocator + Copy, S: Sink>(
     alloc: A,
     view: KeptView,
@@ -161,20 +167,39 @@ fn sweep<'t, A: Allocator + Copy, S: Sink>(
     genome: &'t Genome<A>,
     sink: &mut S,
 ) -> Result<(), CliFault>
-    requires columns { NeedsColumns view }
     requires order { AreInOrder records }
     requires on_genome { All (IsOnGenome genome.now) records }
     ensures text { Prints (S.state sink.old) (S.state sink.new) result (kept_text None view genome.now records.entry) }
     ensures alone { result ≡ Err CliFault.Memory → sink.new ≡ sink.old }
 {
     match view {
-        KeptView::Merge(options) => {
-            MergeSweep::new(alloc, options, records)?.print(genome, sink)?;
-        }
+        KeptView::Merge(options) => sweep_blocks(alloc, options, records, genome, sink)?,
         KeptView::Cluster(distance) => put_cluster(distance, &records, genome, sink)?,
-        KeptView::Complement { .. } | KeptView::Genomecov(_) => unreachable!(),
+        KeptView::Complement { limited } => put_complement(limited, &records, genome, sink)?,
+        KeptView::Genomecov(shown) => {
+            DepthSweep::new(alloc, records)?.print(shown, genome, sink)?;
+        }
     }
     Ok(())
+}
+
+/// Puts the rows of a merge. Without summaries, and of both strands together, nothing is looked at except the intervals of records.
+fn sweep_blocks<'t, A: Allocator + Copy, S: Sink>(
+    alloc: A,
+    options: BlockOptions,
+    records: PlacedRecords<'t>,
+    genome: &'t Genome<A>,
+    sink: &mut S,
+) -> Result<(), CliFault>
+    requires order { AreInOrder records }
+    requires on_genome { All (IsOnGenome genome.now) records }
+    ensures text { Prints (S.state sink.old) (S.state sink.new) result (merge_text options genome.now records.entry) }
+    ensures alone { result ≡ Err CliFault.Memory → sink.new ≡ sink.old }
+{
+    if options.is_by_intervals() {
+        return Ok(put_merge(options.distance, &records, genome, sink)?);
+    }
+    Ok(MergeSweep::new(alloc, options, records)?.print(genome, sink)?)
 }
 
 /// Sorts the records of a second file in the order of a track, for one print of these rows. If the rows depend only on the
@@ -264,7 +289,7 @@ fn put_lines<A: Allocator + Copy, S: Sink>(
     Ok(())
 }
 
-/// Prints a view that needs the columns of records, of sound files: all of its text, and nothing else.
+/// Prints the view of a plan, of sound files of which enough columns are held: all of its text, and nothing else.
 ///
 /// # Errors
 ///
@@ -272,11 +297,11 @@ fn put_lines<A: Allocator + Copy, S: Sink>(
 pub fn shot_of_held<A: Allocator + Copy, S: Sink>(
     alloc: A,
     plan: &Plan<'_, A>,
-    files: RunFiles<Places<A>, A>,
+    files: RunFiles<A>,
     sink: &mut S,
 ) -> Result<(), CliFault>
-    requires columns { AskForColumns plan.now.view }
-    ensures { (wanted : Wanted) (sizes first : List ℕ) (second fasta_text : Option (List ℕ)) (limit : ℕ) → Reports (λ r. r) wanted (Ok files) (parsed plan.now.width sizes first second fasta_text limit)
+    ensures { (columns : HeldColumns) (wanted : Wanted) (sizes first : List ℕ) (second fasta_text : Option (List ℕ)) (limit : ℕ) → AreEnough columns plan.now.view
+        → Reports columns wanted (Ok files) (parsed plan.now.width sizes first second fasta_text limit)
         → AreWanted wanted files.first.records → Shows (S.state sink.old) (S.state sink.new) result (shown plan.now sizes first second fasta_text limit) }
 {
     let view = files.view(plan)?;
@@ -303,12 +328,6 @@ pub fn shot<A: Allocator + Copy, S: Sink>(
     ensures { Shows (S.state sink.old) (S.state sink.new) result
         (shown plan.now inputs.now.sizes.now inputs.now.first.now (option_copied inputs.now.other) (option_map (λ text. text.items) bases) limit) }
 {
-    if let Some(view) = IntervalsView::of_plan(plan) {
-        let files: RunFiles<Vec<Interval, A>, A> = RunFiles::of_inputs(
-            alloc, plan, inputs, bases, limit,
-        )?;
-        return files.print(view, sink);
-    }
-    let files: RunFiles<Places<A>, A> = RunFiles::of_inputs(alloc, plan, inputs, bases, limit)?;
+    let files = RunFiles::of_inputs(alloc, plan, inputs, bases, limit, columns_for(plan))?;
     shot_of_held(alloc, plan, files, sink)
 }

@@ -10,12 +10,12 @@ ghost use Rattle.iv_fasta.specs.FastaReading.{Wanted};
 
 use crate::fault::{CliFault, FileFault};
 use crate::held_fasta::{HeldFasta, read_fasta};
-use crate::input_files::{HeldRecords, ParsedFile, finish, parse_bed, read_pieces, wanted_for};
+use crate::input_files::{HeldRecords, finish, parse_bed, read_pieces, wanted_for};
 use iv_args::{Plan, Slot};
 use iv_bytes::Source;
 use iv_fasta::Fasta;
-use iv_lines::{Genome, HoldsRecords, LoadFault};
-use iv_places::Places;
+use iv_lines::{Genome, LoadFault};
+use iv_places::{HeldColumns, Places};
 use iv_text::BedReader;
 use std::alloc::{Allocator, Global};
 use std::marker::Model;
@@ -42,8 +42,8 @@ pub(crate) fn in_slot<T: Drop>(slot: Slot, said: Result<T, LoadFault>) -> Result
     }
 }
 
-/// The genome of a run, or the fault of its file, and what the BED files on it may be. After a damaged genome file they are checked
-/// against an empty genome.
+/// The genome of a run, or the fault of its file, what the BED files on it may be, and which of their columns are held. After a damaged
+/// genome file they are checked against an empty genome.
 #[derive(Drop)]
 pub struct RunGenome<A: Allocator + Copy = Global> {
     alloc: A,
@@ -51,6 +51,7 @@ pub struct RunGenome<A: Allocator + Copy = Global> {
     damage: Option<CliFault>,
     empty_width: u8,
     limit: u32,
+    columns: HeldColumns,
 }
 
 impl<A: Allocator + Copy> Model for RunGenome<A> {
@@ -59,18 +60,25 @@ impl<A: Allocator + Copy> Model for RunGenome<A> {
 
     ghost Value = { GenomeRead };
 
-    ghost view = { λ run_genome. record { genome = run_genome.genome; damage = run_genome.damage; width = run_genome.empty_width; limit = run_genome.limit } };
+    ghost view = { λ run_genome. record { genome = run_genome.genome; damage = run_genome.damage; width = run_genome.empty_width; limit = run_genome.limit; columns = run_genome.columns } };
 
     ghost invariant = { λ run_genome. IsWidth run_genome.empty_width };
 }
 
 impl<A: Allocator + Copy> RunGenome<A> {
     /// Begins with the bytes of a genome file. A BED file of the run without a record has the width that the plan gives, and each may
-    /// have at most `limit` records.
-    pub fn begin(alloc: A, plan: &Plan<'_, A>, sizes: &[u8], limit: u32) -> Self
+    /// have at most `limit` records, of which these columns are held.
+    pub fn begin(
+        alloc: A,
+        plan: &Plan<'_, A>,
+        sizes: &[u8],
+        limit: u32,
+        columns: HeldColumns,
+    ) -> Self
         ensures says { IsGenomeOf sizes.now result }
         ensures width { result.width ≡ plan.now.width }
         ensures limit { result.limit ≡ limit }
+        ensures columns { result.columns ≡ columns }
     {
         let empty_width = plan.width();
         match in_slot(Slot::Sizes, Genome::parse(alloc, sizes)) {
@@ -80,6 +88,7 @@ impl<A: Allocator + Copy> RunGenome<A> {
                 damage: None,
                 empty_width,
                 limit,
+                columns,
             },
             Err(fault) => RunGenome {
                 alloc,
@@ -87,16 +96,24 @@ impl<A: Allocator + Copy> RunGenome<A> {
                 damage: Some(fault),
                 empty_width,
                 limit,
+                columns,
             },
         }
     }
 
     /// A BED file, given all its bytes.
-    fn parse<H: HoldsRecords<A>>(&self, text: &[u8]) -> HeldRecords<H, A>
-        ensures says { IsParsed H.projected self.now.genome self.now.width self.now.limit text.now result }
-        ensures is_on { IsOn H.projected self.now.genome self.now.limit result }
+    fn parse(&self, text: &[u8]) -> HeldRecords<A>
+        ensures says { IsParsed self.now.columns self.now.genome self.now.width self.now.limit text.now result }
+        ensures is_on { IsOn self.now.genome self.now.limit result }
     {
-        parse_bed(self.alloc, &self.genome, self.empty_width, self.limit, text)
+        parse_bed(
+            self.alloc,
+            &self.genome,
+            self.empty_width,
+            self.limit,
+            self.columns,
+            text,
+        )
     }
 
     /// The FASTA file of these bytes, if there are any, or its first fault.
@@ -114,19 +131,16 @@ impl<A: Allocator + Copy> RunGenome<A> {
     /// # Errors
     ///
     /// A fault of the source, or an allocation failed. That the file is damaged is no error here, but a part of what is held.
-    pub fn read<H: HoldsRecords<A>, R: Source>(
-        &self,
-        source: &mut R,
-        most: u64,
-    ) -> Result<HeldRecords<H, A>, FileFault>
+    pub fn read<R: Source>(&self, source: &mut R, most: u64) -> Result<HeldRecords<A>, FileFault>
         requires { most < 2 ^ 63 }
-        ensures ok { IfOk result (λ held. (text : List ℕ) × ReadsWhole (R.state source.old) (R.state source.new) most text × IsParsed H.projected self.now.genome self.now.width self.now.limit text held) }
-        ensures is_on { IfOk result (IsOn H.projected self.now.genome self.now.limit) }
+        ensures ok { IfOk result (λ held. (text : List ℕ) × ReadsWhole (R.state source.old) (R.state source.new) most text × IsParsed self.now.columns self.now.genome self.now.width self.now.limit text held) }
+        ensures is_on { IfOk result (IsOn self.now.genome self.now.limit) }
         ensures err { IfErr result (λ fault. StopsReading (R.state source.old) (R.state source.new) most fault) }
     {
-        let begun: Result<BedReader<H, A>, LoadFault> = Ok(BedReader::new(self.alloc));
-        let all = read_pieces(begun, &self.genome, self.limit, source, most)?;
-        Ok(finish(all, &self.genome, self.empty_width, self.limit))
+        let begun: Result<BedReader<A>, LoadFault> = Ok(BedReader::new(self.alloc));
+        let (limit, columns) = (self.limit, self.columns);
+        let all = read_pieces(begun, &self.genome, limit, columns, source, most)?;
+        Ok(finish(all, &self.genome, self.empty_width, limit, columns))
     }
 
     /// The FASTA file, read from a source to its end, at most `most` bytes: the bases that the rows of this first file ask for, or
@@ -137,7 +151,7 @@ impl<A: Allocator + Copy> RunGenome<A> {
     /// A fault of the source, or an allocation failed. That the file is damaged is no error here, but a part of what is held.
     pub fn read_fasta<R: Source>(
         &self,
-        first: Option<&HeldRecords<Places<A>, A>>,
+        first: Option<&HeldRecords<A>>,
         source: &mut R,
         most: u64,
     ) -> Result<HeldFasta<A>, FileFault>
@@ -165,41 +179,42 @@ impl<A: Allocator + Copy> RunGenome<A> {
 ///
 /// A file that can't be read is reported before a damaged one, so every file is read to its end first.
 #[derive(Drop)]
-pub struct RunFiles<H: HoldsRecords<A>, A: Allocator + Copy = Global> {
+pub struct RunFiles<A: Allocator + Copy = Global> {
     pub alloc: A,
     pub genome: Genome<A>,
-    pub first: ParsedFile<H, A>,
-    pub second: Option<ParsedFile<H, A>>,
+    pub first: Places<A>,
+    pub second: Option<Places<A>>,
     pub fasta: Option<Fasta<A>>,
     pub limit: u32,
 }
 
-impl<H: HoldsRecords<A>, A: Allocator + Copy> Model for RunFiles<H, A> {
+impl<A: Allocator + Copy> Model for RunFiles<A> {
     ghost use Rattle.std.specs.Prelude.{IfSome};
     ghost use Rattle.iv_run.specs.Loading.{Parsed};
-    ghost use Rattle.iv_run.specs.RunFiles.{AreProjected};
+    ghost use Rattle.iv_run.specs.RunFiles.{AreOn};
 
     ghost Value = { Parsed };
 
     ghost view = { λ f. record { genome = f.genome; first = f.first; second = f.second; bases = f.fasta; limit = f.limit } };
 
-    ghost invariant = { λ f. AreProjected H.projected f.genome f.limit f.first × IfSome f.second (AreProjected H.projected f.genome f.limit) };
+    ghost invariant = { λ f. AreOn f.genome f.limit f.first × IfSome f.second (AreOn f.genome f.limit) };
 }
 
-impl<H: HoldsRecords<A>, A: Allocator + Copy> RunFiles<H, A> {
-    /// The files of a run, given their bytes, or the fault of the first damaged one.
+impl<A: Allocator + Copy> RunFiles<A> {
+    /// The files of a run, given their bytes, or the fault of the first damaged one. These columns of BED files are held.
     pub fn of_inputs(
         alloc: A,
         plan: &Plan<'_, A>,
         inputs: &Inputs<'_>,
         fasta_text: Option<Vec<u8, A>>,
         limit: u32,
+        columns: HeldColumns,
     ) -> Result<Self, CliFault>
-        ensures says { Reports H.projected None result
+        ensures says { Reports columns None result
             (parsed plan.now.width inputs.now.sizes.now inputs.now.first.now (option_copied inputs.now.other) (option_map (λ text. text.items) fasta_text) limit) }
         ensures limit { IfOk result (λ files. files.limit ≡ limit) }
     {
-        let run_genome = RunGenome::begin(alloc, plan, inputs.sizes, limit);
+        let run_genome = RunGenome::begin(alloc, plan, inputs.sizes, limit, columns);
         let first = run_genome.parse(inputs.first);
         let second = match inputs.other {
             Some(second) => Some(run_genome.parse(second)),
@@ -211,16 +226,16 @@ impl<H: HoldsRecords<A>, A: Allocator + Copy> RunFiles<H, A> {
 }
 
 /// All files of a run, or the fault of the first damaged one, given what is held of each.
-pub fn sound_files<H: HoldsRecords<A>, A: Allocator + Copy>(
+pub fn sound_files<A: Allocator + Copy>(
     run_genome: RunGenome<A>,
-    first: HeldRecords<H, A>,
-    second: Option<HeldRecords<H, A>>,
+    first: HeldRecords<A>,
+    second: Option<HeldRecords<A>>,
     fasta: Option<HeldFasta<A>>,
-) -> Result<RunFiles<H, A>, CliFault>
-    requires first { IsOn H.projected run_genome.genome run_genome.limit first }
-    requires second { IfSome second (IsOn H.projected run_genome.genome run_genome.limit) }
-    ensures says { (wanted : Wanted) (sizes text : List ℕ) (other bases : Option (List ℕ)) → AreOf H.projected wanted sizes text other bases (record { run_genome = run_genome; first = first; second = second; fasta = fasta })
-        → Reports H.projected wanted result (parsed run_genome.width sizes text other bases run_genome.limit) }
+) -> Result<RunFiles<A>, CliFault>
+    requires first { IsOn run_genome.genome run_genome.limit first }
+    requires second { IfSome second (IsOn run_genome.genome run_genome.limit) }
+    ensures says { (wanted : Wanted) (sizes text : List ℕ) (other bases : Option (List ℕ)) → AreOf wanted sizes text other bases (record { run_genome = run_genome; first = first; second = second; fasta = fasta })
+        → Reports run_genome.columns wanted result (parsed run_genome.width sizes text other bases run_genome.limit) }
     ensures first { IfOk result (λ files. first ≡ Ok files.first) }
     ensures limit { IfOk result (λ files. files.limit ≡ run_genome.limit) }
 {

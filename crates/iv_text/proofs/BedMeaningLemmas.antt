@@ -12,6 +12,7 @@ use Rattle.iv_lines.specs.Read.{has_fault, faults, feature}
 use Rattle.iv_lines.specs.Chains.{unless_fault}
 use Rattle.iv_lines.specs.RecordValue.{RecordValue}
 use Rattle.iv_text.specs.BedFile.{is_skipped_line, is_width, Bed, Draft, after_record, bed_of}
+use Rattle.iv_places.specs.declared.held_columns.HeldColumns.TheVariants as held
 use Rattle.iv_text.specs.BedReading.{after_records, finished}
 use Rattle.iv_text.specs.Inside.BedFile.{width_at, with_row}
 use Rattle.iv_lines.specs.FileMeaning.{HaveNoCause, IsFirstFault}
@@ -136,7 +137,7 @@ pub bed-value : (g : Sequences) (empty limit : ℕ) (text : List ℕ) (b : Bed)
     → (bed_of g empty limit text ≡ Ok b) ↔ (HaveNoCause (record_cause g limit) (lines text) × (b ≡ bed_from g empty (lines text)))
 bed-value g empty limit text b = (forth (after_records g limit 1 (draft g []) (lines text)) refl, back)
   where
-    forth : (r : Result Draft LoadFault) → after_records g limit 1 (draft g []) (lines text) ≡ r → finished empty r ≡ Ok b → HaveNoCause (record_cause g limit) (lines text) × (b ≡ bed_from g empty (lines text))
+    forth : (r : Result Draft LoadFault) → after_records g limit 1 (draft g []) (lines text) ≡ r → finished held.All empty r ≡ Ok b → HaveNoCause (record_cause g limit) (lines text) × (b ≡ bed_from g empty (lines text))
     forth (Ok d) was is =
         let h = (run-value (record_cause g limit) (draft g) (λ n. after_record g limit) (bed-steps g limit) (lines text) d).0 was in
         (h.0, sym (same-ok (bed_at empty d) b is) ∙ ap (bed_at empty) h.1)
@@ -144,16 +145,16 @@ bed-value g empty limit text b = (forth (after_records g limit 1 (draft g []) (l
 
     back : HaveNoCause (record_cause g limit) (lines text) × (b ≡ bed_from g empty (lines text)) → bed_of g empty limit text ≡ Ok b
     back h =
-        ap (finished empty) ((run-value (record_cause g limit) (draft g) (λ n. after_record g limit) (bed-steps g limit) (lines text) (draft g (lines text))).1 (h.0, refl))
+        ap (finished held.All empty) ((run-value (record_cause g limit) (draft g) (λ n. after_record g limit) (bed-steps g limit) (lines text) (draft g (lines text))).1 (h.0, refl))
         ∙ ap Ok (sym h.1)
 
 -- a fault of a file is one of its lines
-unfinished : (empty : ℕ) (r : Result Draft LoadFault) (f : LoadFault) → finished empty r ≡ Err f → r ≡ Err f
+unfinished : (empty : ℕ) (r : Result Draft LoadFault) (f : LoadFault) → finished held.All empty r ≡ Err f → r ≡ Err f
 unfinished empty (Ok d) f is = absurd (ok-err (bed_at empty d) f is)
 unfinished empty (Err e) f is = ap Err (same-err {X = Bed} e f is)
 
 pub bed-fault : (g : Sequences) (empty limit : ℕ) (text : List ℕ) (f : LoadFault) → (bed_of g empty limit text ≡ Err f) ↔ IsFirstFault (record_cause g limit) (lines text) f
-bed-fault g empty limit text f = (λ is. both.0 (unfinished empty (after_records g limit 1 (draft g []) (lines text)) f is), λ w. ap (finished empty) (both.1 w))
+bed-fault g empty limit text f = (λ is. both.0 (unfinished empty (after_records g limit 1 (draft g []) (lines text)) f is), λ w. ap (finished held.All empty) (both.1 w))
   where
     both : (after_records g limit 1 (draft g []) (lines text) ≡ Err f) ↔ IsFirstFault (record_cause g limit) (lines text) f
     both = run-fault (record_cause g limit) (draft g) (λ n. after_record g limit) (bed-steps g limit) (lines text) f

@@ -19,7 +19,7 @@ use crate::track_entries::TrackEntries;
 use crate::track_hits::TrackHits;
 use crate::track_records::TrackRecords;
 use iv_ledger::{Ledger, Meter, Walk};
-use iv_lines::{Fault, HoldsRecords, Interval, Record, RecordRef};
+use iv_lines::{Fault, Interval, Record, RecordRef};
 use iv_places::{Place, Places, Rests};
 use std::alloc::{AllocError, Allocator, Global};
 use std::marker::Model;
@@ -402,7 +402,7 @@ impl<A: Allocator + Copy> Track<A> {
         if self.len == 0 {
             return Ok(Track::new(alloc, self.width, self.limit));
         }
-        let mut places: Places<A> = Places::empty(alloc);
+        let mut places = Places::empty(alloc);
         let mut records = self.walk(0, 0, meter);
         while let Some(record) = records.next(meter) {
             places.hold(&record)?;

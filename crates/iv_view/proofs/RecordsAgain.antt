@@ -15,7 +15,7 @@ use Rattle.std.proofs.lemmas.List.Splits.{join_with_byte-slice_split}
 use Rattle.std.proofs.lemmas.Option.{slice_get-map, slice_get-get_or}
 use Rattle.std.proofs.lemmas.Slice.Eq.{bytes_eq-Decides}
 use Rattle.iv_text.specs.BedFile.{is_skipped_line, is_headed, is_width, Bed, Draft, after_record, bed_of}
-use Rattle.iv_text.specs.BedReading.{after_records, finished}
+use Rattle.iv_text.specs.BedReading.{after_records}
 use Rattle.iv_text.specs.Inside.BedFile.{width_at, with_row}
 use Rattle.iv_lines.specs.Fields.{columns, fields}
 use Rattle.iv_lines.specs.Genome.{Sequences, length_at, sequence_name}
@@ -26,7 +26,7 @@ use Rattle.iv_lines.specs.Number.{number}
 use Rattle.iv_lines.specs.Inside.Number.{decimal_from}
 use Rattle.iv_lines.specs.Ordered.{ordered}
 use Rattle.iv_lines.specs.Read.{read, read_columns, feature, column, has_fault, faults, bad_text, number_in, length_of, Fits}
-use Rattle.iv_lines.specs.Chains.{unless_fault}
+use Rattle.iv_lines.specs.Chains.{if_ok, unless_fault}
 use Rattle.iv_lines.specs.Inside.Read.{is_line_byte}
 use Rattle.iv_lines.specs.RecordText.{record_text, strand_text}
 use Rattle.iv_lines.specs.RecordValue.{RecordValue, strand_of, record_cmp}
@@ -48,6 +48,10 @@ use Rattle.iv_lines.proofs.ReadLemmas.{count-sound, passed, read-parts}
 use Rattle.iv_view.specs.Inside.RowsAgain.{IsOfLine, IsBedRow}
 use Rattle.iv_pair.specs.IntersectRows.{record_line}
 use Rattle.iv_view.specs.Inside.Texts.{records_text}
+
+-- the file that is known after its lines, or its first fault
+abbrev finished : ℕ → Result Draft LoadFault → Result Bed LoadFault
+finished empty known = if_ok known (λ d. Ok (record { width = unwrap_or d.width empty; records = d.records }))
 
 -- ---- numbers in decimal
 

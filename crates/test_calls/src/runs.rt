@@ -8,7 +8,8 @@ use iv_args::{Plan, Slot};
 use iv_bytes::MemSink;
 use iv_cli::load;
 use iv_lines::{Fault, LoadCause, LoadFault, RecordFault};
-use iv_run::{CliFault, Inputs, IntervalsView, shot};
+use iv_run::{CliFault, Inputs, columns_for, shot};
+use iv_text::HeldColumns;
 use iv_workspace::Session;
 use std::test::Fail;
 use test_faults::copied;
@@ -81,10 +82,10 @@ fn subcommands_over_many_records(rt: HostRuntime) -> Result<(), Fail> {
     Ok(())
 }
 
-/// Whether the view of a run of these arguments is one of intervals, whose file is held in 12 bytes for each record.
+/// Whether a run of these arguments holds nothing of its records except their intervals.
 fn is_of_intervals(rt: &HostRuntime, words: &[u8]) -> Result<bool, Fail> {
     let plan = plan_of(rt, words)?;
-    Ok(IntervalsView::of_plan(&plan).is_some())
+    Ok(columns_for(&plan) == HeldColumns::Interval)
 }
 
 /// Whether each of these is one, or none.

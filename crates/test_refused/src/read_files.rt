@@ -5,6 +5,7 @@ use iv_args::{Plan, Slot};
 use iv_bytes::StdSource;
 use iv_cli::begin_session;
 use iv_run::{ExitReason, RunGenome, sound_files};
+use iv_text::HeldColumns;
 use std::alloc::Allocator;
 use std::test::Fail;
 use test_faults::{FAILURES, Manner, RefusesNth, Stream};
@@ -23,7 +24,7 @@ fn read_in<A: Allocator + Copy>(
     second: &mut Stream<'_>,
     most: u32,
 ) -> Result<u32, ExitReason> {
-    let run_genome = RunGenome::begin(alloc, plan, b"chr1\t100\n", 100);
+    let run_genome = RunGenome::begin(alloc, plan, b"chr1\t100\n", 100, HeldColumns::All);
     let first = match run_genome.read(&mut StdSource::new(first), u64::from(most)) {
         Ok(first) => first,
         Err(fault) => return Err(ExitReason::from((Slot::First, fault))),

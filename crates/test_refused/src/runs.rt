@@ -17,8 +17,8 @@ use test_faults::{Manner, Stream, copied, words_of};
 #[derive(Clone, Copy, PartialEq, Eq)]
 pub(crate) enum Begun {
     /// `run_program`, with all that it calls: `Plan::read`, `read_all`, `RunGenome::read`, `RunGenome::read_fasta`, `sound_files`,
-    /// `begin_session`, `RunFiles::print`, `shot_of_held`, `MergeSweep::new`, `DepthSweep::new`, `PairSweep::new`, `CountSweep::new`,
-    /// `Places::sort`, `Places::ranks`, `BedReader::take_piece`, `BedReader::finish`, `FastaReader::take_piece`,
+    /// `begin_session`, `shot_of_held`, `MergeSweep::new`, `DepthSweep::new`, `PairSweep::new`, `CountSweep::new`,
+    /// `Places::hold`, `Places::sort`, `Places::ranks`, `BedReader::take_piece`, `BedReader::finish`, `FastaReader::take_piece`,
     /// `FastaReader::finish`
     Program,
     /// `Plan::read` and `shot`, with `RunFiles::of_inputs`

@@ -17,7 +17,7 @@ use test_faults::{RefusesNth, refused, words_of};
 enum Call {
     /// `Genome::parse`
     Genome,
-    /// `BedFile::parse`, with a genome
+    /// `BedFile::parse`, with `PlacedRecords::to_records`, and a genome
     Bed,
     /// `Fasta::parse`, with a genome
     Fasta,
@@ -325,10 +325,10 @@ fn genomes(rt: HostRuntime) -> Result<(), Fail> {
     check_file(&rt, Call::Genome, file, damage, 40)
 }
 
-/// Records of three columns, and of six, of which the rest of each line takes an allocation.
+/// Records of three columns, and of six, for which room for the rests of lines grows too.
 #[test]
 fn bed_files(rt: HostRuntime) -> Result<(), Fail> {
-    for (back, count) in [("\t1000\n", 3), ("\t1000\tread\t0.5\t-\n", 40)] {
+    for (back, count) in [("\t1000\n", 3), ("\t1000\tread\t0.5\t-\n", 6)] {
         let text = lines(&rt, "big\t", COUNT, back)?;
         let file = (text.as_bytes(), text.as_bytes());
         let damage = (

@@ -1,15 +1,15 @@
 -- Starts and stops of records, as numbers in order, and the net changes of depth there. This is the state of a sweep and of a build,
 -- as seen by their proofs.
 use Rattle.std.specs.Prelude.{◌≡◌, ◌≢◌, ℕ, ◌+◌, ◌<◌, ◌≤◌, ◌^◌, nat_le, Bool, List, [], ◌∷◌, Option, Some, None, length, map, count_by, if◌then◌else◌, ℤ, pos, ◌+ℤ◌, ◌-ℤ◌}
-use Rattle.iv_lines.specs.declared.interval.Interval.{Interval}
+use Rattle.iv_places.specs.declared.place.Place.{Place}
 
--- where the intervals start
-abbrev pub starts_of : List Interval → List ℕ
-starts_of intervals = map (λ (interval : Interval). interval.start) intervals
+-- where the places start
+abbrev pub starts_of : List Place → List ℕ
+starts_of places = map (λ (place : Place). place.interval.start) places
 
 -- where they stop
-abbrev pub stops_of : List Interval → List ℕ
-stops_of intervals = map (λ (interval : Interval). interval.stop) intervals
+abbrev pub stops_of : List Place → List ℕ
+stops_of places = map (λ (place : Place). place.interval.stop) places
 
 -- how many of the numbers are p or less
 abbrev pub up_to : ℕ → List ℕ → ℕ
@@ -26,8 +26,8 @@ abbrev pub BeginsElse : ℕ → List ℕ → Type 0
 BeginsElse p [] = Unit {0}
 BeginsElse p (n ∷ ns) = n ≢ p
 
--- these are the stops of the intervals, from the least to the greatest
-pub record AreStopsOf (places : List Interval) (stops : List ℕ) : Type 0 where
+-- these are the stops of the places, from the least to the greatest
+pub record AreStopsOf (places : List Place) (stops : List ℕ) : Type 0 where
   pub rise : Rise 0 stops
   pub sums : (p : ℕ) → up_to p stops ≡ up_to p (stops_of places)
 

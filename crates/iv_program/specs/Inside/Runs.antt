@@ -1,7 +1,7 @@
 -- What is known of the files of a plan, what their texts mean, and what a run of it does.
-use Rattle.std.specs.Prelude.{◌≡◌, ◌⊎◌, ℕ, Bool, true, false, List, [], Option, None, Result, Ok, Err, MatchResult}
+use Rattle.std.specs.Prelude.{◌≡◌, ◌⊎◌, ℕ, Bool, true, false, List, [], Option, None, Result, Ok, Err, MatchResult, IfOk}
 use Rattle.iv_bytes.specs.Sinks.{SinkState, Takes, FailsIn, waiting}
-use Rattle.iv_lines.specs.RecordValue.{RecordValue}
+use Rattle.iv_places.specs.declared.held_columns.HeldColumns.{HeldColumns}
 use Rattle.iv_fasta.specs.FastaReading.{Wanted}
 use Rattle.iv_session.specs.Streams.{Streams}
 use Rattle.iv_session.specs.declared.script.RunFault.{RunFault}
@@ -12,7 +12,8 @@ use Rattle.iv_args.specs.declared.plan.Slot.TheVariants.{Bases}
 use Rattle.iv_args.specs.declared.subcommand.Subcommand.TheVariants as kind
 use Rattle.iv_run.specs.Shots.{Shows, shown}
 use Rattle.iv_run.specs.Loading.{Parsed, parsed}
-use Rattle.iv_run.specs.RunFiles.{AreOf, FilesRead, Reports}
+use Rattle.iv_run.specs.Columns.{AreEnough}
+use Rattle.iv_run.specs.RunFiles.{AreOf, AreWanted, FilesRead, Reports}
 use Rattle.iv_run.specs.declared.fault.CliFault.{CliFault}
 use Rattle.iv_run.specs.declared.fault.FileFault.{FileFault}
 use Rattle.iv_run.specs.ExitReasons.{ending_after, ending_of, ending_of_file, is_through, line_of}
@@ -23,14 +24,22 @@ use Rattle.iv_program.specs.Inside.Files.{AreRead, StopsAt, names_of}
 use Rattle.iv_program.specs.Runs.{World, DoesWith, HasRead, HasNotRead}
 use Rattle.iv_program.specs.Texts.{Texts, AreTexts, IsTextIfNamed, names_before}
 
--- the files of a plan, once they are read, are those of these texts, with the records of BED files projected, and with the bases of the
--- wanted sequences; or this is the fault of the first damaged one
-abbrev pub HasTexts : (RecordValue → RecordValue) → Wanted → RunPlan → Texts → Result Parsed CliFault → Type 0
-HasTexts projected wanted plan texts files = Reports projected wanted files (parsed plan.width texts.sizes texts.first texts.other texts.bases plan.limit)
+-- the files of a plan, once they are read, are those of these texts, with only the columns of BED files that are held, and with the bases
+-- of the wanted sequences; or this is the fault of the first damaged one
+abbrev pub HasTexts : HeldColumns → Wanted → RunPlan → Texts → Result Parsed CliFault → Type 0
+HasTexts which wanted plan texts files = Reports which wanted files (parsed plan.width texts.sizes texts.first texts.other texts.bases plan.limit)
+
+-- so it is, and the columns and the bases are enough for the rows of the plan
+pub record HasEnough (plan : RunPlan) (texts : Texts) (files : Result Parsed CliFault) : Type 0 where
+  pub which : HeldColumns
+  pub wanted : Wanted
+  pub has : HasTexts which wanted plan texts files
+  pub columns : AreEnough which plan.view
+  pub bases : IfOk files (λ f. AreWanted wanted f.first.records)
 
 -- the genome file and the BED files of a plan were read, in the order of their slots, and these are their texts, with the records of BED
--- files projected
-pub record HasBeds (projected : RecordValue → RecordValue) (plan : RunPlan) (old new : FilesState) (files : FilesRead) : Type 0 where
+-- files which
+pub record HasBeds (which : HeldColumns) (plan : RunPlan) (old new : FilesState) (files : FilesRead) : Type 0 where
   pub sizes : List ℕ
   pub first : List ℕ
   pub other : Option (List ℕ)
@@ -40,7 +49,8 @@ pub record HasBeds (projected : RecordValue → RecordValue) (plan : RunPlan) (o
   pub read : AreRead (names_before plan Bases) old new
   pub width_is : files.run_genome.width ≡ plan.width
   pub limit_is : files.run_genome.limit ≡ plan.limit
-  pub are : AreOf projected None sizes first other None files
+  pub columns_is : files.run_genome.columns ≡ which
+  pub are : AreOf None sizes first other None files
 
 -- the view of a plan was printed for its texts, or its first fault is reported
 abbrev pub PrintsView : RunPlan → Texts → SinkState → SinkState → ExitReason → Type 0

@@ -1,28 +1,14 @@
-use Rattle.std.proofs.Common.{◌≡◌, ◌∙◌, ap, sym, subst, arith, List, length, None}
-use Rattle.std.specs.Prelude.{All, filter}
+use Rattle.std.proofs.Common.{ap, arith, List, length}
 use Rattle.iv_bytes.proofs.PutLemmas.{Underway-begin, Underway-more, Underway-fails, Underway-ends, Puts-err}
-use Rattle.iv_lines.specs.Ordered.{AreInOrder}
-use Rattle.iv_lines.specs.Read.{IsOnGenome}
-use Rattle.iv_lines.specs.RecordValue.{RecordValue}
-use Rattle.iv_cover.specs.Inside.RemainingBlocks.{remaining_blocks}
-use Rattle.iv_cover.specs.Inside.TrackBlocks.{BlockWithMembers, blocks_of}
-use Rattle.iv_blocks.specs.Inside.Groups.{is_on}
-use Rattle.iv_blocks.specs.declared.group.Side.TheVariants.{Both}
-use Rattle.iv_blocks.proofs.ClusterTexts.{cluster-rows, on-both, remaining-few}
+use Rattle.iv_cover.specs.Inside.TrackBlocks.{BlockWithMembers}
+use Rattle.iv_blocks.proofs.ClusterTexts.{cluster-rows, remaining-few}
 use Rattle.iv_blocks.proofs.sweeps.put_cluster.Goals as goal
 
 pub loop-members-init : goal.loop-members-init
-loop-members-init g c =
-    let d = c.args.distance in
-    let s = c.args.genome.now in
-    let all = c.of.ensures ∙ ap (filter (is_on Both)) c.again.ensures ∙ on-both c.args.records.now in
-    let given : c.of-blocks.result ≡ blocks_of d s c.args.records.now =
-    c.of-blocks.ensures.blocks (subst AreInOrder (sym all) c.requires.order) s (subst (λ (l : List RecordValue). All (IsOnGenome s) l) (sym all) c.requires.on_genome) ∙ ap (blocks_of d s) all in
-    let remaining = c.of-blocks.ensures.left ∙ ap (remaining_blocks d None) all in
-    record {
-      put = rw given (Underway-begin _ _);
-      few = omega (arith, ap (λ (l : List BlockWithMembers). length l) remaining, remaining-few d c.args.records.now);
-    }
+loop-members-init g c = record {
+  put = rw ((rw c.again.ensures at c.of-blocks.ensures.blocks) c.requires.order c.args.genome.now c.requires.on_genome) (Underway-begin _ _);
+  few = omega (arith, ap (λ (l : List BlockWithMembers). length l) (rw c.again.ensures at c.of-blocks.ensures.left), remaining-few c.args.distance c.args.records.now);
+}
 
 pub overflow_add-number : goal.overflow_add-number
 overflow_add-number g c = omega (arith, c.loop-members.invariant.few, ap (λ (l : List BlockWithMembers). length l) c.in-Some.ensures, c.len-few.ensures)

@@ -7,6 +7,6 @@ use Rattle.iv_depth.proofs.depth_sweep.write_stops.Goals as goal
 pub returns-clause-stops : goal.returns-clause-stops
 returns-clause-stops c =
     let i = c.loop-index.invariant in
-    let same : c.loop-index.stops ≡ stops_of c.args.intervals.now = written-all c.loop-index.index c.args.intervals.now c.loop-index.stops i.written i.len (omega (arith, c.loop-index-test.false)) in
+    let same : c.loop-index.stops ≡ stops_of c.args.places.now = written-all c.loop-index.index c.args.places.now c.loop-index.stops i.written i.len (omega (arith, c.loop-index-test.false)) in
     let moved = IsPermutation-trans _ _ _ (rw same at c.order_neighbors.ensures.permutation) c.sort_unstable.ensures.permutation in
-    AreStopsOf-sorted c.args.intervals.now c.sort_unstable.new.self moved c.sort_unstable.ensures.sorted
+    AreStopsOf-sorted c.args.places.now c.sort_unstable.new.self moved c.sort_unstable.ensures.sorted

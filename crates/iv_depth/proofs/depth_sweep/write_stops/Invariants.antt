@@ -5,6 +5,6 @@ use Rattle.iv_depth.proofs.depth_sweep.write_stops.Given as goal
 -- the stops before `index` are written
 abbrev pub invariant-loop-index : goal.invariant-loop-index
 invariant-loop-index l = record {
-  written : take l.index l.stops ≡ take l.index (stops_of l.intervals);
-  len : length l.stops ≡ length l.intervals;
+  written : take l.index l.stops ≡ take l.index (stops_of l.places);
+  len : length l.stops ≡ length l.places;
 }

@@ -34,7 +34,7 @@ returns-clause-ok g c =
     let first = rw (c.in_ok-first.ensures.ok, c.first_file.ensures) at c.read_held.ensures.ok in
     let second = c.in_ok-second.ensures.ok in
     let run_genome = c.begin-run_genome in
-    has-beds c.args.plan.now sizes first.1 second.1 g.H.HoldsRecords.projected _ run_genome.ensures.width (run_genome.ensures.limit ∙ c.limit.ensures.value)
+    has-beds c.args.plan.now sizes first.1 second.1 c.args.columns _ run_genome.ensures.width (run_genome.ensures.limit ∙ c.limit.ensures.value) run_genome.ensures.columns
     (subst (λ (l : List ℕ). IsGenomeOf l run_genome.result) c.as_slice.ensures.value run_genome.ensures.says, first.2, second.2, refl)
 
 pub returns-clause-is_on : goal.returns-clause-is_on

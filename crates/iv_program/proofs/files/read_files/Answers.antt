@@ -1,5 +1,6 @@
 use Rattle.iv_lines.proofs.PieceLemmas.{handed-on}
 use Rattle.iv_args.specs.declared.plan.Slot.TheVariants.{Bases}
+use Rattle.iv_places.specs.declared.held_columns.HeldColumns.TheVariants as held
 use Rattle.iv_program.proofs.RunLemmas.{all-read, all-texts, has-texts, plan-texts, stops-at}
 use Rattle.iv_program.proofs.files.read_files.Goals as goal
 
@@ -11,14 +12,13 @@ returns-in_err-fasta-clause-err g c =
 
 pub returns-clause-ok : goal.returns-clause-ok
 returns-clause-ok g c =
-    let projected = g.H.HoldsRecords.projected in
     let plan = c.args.plan.now in
     let beds = c.in_ok-run_genome.ensures.ok in
     let fasta = c.in_ok-fasta.ensures.ok in
-    (plan-texts projected plan beds fasta.3, all-texts projected plan beds fasta.3, rw fasta.2 at (has-texts projected plan beds fasta.3 fasta.0 _ c.sound_files.result fasta.4 c.sound_files.ensures.says))
+    (plan-texts held.All plan beds fasta.3, all-texts held.All plan beds fasta.3, rw fasta.2 at (has-texts held.All plan beds fasta.3 fasta.0 _ c.sound_files.result fasta.4 c.sound_files.ensures.says))
 
 pub returns-clause-limit : goal.returns-clause-limit
 returns-clause-limit g c = rw c.in_ok-run_genome.ensures.ok.limit_is at c.sound_files.ensures.limit
 
 pub returns-clause-after : goal.returns-clause-after
-returns-clause-after g c = all-read g.H.HoldsRecords.projected c.args.plan.now c.in_ok-run_genome.ensures.ok c.in_ok-fasta.ensures.ok.3
+returns-clause-after g c = all-read held.All c.args.plan.now c.in_ok-run_genome.ensures.ok c.in_ok-fasta.ensures.ok.3

@@ -12,16 +12,21 @@ returns-in_err-fasta-clause-err g c =
 
 pub returns-clause-ok : goal.returns-clause-ok
 returns-clause-ok g c =
+    let which = c.columns_for.result in
     let plan = c.args.plan.now in
     let beds = c.in_ok-run_genome.ensures.ok in
     let fasta = c.in_ok-fasta.ensures.ok in
     let said = c.sound_files.result in (
-      plan-texts (λ r. r) plan beds fasta.3,
-      fasta.0,
-      all-texts (λ r. r) plan beds fasta.3,
-      has-texts (λ r. r) plan beds fasta.3 fasta.0 _ said fasta.4 c.sound_files.ensures.says,
-      files-wanted fasta.0 _ said c.sound_files.ensures.first fasta.2,
+      plan-texts which plan beds fasta.3,
+      all-texts which plan beds fasta.3,
+      record {
+        which = which;
+        wanted = fasta.0;
+        has = has-texts which plan beds fasta.3 fasta.0 _ said fasta.4 c.sound_files.ensures.says;
+        columns = c.columns_for.ensures;
+        bases = files-wanted fasta.0 _ said c.sound_files.ensures.first fasta.2;
+      },
     )
 
 pub returns-clause-after : goal.returns-clause-after
-returns-clause-after g c = all-read (λ r. r) c.args.plan.now c.in_ok-run_genome.ensures.ok c.in_ok-fasta.ensures.ok.3
+returns-clause-after g c = all-read c.columns_for.result c.args.plan.now c.in_ok-run_genome.ensures.ok c.in_ok-fasta.ensures.ok.3

@@ -6,7 +6,7 @@ use Rattle.iv_run.proofs.input_files.read_pieces.Given as goal
 abbrev pub invariant-pieces : goal.invariant-pieces
 invariant-pieces g l =
     (front : List ℕ) × HasGiven (g.R.Source.state l.fn.source) (g.R.Source.state l.source) front × (l.count ≡ length front) × (l.count ≤ l.most)
-    × ((wanted : Wanted) → g.P.TakesPieces.has_taken wanted l.genome l.limit [] l.fn.begun → g.P.TakesPieces.has_taken wanted l.genome l.limit front l.reading)
+    × ((wanted : Wanted) → g.P.TakesPieces.has_taken wanted l.genome l.limit l.columns [] l.fn.begun → g.P.TakesPieces.has_taken wanted l.genome l.limit l.columns front l.reading)
 
 abbrev pub decreases-pieces : goal.decreases-pieces
 decreases-pieces g l = l.most - l.count

@@ -5,9 +5,6 @@ use Rattle.iv_run.proofs.ShotLemmas.{shows-damage}
 use Rattle.iv_run.proofs.WantedLemmas.{any-wanted}
 use Rattle.iv_run.proofs.one_shot.shot.Goals as goal
 
-pub shot_of_held-requires : goal.shot_of_held-requires
-shot_of_held-requires g c = record { columns = c.of_plan.ensures.none c.in_default.is }
-
 pub returns-in_err-files : goal.returns-in_err-files
 returns-in_err-files g c =
     let plan = c.args.plan.now in
@@ -15,15 +12,9 @@ returns-in_err-files g c =
     let p = err_from_is_err_and c.from_residual.result c.from_residual.ensures.1 in
     rw (p.1, p.2) (shows-damage plan.width inputs.sizes.now inputs.first.now (option_copied inputs.other) (option_map (λ text. text.items) c.args.bases) c.args.limit plan.view _ _ c.in_err-files.ensures.says)
 
-pub returns-in_err-files-2 : goal.returns-in_err-files-2
-returns-in_err-files-2 g c =
-    let plan = c.args.plan.now in
-    let inputs = c.args.inputs.now in
-    let p = err_from_is_err_and c.from_residual-in_err-files-2.result c.from_residual-in_err-files-2.ensures.1 in
-    rw (p.1, p.2) (shows-damage plan.width inputs.sizes.now inputs.first.now (option_copied inputs.other) (option_map (λ text. text.items) c.args.bases) c.args.limit plan.view _ _ c.in_err-files-2.ensures.says)
-
 pub returns : goal.returns
 returns g c =
     let inputs = c.args.inputs.now in
-    let files = c.in_ok-files-2 in
-    c.shot_of_held.ensures None inputs.sizes.now inputs.first.now (option_copied inputs.other) (option_map (λ text. text.items) c.args.bases) c.args.limit files.ensures.says (any-wanted files.files.first.records)
+    let files = c.in_ok-files in
+    c.shot_of_held.ensures c.columns_for.result None inputs.sizes.now inputs.first.now (option_copied inputs.other) (option_map (λ text. text.items) c.args.bases) c.args.limit c.columns_for.ensures files.ensures.says
+    (any-wanted files.files.first.records)

@@ -1,16 +1,16 @@
 use Rattle.std.proofs.Common.{sym}
 use Rattle.std.proofs.lemmas.Result.{err_from_is_err_and}
-use Rattle.iv_run.proofs.WantedLemmas.{wanted-fault, wanted-text}
+use Rattle.iv_run.proofs.WantedLemmas.{held-fault, held-text}
 use Rattle.iv_run.proofs.one_shot.shot_of_held.Goals as goal
 
 pub print-requires : goal.print-requires
-print-requires g c = (c.args.plan.now.view, c.requires.columns, sym c.in_ok-view.ensures)
+print-requires g c = (c.args.plan.now.view, sym c.in_ok-view.ensures)
 
 pub returns-in_err-view : goal.returns-in_err-view
-returns-in_err-view g c = λ wanted sizes first second fasta_text limit reports are.
+returns-in_err-view g c = λ columns wanted sizes first second fasta_text limit enough reports are.
     let p = err_from_is_err_and c.from_residual.result c.from_residual.ensures.1 in
-    rw (p.1, p.2) (wanted-fault _ wanted c.args.files reports are c.args.plan.now.view _ (sym c.in_err-view.ensures) _)
+    rw (p.1, p.2) (held-fault _ wanted c.args.files c.args.plan.now.view columns enough reports are _ (sym c.in_err-view.ensures) _)
 
 pub returns : goal.returns
-returns g c = λ wanted sizes first second fasta_text limit reports are.
-    wanted-text _ wanted c.args.files reports are c.args.plan.now.view c.in_ok-view.view (sym c.in_ok-view.ensures) _ _ c.print.result c.print.ensures
+returns g c = λ columns wanted sizes first second fasta_text limit enough reports are.
+    held-text _ wanted c.args.files c.args.plan.now.view columns enough reports are c.in_ok-view.view (sym c.in_ok-view.ensures) _ _ c.print.result c.print.ensures

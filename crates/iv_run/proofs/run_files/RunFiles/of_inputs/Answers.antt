@@ -7,7 +7,7 @@ pub returns-clause-says : goal.returns-clause-says
 returns-clause-says g c =
     let inputs = c.args.inputs.now in
     let run_genome = c.begin-run_genome.ensures in
-    rw (run_genome.width, run_genome.limit) at (c.sound_files.ensures.says None inputs.sizes.now inputs.first.now (option_copied inputs.other) (option_map (λ text. text.items) c.args.fasta_text) (
+    rw (run_genome.width, run_genome.limit, run_genome.columns) at (c.sound_files.ensures.says None inputs.sizes.now inputs.first.now (option_copied inputs.other) (option_map (λ text. text.items) c.args.fasta_text) (
       run_genome.says,
       c.parse-first.ensures.says,
       elim c.match-inputs.branch [

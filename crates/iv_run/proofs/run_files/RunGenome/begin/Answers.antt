@@ -10,5 +10,5 @@ pub returns-in-Err-clause-says : goal.returns-in-Err-clause-says
 returns-in-Err-clause-says g c =
     let why = c.in-Err.ensures.err in
     let read : IsWhy why.0 (genome_of c.args.sizes.now) = subst (λ (r : Result Sequences LoadFault). IfErr r (λ f. IsWhy f (genome_of c.args.sizes.now))) why.1 c.parse.ensures.err in
-    let run_genome : GenomeRead = record { genome = c.empty.result; damage = Some c.in-Err.fault; width = c.width-empty_width.result; limit = c.args.limit } in
+    let run_genome : GenomeRead = record { genome = c.empty.result; damage = Some c.in-Err.fault; width = c.width-empty_width.result; limit = c.args.limit; columns = c.args.columns } in
     says-no_sizes c.args.sizes.now run_genome c.in-Err.fault refl (why.0, why.2, read)

@@ -6,8 +6,8 @@ use Rattle.iv_text.proofs.bed_lines.BedLines.take_lines.Given as goal
 abbrev pub invariant-lines : goal.invariant-lines
 invariant-lines g l = record {
   same : l.reader ≡ l.fn.genome;
-  sound : AreSoundLines g.H.HoldsRecords.projected l.fn.genome l.limit l.self;
-  rest : TakesUpTo g.H.HoldsRecords.projected l.fn.genome l.limit l.fn.self l.self l.fn.text l.left;
+  sound : AreSoundLines l.columns l.fn.genome l.limit l.self;
+  rest : TakesUpTo l.columns l.fn.genome l.limit l.fn.self l.self l.fn.text l.left;
   number : l.self.number + length l.left ≤ l.fn.self.number + length l.fn.text;
 }
 

@@ -7,7 +7,6 @@ use Rattle.iv_text.proofs.bed_reader.BedReader.take_piece.Goals as goal
 
 pub returns-in_err-take_lines-clause-err : goal.returns-in_err-take_lines-clause-err
 returns-in_err-take_lines-clause-err g c =
-    let h = g.H.HoldsRecords in
     let genome = c.args.genome.now in
     let limit = c.args.limit in
     let piece = c.args.piece.now in
@@ -19,13 +18,12 @@ returns-in_err-take_lines-clause-err g c =
     (elim c.in_err-take_lines.ensures.err [
       | inl memory ↦ inl memory
       | inr refused ↦ inr (λ more.
-          piece-lines h.projected genome limit c.args.self.now c.end_line.new.self _ piece all _ back taken is c.in_ok-taken.ensures.ok c.in_ok-taken.ensures.tail c.in_ok-taken.ensures.ended c.self-2.view_is (rest-whole all taken) more
+          piece-lines c.args.columns genome limit c.args.self.now c.end_line.new.self _ piece all _ back taken is c.in_ok-taken.ensures.ok c.in_ok-taken.ensures.tail c.in_ok-taken.ensures.ended c.self-2.view_is (rest-whole all taken) more
           ∙ refused (lines (back ++ more)))
     ])
 
 pub returns-clause-ok : goal.returns-clause-ok
 returns-clause-ok g c = λ more.
-    let h = g.H.HoldsRecords in
     let genome = c.args.genome.now in
     let limit = c.args.limit in
     let piece = c.args.piece.now in
@@ -35,6 +33,6 @@ returns-clause-ok g c = λ more.
     let is : piece ≡ all ++ back = sym ((λ i. c.split_at.ensures.front i ++ c.split_at.ensures.back i) ∙ take-append-drop c.last_end-end.result piece) in
     let none : c.self-2.inside.tail.items ≡ [] = ap (λ (r : Reading). r.tail) c.self-2.view_is ∙ c.in_ok-taken.ensures.tail in
     let tail : c.keep-2.new.tail.items ≡ back = c.in_ok-keep-2.ensures.ok ∙ ap (λ (t : List ℕ). t ++ back) none in
-    piece-lines h.projected genome limit c.args.self.now c.end_line.new.self _ piece all _ back taken is c.in_ok-taken.ensures.ok c.in_ok-taken.ensures.tail c.in_ok-taken.ensures.ended c.self-2.view_is (rest-whole all taken) more
+    piece-lines c.args.columns genome limit c.args.self.now c.end_line.new.self _ piece all _ back taken is c.in_ok-taken.ensures.ok c.in_ok-taken.ensures.tail c.in_ok-taken.ensures.ended c.self-2.view_is (rest-whole all taken) more
     ∙ c.in_ok-take_lines.ensures.ok (lines (back ++ more))
-    ∙ sym (ap (λ (t : List ℕ). after h.projected genome limit c.take_lines.new.self (lines (t ++ more))) tail)
+    ∙ sym (ap (λ (t : List ℕ). after c.args.columns genome limit c.take_lines.new.self (lines (t ++ more))) tail)

@@ -1,6 +1,7 @@
 use Rattle.std.proofs.Common.{◌≡◌, ◌∙◌, ◌<◌, ◌++◌, List, append-nil, length, sym, ap, subst, arith}
 use Rattle.std.specs.List.{AllByRecursion}
 use Rattle.std.proofs.lemmas.Result.{IfOk-weaker}
+use Rattle.iv_lines.specs.Bed.{Bed}
 use Rattle.iv_lines.specs.Ordered.{ordered}
 use Rattle.iv_lines.specs.RecordValue.{RecordValue}
 use Rattle.iv_track.specs.Tracked.{Tracked}
@@ -17,7 +18,7 @@ returns-then-self-eq0 g c =
     ∙ c.self.view_is
 
 pub loop-record-init : goal.loop-record-init
-loop-record-init g c = ap (λ (held : List RecordValue). held ++ c.walk-records.result) c.empty-places.ensures ∙ c.walk-records.ensures.records ∙ filter-from_first c.args.self.now.records
+loop-record-init g c = ap (λ (held : Bed). held.records ++ c.walk-records.result) c.empty-places.ensures ∙ c.walk-records.ensures.records ∙ filter-from_first c.args.self.now.records
 
 pub hold-requires : goal.hold-requires
 hold-requires g c =
