@@ -3,7 +3,6 @@ pub mod Fields
 pub mod GenomeFile
 pub mod Number
 pub mod RecordValue
-pub mod Intervals
 pub mod RecordText
 pub mod Ordered
 pub mod Read
