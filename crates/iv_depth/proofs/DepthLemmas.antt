@@ -66,7 +66,7 @@ AreChangesOf-in_front records r entries h = AreChangesOf-same (added records r) 
 -- ---- the depth of records on a genome
 
 -- past the stops there is no depth
-depth-past : (records : List RecordValue) (seq to p : ℕ) → All (λ r. r.seq ≡ seq → r.stop ≤ to) records → to ≤ p → depth records seq p ≡ 0
+pub depth-past : (records : List RecordValue) (seq to p : ℕ) → All (λ r. r.seq ≡ seq → r.stop ≤ to) records → to ≤ p → depth records seq p ≡ 0
 depth-past [] seq to p fit past = refl
 depth-past (r ∷ records) seq to p fit past =
     let rest : depth records seq p ≡ 0 = depth-past records seq to p (All-tail (λ (r : RecordValue). r.seq ≡ seq → r.stop ≤ to) r records fit) past in

@@ -1,11 +1,9 @@
 -- Numbers in order, the net changes at them, and the depth that these give.
-use Rattle.std.proofs.Common.{◌≡◌, ◌≢◌, ℕ, ◌+◌, ◌<◌, ◌≤◌, ◌^◌, ◌⊎◌, inl, inr, List, [], ◌∷◌, ◌==◌, All, length, filter, map, refl, sym, ap, ap₂, ◌∙◌, subst, arith, Bool, true, false, cond, if◌then◌else◌, count_by, nat_le, le-leb, Option, Some, None}
+use Rattle.std.proofs.Common.{◌≡◌, ◌≢◌, ℕ, ◌+◌, ◌<◌, ◌≤◌, ◌^◌, ◌⊎◌, inl, inr, List, [], ◌∷◌, ◌==◌, All, length, filter, map, refl, sym, ap, ap₂, ◌∙◌, subst, arith, Bool, true, false, cond, if◌then◌else◌, count_by, nat_le, nat_lt, le-leb, Option, Some, None}
 use Rattle.std.proofs.lemmas.Bool.{cases_lt, cases_Bool, lt-ltb, le-ltb, lt-leb, eqb-true}
 use Rattle.std.proofs.lemmas.Int.{ints}
 use Rattle.std.proofs.lemmas.List.Elements.{All-head, All-tail}
-use Rattle.std.proofs.lemmas.List.{length-map, map-id}
-use Rattle.std.proofs.lemmas.List.Sums.{length-filter, count_by-le-length, sum_by-cons}
-use Rattle.std.proofs.lemmas.Simd.{map-map}
+use Rattle.std.proofs.lemmas.List.Sums.{count_by-le-length, sum_by-cons}
 use Rattle.std.specs.Ordering.{is_le}
 use Rattle.iv_lines.specs.Genome.{Sequences, sequence_length}
 use Rattle.iv_lines.specs.Ordered.{AreInOrder}
@@ -18,14 +16,11 @@ use Rattle.iv_cover.proofs.DepthLemmas.{depth-cons}
 use Rattle.iv_lines.proofs.InOrderLemmas.{all-recursion}
 use Rattle.iv_lines.proofs.PrecedesLemmas.{Precedes, precedes-from}
 use Rattle.iv_lines.proofs.ListLemmas.{Mem}
-use Rattle.iv_places.proofs.SequenceLemmas.{is_from, from-here}
-use Rattle.iv_lines.specs.Intervals.{interval_of}
-use Rattle.iv_lines.specs.declared.interval.Interval.{Interval}
-use Rattle.iv_places.specs.Inside.Places.{interval_in}
-use Rattle.iv_places.specs.declared.place.Place.{Place}
+use Rattle.iv_places.proofs.SequenceLemmas.{is_from, from-here, from-later}
 use Rattle.std.specs.Prelude.{ℤ, pos, ◌+ℤ◌, ◌-ℤ◌}
 use Rattle.iv_depth.specs.Inside.DepthChanges.{Gives, IsChange}
-use Rattle.iv_depth.specs.Inside.Edges.{up_to, Rise, BeginsElse, AreStopsOf, Passes, IsLeast, Remaining, RiseFrom, edge_count, net, SkipsEdges, TakesChange, GivesChange, IsAhead, starts_of, stops_of}
+use Rattle.iv_depth.specs.Inside.Edges.{up_to, Rise, BeginsElse, AreEdgesOf, Passes, IsLeast, Remaining, RiseFrom, edge_count, net, SkipsEdges, TakesChange, GivesChange, IsAhead}
+use Rattle.iv_depth.specs.Inside.SequenceEdges.{Gathered, TakesSequence}
 use Rattle.iv_depth.proofs.DepthLemmas.{depth-ends}
 use Rattle.iv_depth.proofs.OrderLemmas.{up_to-sum}
 
@@ -117,10 +112,6 @@ module _ (from n begun ended : ℕ) (old mid new : Remaining) (skips : SkipsEdge
       none true z = omega (arith, ints)
       none false z = omega (arith, ints)
 
--- as many items are passed as numbers
-pub passed-length : {T : Type 0} (at : T → ℕ) (count : ℕ) (old new : List T) → count + length new ≡ length old → count + length (map at new) ≡ length (map at old)
-passed-length at count old new len = omega (arith, len, length-map new at, length-map old at)
-
 -- something is passed
 pub fewer-left : (n begun ended : ℕ) (mid new : Remaining) → IsLeast mid.starts mid.stops n
     → (begun ≡ 0 → BeginsElse n mid.starts) → (ended ≡ 0 → BeginsElse n mid.stops)
@@ -193,11 +184,6 @@ Gives-next seq old None new gives = λ g f from d ahead. (IsAhead-end (f seq) fr
 
 -- ---- the records of one sequence
 
--- the intervals of places that are those of records begin and end where the records do
-edges-are : (edge : Interval → ℕ) (places : List Place) (records : List RecordValue) → map interval_in places ≡ map interval_of records
-    → map (λ place. edge place.interval) places ≡ map (λ r. edge (interval_of r)) records
-edges-are edge places records same = sym (map-map edge interval_in places) ∙ ap (map edge) same ∙ map-map edge interval_of records
-
 module _ (g : Sequences) (seq : ℕ) where
   -- as many records cover p as start up to it, less those that stop up to it
   edges-depth : (p : ℕ) (records : List RecordValue) → All (IsOnGenome g) records
@@ -236,35 +222,38 @@ module _ (g : Sequences) (seq : ℕ) where
       after q at on_it (inl lower) = absurd (omega (arith, at, on_it))
       after q at on_it (inr same) = same.1
 
-  module _ (records left here : List RecordValue) (places : List Place) (left_is : left ≡ filter (is_from seq) records) (here_is : here ≡ on seq left)
-      (same : map interval_in places ≡ map interval_of here) where
-    pub places-few : length places ≤ length records
-    places-few =
-        omega (
-          arith,
-          length-map places interval_in,
-          ap (λ (l : List Interval). length l) same,
-          length-map here interval_of,
-          ap (λ (l : List RecordValue). length l) here_is,
-          length-filter (λ (r : RecordValue). r.seq == seq) left,
-          count_by-le-length (λ (r : RecordValue). r.seq == seq) left,
-          ap (λ (l : List RecordValue). length l) left_is,
-          length-filter (is_from seq) records,
-          count_by-le-length (is_from seq) records,
-        )
-
-    -- so the intervals of the records on a sequence, and their stops in order, give the depth
-    pub IsAhead-begin : (stops : List ℕ) → AreInOrder records → All (IsOnGenome g) records → length records < 2 ^ 63 → AreStopsOf places stops
-        → IsAhead (depth records seq) 0 (sequence_length g seq) 0 (record { starts = starts_of places; stops = map (λ n. n) stops })
-    IsAhead-begin stops order lie few are =
-        let on_it : here ≡ on seq records = here_is ∙ ap (on seq) left_is ∙ from-here seq records in
-        let starts : starts_of places ≡ map start_of (on seq records) = edges-are (λ i. i.start) places here same ∙ ap (map start_of) on_it in
-        let ends : stops_of places ≡ map stop_of (on seq records) = edges-are (λ i. i.stop) places here same ∙ ap (map stop_of) on_it in
-        rw (map-id stops) (record {
-          rise = record { starts = rw starts (starts-rise 0 records order (λ r m at. omega arith)); stops = are.rise };
-          low = omega arith;
-          depths = λ p low.
-              omega (arith, ints, up_to-sum p (starts_of places), up_to-sum p stops, are.sums p, ap (up_to p) starts, ap (up_to p) ends, edges-depth p records lie);
-          small = λ p. omega (arith, few, count_by-le-length (covers seq p) records);
-          ends = depth-ends g records lie seq;
+  module _ (records left : List RecordValue) (new : Gathered) (left_is : left ≡ filter (is_from seq) records) (takes : TakesSequence seq left new)
+      (order : AreInOrder records) (lie : All (IsOnGenome g) records) where
+    -- so their starts, and their stops in order, are the edges of the depth
+    pub edges-of : (edges : Remaining) → edges ≡ record { starts = new.starts; stops = new.stops } → AreEdgesOf (depth records seq) edges
+    edges-of edges is =
+        let on_it : on seq left ≡ on seq records = ap (on seq) left_is ∙ from-here seq records in
+        let starts : new.starts ≡ map start_of (on seq records) = takes.starts ∙ ap (map start_of) on_it in
+        subst (AreEdgesOf (depth records seq)) (sym is) (record {
+          rise = record { starts = rw starts (starts-rise 0 records order (λ r m at. omega arith)); stops = takes.stops.rise };
+          depths = λ p.
+              omega (
+                arith,
+                ints,
+                up_to-sum p new.starts,
+                up_to-sum p new.stops,
+                takes.stops.sums p,
+                ap (up_to p) starts,
+                ap (λ (l : List RecordValue). up_to p (map stop_of l)) on_it,
+                edges-depth p records lie,
+              );
         })
+
+    pub IsAhead-begin : (edges : Remaining) → edges ≡ record { starts = new.starts; stops = new.stops } → length records < 2 ^ 63
+        → IsAhead (depth records seq) 0 (sequence_length g seq) 0 edges
+    IsAhead-begin edges is few = record {
+      rise = (edges-of edges is).rise;
+      low = omega arith;
+      depths = λ p low. omega (arith, ints, (edges-of edges is).depths p);
+      small = λ p. omega (arith, few, count_by-le-length (covers seq p) records);
+      ends = depth-ends g records lie seq;
+    }
+
+    -- and those on later sequences are left
+    pub left-next : new.left ≡ filter (is_from (seq + 1)) records
+    left-next = takes.later ∙ ap (filter (λ r. nat_lt seq r.seq)) left_is ∙ from-later seq records

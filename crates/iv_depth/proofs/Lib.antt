@@ -10,6 +10,7 @@ pub mod DepthLemmas
 pub mod Covered
 pub mod OrderLemmas
 pub mod EdgeLemmas
+pub mod GatheredLemmas
 pub mod NetChangesLemmas
 pub mod Lookups
 pub mod RegionLemmas

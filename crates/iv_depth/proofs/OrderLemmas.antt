@@ -1,13 +1,13 @@
 -- Stops in order.
-use Rattle.std.proofs.Common.{◌≡◌, ℕ, ◌+◌, ◌≤◌, List, [], ◌∷◌, length, take, refl, sym, ◌∙◌, ap, arith}
+use Rattle.std.proofs.Common.{ℕ, ◌≡◌, ◌+◌, List, [], ◌∷◌, map, refl, sym, ◌∙◌, ap, arith}
 use Rattle.std.specs.List.Sorted.{IsPermutation, IsSorted, IsNonDecreasing}
 use Rattle.std.specs.Ordering.{nat_cmp}
 use Rattle.std.proofs.lemmas.List.Sorted.{IsNonDecreasingBy-drop, IsNonDecreasingBy-from_sort, sum_by-IsPermutation}
 use Rattle.std.proofs.lemmas.List.Sums.{sum_by-cons}
 use Rattle.std.specs.Prelude.{sum_by, nat_le, if◌then◌else◌}
-use Rattle.std.proofs.lemmas.List.{take_all, length-map}
-use Rattle.iv_places.specs.declared.place.Place.{Place}
-use Rattle.iv_depth.specs.Inside.Edges.{Rise, AreStopsOf, up_to, stops_of}
+use Rattle.iv_lines.specs.RecordValue.{RecordValue}
+use Rattle.iv_cover.specs.Blocks.{stop_of}
+use Rattle.iv_depth.specs.Inside.Edges.{Rise, AreStopsOf, up_to}
 
 pub up_to-sum : (p : ℕ) (ns : List ℕ) → up_to p ns ≡ sum_by (λ n. if nat_le n p then 1 else 0) ns
 up_to-sum p [] = refl
@@ -21,14 +21,8 @@ rise-sorted (n ∷ m ∷ ns) h =
     let rest : Rise 0 (m ∷ ns) = rise-sorted (m ∷ ns) (IsNonDecreasingBy-drop (λ x. x) 1 (n ∷ m ∷ ns) h) in
     (omega arith, (h 0 1 0 (omega arith) (omega arith), rest.1))
 
-pub AreStopsOf-sorted : (places : List Place) (stops : List ℕ) → IsPermutation (stops_of places) stops → IsSorted nat_cmp stops → AreStopsOf places stops
-AreStopsOf-sorted places stops same sorted = record {
+pub AreStopsOf-sorted : (records : List RecordValue) (stops : List ℕ) → IsPermutation (map stop_of records) stops → IsSorted nat_cmp stops → AreStopsOf records stops
+AreStopsOf-sorted records stops same sorted = record {
   rise = rise-sorted stops (IsNonDecreasingBy-from_sort (λ x. x) stops sorted);
-  sums = λ p. up_to-sum p stops ∙ sum_by-IsPermutation (λ n. if nat_le n p then 1 else 0) (stops_of places) stops same ∙ sym (up_to-sum p (stops_of places));
+  sums = λ p. up_to-sum p stops ∙ sum_by-IsPermutation (λ n. if nat_le n p then 1 else 0) (map stop_of records) stops same ∙ sym (up_to-sum p (map stop_of records));
 }
-
--- all are written
-pub written-all : (index : ℕ) (places : List Place) (stops : List ℕ) → take index stops ≡ take index (stops_of places) → length stops ≡ length places → length places ≤ index
-    → stops ≡ stops_of places
-written-all index places stops written len all =
-    sym (take_all index stops (omega (arith, len))) ∙ written ∙ take_all index (stops_of places) (omega (arith, length-map places (λ (place : Place). place.interval.stop)))

@@ -3,7 +3,7 @@ pub mod Changes
 pub mod DepthChanges
 pub mod Walks
 pub mod Edges
-pub mod NetChanges
 pub mod Region
 pub mod RunRows
+pub mod SequenceEdges
 pub mod Texts

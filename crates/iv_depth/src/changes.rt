@@ -1,17 +1,35 @@
 //! Changes of depth, and their edits.
-ghost use Rattle.std.specs.Prelude.{◌≡◌, ◌≢◌, ℤ, pos, negsuc, ◌≤ℤ◌, ◌^◌, List, ◌∷◌, Some, OnOk};
+ghost use Rattle.std.specs.Prelude.{◌≡◌, ◌≢◌, ◌+◌, ℤ, pos, negsuc, ◌≤ℤ◌, ◌^◌, List, ◌∷◌, Some, OnOk};
 ghost use Rattle.iv_lines.specs.RecordValue.{RecordValue};
+ghost use Rattle.iv_cover.specs.Depth.{depth};
 ghost use Rattle.iv_ledger.specs.Entries.{pair_cmp, value_at};
 ghost use Rattle.iv_ledger.specs.Steps.{TakesUpTo};
 ghost use Rattle.iv_depth.specs.Changes.{AreChangesOf};
-ghost use Rattle.iv_depth.specs.Inside.Changes.{AreChanges, Bumps, Shifts};
+ghost use Rattle.iv_depth.specs.Inside.Changes.{AreChanges, AreChangesBefore, Bumps, Shifts};
+ghost use Rattle.iv_depth.specs.Inside.Edges.{AreEdgesOf};
 
-use iv_ledger::{Ledger, Meter};
+use crate::edges::Edges;
+use iv_ledger::{Ledger, LedgerBuilder, Meter};
 use iv_lines::RecordRef;
 use std::alloc::{AllocError, Allocator};
 
 /// Net changes of depth, by the rank of a sequence and a position on it, from 0. None is 0.
 pub(crate) type Changes<A> = Ledger<(u32, u32), i64, A>;
+
+/// Adds the net changes at the edges of the records on the sequence of this rank to those on all sequences before it.
+pub(crate) fn push_changes<A: Allocator + Copy>(
+    built: &mut LedgerBuilder<(u32, u32), i64, A>,
+    seq: u32,
+    mut edges: Edges<'_>,
+) -> Result<(), AllocError>
+    requires { (records : List RecordValue) × AreChangesBefore seq records built.old × AreEdgesOf (depth records seq) edges }
+    ensures { OnOk result ((records : List RecordValue) → AreChangesBefore seq records built.old → AreEdgesOf (depth records seq) edges.entry → AreChangesBefore (seq + 1) records built.new) }
+{
+    while let Some((position, change)) = edges.next_change() {
+        built.push((seq, position), change)?;
+    }
+    Ok(())
+}
 
 /// One more record: depth rises by 1 at its start and falls by 1 at its stop. At most 4 steps.
 ///

@@ -10,14 +10,13 @@ ghost use Rattle.iv_depth.specs.Inside.Texts.{depth_text, depth_text_in};
 ghost use Rattle.iv_depth.specs.DepthRows.{all_covered_runs};
 ghost use Rattle.iv_depth.specs.RegionRows.{covered_runs_in};
 
-use crate::changes::{Changes, add_record, remove_record};
+use crate::changes::{Changes, add_record, push_changes, remove_record};
 use crate::depth_rows::{DepthOutput, put_genome};
-use crate::edges::Edges;
-use crate::net_changes::{changes_of, edges_of};
 use crate::region::{length_of, put_region};
+use crate::sequence_edges::SequenceEdges;
 use iv_bytes::{Sink, WriteFault};
 use iv_cover::Kept;
-use iv_ledger::Meter;
+use iv_ledger::{LedgerBuilder, Meter, Natural};
 use iv_lines::{Genome, RecordRef};
 use iv_track::Track;
 use std::alloc::{AllocError, Allocator, Global};
@@ -48,22 +47,25 @@ impl<A: Allocator + Copy> Kept<A> for Depth<A> {
 
     ghost repair_steps = { λ _ _ _. 8 };
 
-    /// One entry for each position where the depth changes, all inserted at once. It allocates only the ledger, and while it is built
-    /// 16 bytes for each record: where it starts and where it stops.
+    /// One entry for each position where the depth changes. It allocates only the ledger, and while it is built 8 bytes for each
+    /// record, of which those of the records of one sequence are used: where they start and where they stop.
     fn build(
         alloc: A,
         _settings: (),
         track: &Track<A>,
-        _genome: &Genome<A>,
+        genome: &Genome<A>,
         meter: &mut Meter,
     ) -> Result<Depth<A>, AllocError> {
-        let (starts, stops) = edges_of(alloc, track, meter)?;
-        let edges = Edges {
-            starts: starts.as_slice(),
-            stops: stops.as_slice(),
-        };
+        let count = track.len() as usize;
+        let records = track.walk(0, 0, meter);
+        let mut sequences = SequenceEdges::of(alloc, records, count, meter)?;
+        let mut built = LedgerBuilder::new(alloc)?;
+        for seq in 0..genome.count() {
+            sequences.gather(seq, meter);
+            push_changes(&mut built, seq, sequences.edges())?;
+        }
         Ok(Depth {
-            changes: changes_of(alloc, edges)?,
+            changes: built.finish(Natural)?,
         })
     }
 

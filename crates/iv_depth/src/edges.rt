@@ -1,65 +1,30 @@
 //! Where records start and where they stop, from the least on, and the net changes of depth there.
-ghost use Rattle.std.specs.Prelude.{◌≡◌, ◌+◌, ◌<◌, ◌≤◌, ℕ, [], MatchOption, OnSome, length, map};
+ghost use Rattle.std.specs.Prelude.{◌≡◌, ◌+◌, ◌<◌, ◌≤◌, [], MatchOption, OnSome, length};
 ghost use Rattle.iv_depth.specs.Inside.Edges.{BeginsElse, GivesChange, IsLeast, Passes, Rise, edge_count};
 
-use iv_places::Place;
 use std::marker::Model;
 
-/// An item that is at a position: a place is at its start, and a number at itself.
-pub(crate) trait Positioned {
-    ghost at: { Self → ℕ };
-
-    fn position(&self) -> u64
-        ensures { result ≡ at self.now };
-}
-
-impl Positioned for Place {
-    ghost at = { λ place. place.interval.start };
-
-    fn position(&self) -> u64 {
-        self.interval.start as u64
-    }
-}
-
-impl Positioned for u32 {
-    ghost at = { λ stop. stop };
-
-    fn position(&self) -> u64 {
-        *self as u64
-    }
-}
-
-impl Positioned for u64 {
-    ghost at = { λ key. key };
-
-    fn position(&self) -> u64 {
-        *self
-    }
-}
-
-/// Items at the starts of records and, beside these, at their stops, each from the least on: those that remain.
-///
-/// Its model is their positions.
+/// Where records start and, beside these, where they stop, each from the least on: those that remain.
 #[derive(Drop)]
-pub(crate) struct Edges<'a, S: Positioned, T: Positioned> {
-    pub(crate) starts: &'a [S],
-    pub(crate) stops: &'a [T],
+pub(crate) struct Edges<'a> {
+    pub(crate) starts: &'a [u32],
+    pub(crate) stops: &'a [u32],
 }
 
-impl<'a, S: Positioned, T: Positioned> Model for Edges<'a, S, T> {
-    ghost use Rattle.std.specs.Prelude.{◌<◌, ◌^◌, length, map};
+impl<'a> Model for Edges<'a> {
+    ghost use Rattle.std.specs.Prelude.{◌<◌, ◌^◌, length};
     ghost use Rattle.iv_depth.specs.Inside.Edges.{Remaining};
 
     ghost Value = { Remaining };
 
-    ghost view = { λ e. record { starts = map S.at e.starts.now; stops = map T.at e.stops.now } };
+    ghost view = { λ e. record { starts = e.starts.now; stops = e.stops.now } };
 
     ghost invariant = { λ e. (length e.starts.now < 2 ^ 63) × (length e.stops.now < 2 ^ 63) };
 }
 
-impl<'a, S: Positioned, T: Positioned> Edges<'a, S, T> {
+impl<'a> Edges<'a> {
     /// The next position at which not as many start as stop, and how many more start there. `None` if there is none.
-    pub(crate) fn next_change(&mut self) -> Option<(u64, i64)>
+    pub(crate) fn next_change(&mut self) -> Option<(u32, i64)>
         ensures change { GivesChange self.old result self.new }
         ensures no_more { edge_count self.new ≤ edge_count self.old }
         ensures fewer { OnSome result (edge_count self.new < edge_count self.old) }
@@ -78,27 +43,26 @@ impl<'a, S: Positioned, T: Positioned> Edges<'a, S, T> {
 }
 
 /// The least position of a start or a stop.
-fn least<S: Positioned, T: Positioned>(starts: &[S], stops: &[T]) -> Option<u64>
-    ensures { MatchOption result ((starts.now ≡ []) × (stops.now ≡ [])) (λ position. IsLeast (map S.at starts.now) (map T.at stops.now) position) }
+fn least(starts: &[u32], stops: &[u32]) -> Option<u32>
+    ensures { MatchOption result ((starts.now ≡ []) × (stops.now ≡ [])) (λ position. IsLeast starts.now stops.now position) }
 {
     match (starts.first(), stops.first()) {
-        (Some(start), Some(stop)) => Some(start.position().min(stop.position())),
-        (Some(start), None) => Some(start.position()),
-        (None, Some(stop)) => Some(stop.position()),
+        (Some(start), Some(stop)) => Some(*start.min(stop)),
+        (Some(position), None) | (None, Some(position)) => Some(*position),
         (None, None) => None,
     }
 }
 
 /// How many are at the position, if it is the least, and those after it.
-fn pass<T: Positioned>(items: &[T], position: u64) -> (usize, &[T])
-    ensures passed { Rise position (map T.at items.now) → Passes position result.0 (position + 1) (map T.at items.now) (map T.at result.1.now) }
-    ensures none { result.0 ≡ 0 → BeginsElse position (map T.at items.now) }
+fn pass(items: &[u32], position: u32) -> (usize, &[u32])
+    ensures passed { Rise position items.now → Passes position result.0 (position + 1) items.now result.1.now }
+    ensures none { result.0 ≡ 0 → BeginsElse position items.now }
     ensures len { result.0 + length result.1.now ≡ length items.now }
 {
     let mut count = 0;
     let mut left = items;
     while let Some((item, others)) = left.split_first() {
-        if item.position() != position {
+        if *item != position {
             return (count, left);
         }
         count += 1;

@@ -8,8 +8,8 @@ mod depth_rows;
 mod depth_sweep;
 mod edges;
 mod lemmas;
-mod net_changes;
 mod region;
+mod sequence_edges;
 
 pub use depth::Depth;
 pub use depth_rows::DepthOutput;

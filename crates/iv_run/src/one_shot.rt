@@ -158,8 +158,8 @@ impl<A: Allocator + Copy> RunFiles<A> {
 
 /// Puts the text of a kept view: of `merge`, `cluster`, `complement` or `genomecov`.
 ///
-/// All memory is allocated before the first byte is put: room for a value of each record if a merge asks for `distinct`, and for a stop
-/// of each for `genomecov`. Else it takes none.
+/// All memory is allocated before the first byte is put: room for a value of each record if a merge asks for `distinct`, and for start
+/// and stop of each for `genomecov`. Else it takes none.
 fn sweep<'t, A: Allocator + Copy, S: Sink>(
     alloc: A,
     view: KeptView,

@@ -4,6 +4,7 @@ use Rattle.std.specs.Map.{values_of}
 use Rattle.iv_lines.specs.RecordValue.{RecordValue}
 use Rattle.iv_ledger.specs.Entries.{IsLedger, pair_cmp}
 use Rattle.iv_lines.specs.CoveredPositions.{covers}
+use Rattle.iv_cover.specs.Depth.{depth}
 use Rattle.iv_depth.specs.Changes.{AreChangesOf, ChangeKey, Entries, reaches, total}
 
 -- these are the net changes of the depth of some records, which are few
@@ -24,3 +25,10 @@ pub record Shifts (r : RecordValue) (by : ℤ) (old new : Entries) : Type 0 wher
   pub ordered : IsLedger pair_cmp new
   pub changes : All (λ z. z ≢ pos 0) (values_of old) → All (λ z. z ≢ pos 0) (values_of new)
   pub sums : (seq p : ℕ) → total (reaches seq p) new ≡ total (reaches seq p) old +ℤ (if covers seq p r then by else pos 0)
+
+-- these are the net changes of the records' depth on the sequences before this rank
+pub record AreChangesBefore (seq : ℕ) (records : List RecordValue) (entries : Entries) : Type 0 where
+  pub ordered : IsLedger pair_cmp entries
+  pub changes : All (λ e. e.1 ≢ pos 0) entries
+  pub ranks : All (λ e. e.0.0 < seq) entries
+  pub depths : (other p : ℕ) → other < seq → total (reaches other p) entries ≡ pos (depth records other p)

@@ -1,15 +1,8 @@
 -- Starts and stops of records, as numbers in order, and the net changes of depth there. This is the state of a sweep and of a build,
 -- as seen by their proofs.
 use Rattle.std.specs.Prelude.{◌≡◌, ◌≢◌, ℕ, ◌+◌, ◌<◌, ◌≤◌, ◌^◌, nat_le, Bool, List, [], ◌∷◌, Option, Some, None, length, map, count_by, if◌then◌else◌, ℤ, pos, ◌+ℤ◌, ◌-ℤ◌}
-use Rattle.iv_places.specs.declared.place.Place.{Place}
-
--- where the places start
-abbrev pub starts_of : List Place → List ℕ
-starts_of places = map (λ (place : Place). place.interval.start) places
-
--- where they stop
-abbrev pub stops_of : List Place → List ℕ
-stops_of places = map (λ (place : Place). place.interval.stop) places
+use Rattle.iv_lines.specs.RecordValue.{RecordValue}
+use Rattle.iv_cover.specs.Blocks.{stop_of}
 
 -- how many of the numbers are p or less
 abbrev pub up_to : ℕ → List ℕ → ℕ
@@ -26,10 +19,10 @@ abbrev pub BeginsElse : ℕ → List ℕ → Type 0
 BeginsElse p [] = Unit {0}
 BeginsElse p (n ∷ ns) = n ≢ p
 
--- these are the stops of the places, from the least to the greatest
-pub record AreStopsOf (places : List Place) (stops : List ℕ) : Type 0 where
+-- these are the stops of the records, from the least to the greatest
+pub record AreStopsOf (records : List RecordValue) (stops : List ℕ) : Type 0 where
   pub rise : Rise 0 stops
-  pub sums : (p : ℕ) → up_to p stops ≡ up_to p (stops_of places)
+  pub sums : (p : ℕ) → up_to p stops ≡ up_to p (map stop_of records)
 
 -- so many of the old numbers are passed, all of them this one, and the new numbers, which rise from another one on, are left
 pub record Passes (n count from : ℕ) (old new : List ℕ) : Type 0 where
@@ -60,6 +53,11 @@ pub record RiseFrom (from : ℕ) (edges : Remaining) : Type 0 where
 -- how many starts there are more than stops, among the numbers that pass
 abbrev pub net : (ℕ → Bool) → Remaining → ℤ
 net passes edges = pos (count_by passes edges.starts) -ℤ pos (count_by passes edges.stops)
+
+-- both rise, and up to each position f is how many starts there are more than stops
+pub record AreEdgesOf (f : ℕ → ℕ) (edges : Remaining) : Type 0 where
+  pub rise : RiseFrom 0 edges
+  pub depths : (p : ℕ) → pos (f p) ≡ net (λ n. nat_le n p) edges
 
 -- the new ones are left of the old ones, and at the others as many start as stop
 pub record SkipsEdges (from : ℕ) (old new : Remaining) : Type 0 where

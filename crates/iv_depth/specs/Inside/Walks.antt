@@ -5,12 +5,12 @@ use Rattle.std.specs.List.{AllByRecursion}
 use Rattle.std.specs.Map.{values_of}
 use Rattle.iv_lines.specs.Genome.{Sequences, sequence_length}
 use Rattle.iv_ledger.specs.Entries.{IsLedger, pair_cmp}
-use Rattle.iv_depth.specs.Changes.{ChangeKey, Entries, total, reaches}
+use Rattle.iv_depth.specs.Changes.{Entries, total, reaches}
 
--- the entry that was read ahead, if there is one, and those that are left
-abbrev pub ahead_of : Option (ChangeKey × ℤ) → Entries → Entries
-ahead_of None entries = entries
-ahead_of (Some e) entries = e ∷ entries
+-- what was read ahead, if there is something, and those that are left
+abbrev pub ahead_of : {T : Type 0} → Option T → List T → List T
+ahead_of None items = items
+ahead_of (Some item) items = item ∷ items
 
 -- the depth to which changes sum up to p
 abbrev pub depth_by : Entries → ℕ → ℕ → ℕ
