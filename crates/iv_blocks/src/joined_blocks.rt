@@ -1,5 +1,5 @@
 //! The blocks of a walk over records.
-ghost use Rattle.std.specs.Prelude.{◌≡◌, All, List, None};
+ghost use Rattle.std.specs.Prelude.{◌≡◌, All, List, [], None};
 ghost use Rattle.iv_lines.specs.Genome.{Sequences};
 ghost use Rattle.iv_lines.specs.Ordered.{AreInOrder};
 ghost use Rattle.iv_lines.specs.Read.{IsOnGenome};
@@ -17,7 +17,7 @@ use std::marker::Model;
 
 /// The blocks that remain of a walk over records.
 ///
-/// Records of one sequence that overlap, are book-ended or lie at most `distance` bases apart are in one
+/// Records of one sequence that overlap, are book-ended or are at most `distance` bases apart are in one
 /// block. Blocks come by the sequence's rank, and then by start. The model is the list of those that are left,
 /// each with the records that are in it. No call takes memory.
 #[derive(Drop)]
@@ -83,9 +83,8 @@ impl<W: RecordWalk> JoinedBlocks<W> {
         ensures same { self.new ≡ self.old }
         ensures steps { TakesUpTo (W.steps meter.old) (W.steps meter.new) 1 }
     {
-        let record = next_of(&mut self.ahead, &mut self.records, meter)?;
-        let first = W::interval(&record);
-        self.ahead = Some(record);
+        look_ahead(&mut self.ahead, &mut self.records, meter);
+        let first = W::interval(self.ahead.as_ref()?);
         Some((first.seq, first.start))
     }
 
@@ -126,6 +125,19 @@ pub(crate) fn next_of<W: RecordWalk>(
         Some(record) => Some(record),
         None => records.next(meter),
     }
+}
+
+/// Reads the next record of the walk, if none was put back, and puts it back. At most one step.
+#[inline(always)]
+fn look_ahead<W: RecordWalk>(ahead: &mut Option<W::Record>, records: &mut W, meter: &mut W::Meter)
+    ensures same { ahead_of W.value ahead.new (W.left records.new) ≡ ahead_of W.value ahead.old (W.left records.old) }
+    ensures none { ahead.new ≡ None → W.left records.new ≡ [] }
+    ensures steps { TakesUpTo (W.steps meter.old) (W.steps meter.new) 1 }
+{
+    if ahead.is_some() {
+        return;
+    }
+    *ahead = records.next(meter);
 }
 
 /// A record that was put back, once more.
