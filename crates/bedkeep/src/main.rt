@@ -9,8 +9,7 @@ ghost use Rattle.std.specs.Prelude.{None};
 
 use iv_bytes::{ReadFault, Source, StdSink, StdSource};
 use iv_hints::{Hints, KeptSource, Seen};
-use iv_lines::Fault;
-use iv_program::{InputFiles, SeesRefusals, report, run_program};
+use iv_program::{InputFiles, report, run_program};
 use iv_run::ExitReason;
 use std::cell::RefCell;
 use std::env;
@@ -31,27 +30,15 @@ impl<'a> InputFiles for StdFiles<'a> {
     ghost state = { λ files. record { contents = λ _. None; events = None; failed = files.failed } };
 
     fn open(&mut self, name: &[u8]) -> Result<KeptSource<'a, StdSource<File>>, ReadFault> {
-        match self.hints.open(name) {
-            Some(file) => Ok(KeptSource::new(StdSource::new(file), self.hints)),
-            None => {
-                self.failed = true;
-                Err(ReadFault)
-            }
-        }
+        let Some(file) = self.hints.open(name) else {
+            self.failed = true;
+            return Err(ReadFault);
+        };
+        Ok(KeptSource::new(StdSource::new(file), self.hints))
     }
 
     fn close(&mut self, file: KeptSource<'a, StdSource<File>>) {
         self.failed = file.failed() || self.failed;
-    }
-}
-
-/// Hints on the refused lines of a script.
-#[derive(Drop)]
-struct Observer<'a>(Hints<'a>);
-
-impl SeesRefusals for Observer<'_> {
-    fn see(&mut self, line: &[u8], fault: Fault, sound: u8) {
-        self.0.see_line(line, fault, sound);
     }
 }
 
@@ -61,7 +48,7 @@ fn run(rt: &HostRuntime) -> Result<u8, ExitReason> {
     let after_program = words.iter().skip(1).map(|word| word.as_bytes());
     let names: Vec<&[u8]> = after_program.collect(rt.alloc())?;
     let seen = RefCell::new(Seen::new(rt));
-    let hints = Hints::new(rt, names.as_slice(), &seen);
+    let mut hints = Hints::new(rt, names.as_slice(), &seen);
     let failed = false;
     let ended = run_program(
         rt.alloc(),
@@ -70,7 +57,7 @@ fn run(rt: &HostRuntime) -> Result<u8, ExitReason> {
         &mut StdSource::new(rt.stdin()),
         &mut StdSink::new(rt.stdout()),
         &mut StdSink::new(rt.stderr()),
-        &mut Observer(hints),
+        &mut hints,
     );
     hints.end(ended.exit_reason, ended.line);
     Ok(ended.status())

@@ -8,6 +8,7 @@ use iv_args::Plan;
 use iv_bytes::{StdSink, put_all};
 use iv_lines::Fault;
 use iv_run::ExitReason;
+use iv_session::SeesRefusals;
 use std::alloc::{AllocError, Global};
 use std::cell::RefCell;
 use std::env;
@@ -123,9 +124,21 @@ impl<'a> Hints<'a> {
         }
     }
 
+    /// Shows the hint that follows a run, given the line of the script at which it ended early (0 if at none).
+    pub fn end(self, exit_reason: ExitReason, line: u64) {
+        if self.are_wanted
+            && let Ok(seen) = self.seen.try_borrow()
+        {
+            let files = self.files(seen.files.as_slice());
+            self.show(hint_of_ending(&files, self.words, exit_reason, line));
+        }
+    }
+}
+
+impl SeesRefusals for Hints<'_> {
     /// Shows the hint on a refused line of the script, of which so many columns after the command are a sound record. A line `?`, by which
     /// a program finds where an answer ends, has none, and after it the count of each kind begins again.
-    pub fn see_line(self, line: &[u8], fault: Fault, sound: u8) {
+    fn see(&mut self, line: &[u8], fault: Fault, sound: u8) {
         let Ok(mut guard) = self.seen.try_borrow_mut() else {
             return;
         };
@@ -138,16 +151,6 @@ impl<'a> Hints<'a> {
             let is_few = seen.count(fault.code());
             let files = self.files(seen.files.as_slice());
             self.show(hint_of_refusal(&files, line, fault, sound, is_few));
-        }
-    }
-
-    /// Shows the hint that follows a run, given the line of the script at which it ended early (0 if at none).
-    pub fn end(self, exit_reason: ExitReason, line: u64) {
-        if self.are_wanted
-            && let Ok(seen) = self.seen.try_borrow()
-        {
-            let files = self.files(seen.files.as_slice());
-            self.show(hint_of_ending(&files, self.words, exit_reason, line));
         }
     }
 }
