@@ -1,9 +1,8 @@
 -- A run for which only the bases of sequences that a record is on are held.
-use Rattle.std.proofs.Common.{◌≡◌, ◌∙◌, ℕ, ◌++◌, ◌||◌, ◌==◌, Bool, true, List, [], ◌∷◌, All, Option, None, Some, Result, Ok, Err, IfOk, unwrap_or, refl, sym, ap, ap₂, subst, eq-eqb}
-use Rattle.std.specs.List.{flat_map, list_any}
+use Rattle.std.proofs.Common.{◌≡◌, ◌∙◌, ℕ, ◌++◌, Bool, true, List, [], ◌∷◌, All, Option, None, Some, Result, Ok, Err, IfOk, unwrap_or, refl, sym, ap, ap₂, subst}
+use Rattle.std.specs.List.{flat_map}
 use Rattle.std.specs.Option.{is_some, option_map}
-use Rattle.std.proofs.lemmas.List.Elements.{All-nil, All-cons, All-head, All-tail}
-use Rattle.std.proofs.lemmas.Bool.{or_right}
+use Rattle.std.proofs.lemmas.List.Elements.{All-head, All-tail}
 use Rattle.iv_bytes.specs.Sinks.{SinkState}
 use Rattle.iv_text.specs.BedFile.{Bed}
 use Rattle.iv_lines.specs.Genome.{Sequences}
@@ -20,7 +19,6 @@ use Rattle.iv_places.specs.HeldColumns.{held_bed}
 use Rattle.iv_places.specs.declared.held_columns.HeldColumns.{HeldColumns}
 use Rattle.iv_places.specs.declared.held_columns.HeldColumns.TheVariants as held
 use Rattle.iv_places.proofs.BareLemmas.{ordered-bare}
-use Rattle.iv_places.specs.Inside.Ranks.{has_rank}
 use Rattle.iv_text.proofs.BedReadingLemmas.{all-held}
 use Rattle.iv_view.specs.Views.{kept_text, read_arguments, written_rows}
 use Rattle.iv_view.specs.declared.view.View.{View}
@@ -36,14 +34,6 @@ use Rattle.iv_run.specs.Shots.{Shows}
 use Rattle.iv_run.specs.declared.fault.CliFault.{CliFault}
 use Rattle.iv_run.proofs.ColumnsLemmas.{alone}
 use Rattle.iv_run.proofs.ShotLemmas.{shown_of, shows-fault, shows-text}
-
--- what holds of the sequences that have a record holds of that of each record
-all-marked : (marked : ℕ → Bool) (records : List RecordValue) → ((seq : ℕ) → list_any (has_rank seq) records ≡ true → marked seq ≡ true) → All (λ (r : RecordValue). marked r.seq ≡ true) records
-all-marked marked [] have = All-nil (λ (r : RecordValue). marked r.seq ≡ true)
-all-marked marked (r ∷ records) have =
-    All-cons (λ (s : RecordValue). marked s.seq ≡ true) r records
-    (have r.seq (ap (λ (b : Bool). b || list_any (has_rank r.seq) records) (eq-eqb r.seq r.seq refl)))
-    (all-marked marked records (λ seq is. have seq (or_right (r.seq == seq) (list_any (has_rank seq) records) is)))
 
 -- if all sequences are wanted, so is that of each record
 pub any-wanted : (records : List RecordValue) → AreWanted None records

@@ -139,7 +139,8 @@ pub(crate) fn take_next<A: Allocator + Copy>(
     Ok(draft)
 }
 
-/// What is held of a whole file, or its fault, once all bytes have come. Without a record it has the width that is handed in.
+/// What is held of a whole file, or its fault, once all bytes have come. Without a record it has the width that is held of the one that
+/// is handed in.
 pub(crate) fn finish<A: Allocator + Copy>(
     so_far: Result<BedReader<A>, LoadFault>,
     genome: &Genome<A>,

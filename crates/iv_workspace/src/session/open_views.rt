@@ -178,9 +178,9 @@ impl<A: Allocator + Copy> Session<A> {
     /// `records` takes two, and one for each different record. There is no bound for a stale view, which is built again, or for another
     /// one that is written from the records.
     ///
-    /// A region takes a step for each row (`merge`, and eight more; `complement`, and two more), or one for each record that starts below
-    /// its end, and before it by less than twice the greatest length of a record: a written view two more, `genomecov` five more, and two
-    /// for each row of a depth above 0, and `cluster` four more, and one for each block up to the region's end.
+    /// A region takes a step for each row (`merge`, and three more, or six with `-s`; `complement`, and two more), or one for each record
+    /// that starts below its end, and before it by less than twice the greatest length of a record: a written view two more, `genomecov`
+    /// five more, and two for each row of a depth above 0, and `cluster` four more, and one for each block up to the region's end.
     ///
     /// # Errors
     ///
