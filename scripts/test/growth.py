@@ -39,7 +39,15 @@ MOST_SECONDS, MOST_WAITING = 60, 120
 FIRST, LARGEST = 1_000, 500_000
 # The five views of docs/BENCHMARKS.md.
 FIVE_VIEWS = ["merge", "merge -d 100", "complement", "cluster", "genomecov -bg"]
-OPEN_FIVE = "".join(f"open\t{name}\t{view}\n" for name, view in zip("abcde", FIVE_VIEWS))
+# Views whose rows in a region take no more than what lies near it.
+REGION_VIEWS = ["merge", "complement", "genomecov -bg", "intersect", "intersect -v", "intersect -c", "subtract", "records"]
+
+
+def opens(views):
+    return "".join(f"open\t{name}\t{view}\n" for name, view in zip("abcdefgh", views))
+
+
+OPEN_FIVE = opens(FIVE_VIEWS)
 
 
 # ------------------------------------------------------------------ files
@@ -208,6 +216,11 @@ def resizes(size):
     return OPEN_FIVE + lines("resize\tbig\t%d", range(length, length + size)) + "printall\n"
 
 
+def shows(size):
+    """Regions all over the track, in no order, with the rows that each view has there. `cluster` isn't among them: it counts all blocks before."""
+    return opens(REGION_VIEWS) + lines("showall\tbig\t%d\t%d", in_no_order([(start, start + 500) for start, _ in spread(size)[::4]]))
+
+
 def only_adds(place):
     """Records of a kind that are added to nothing."""
     return lambda size: OPEN_FIVE + edits("add", in_no_order(place(size))) + "printall\n"
@@ -307,6 +320,7 @@ SHAPES = [
     Shape("edits all over", SESSION, sorted_file, edits_all_over("")),
     Shape("edits all over the second file", SESSION, sorted_file, edits_all_over("b")),
     Shape("edits and prints", SESSION, one_block, edits_and_prints),
+    Shape("shows all over", SESSION, sorted_file, shows),
     Shape("resizes", SESSION, sorted_file, resizes),
     Shape("adds at one place", SESSION, empty_files, only_adds(side_by_side)),
     Shape("removals at one place", SESSION, empty_files, adds_and_removals(side_by_side)),
@@ -490,10 +504,17 @@ def one_sequence(size):
 
 
 def moved_to_the_end(size):
-    """Nine records in ten are removed, and as many others added in the last tenth of the sequence."""
-    gone = [row for number, row in enumerate(spread(size)) if number % 10]
-    others = [(start, start + 20) for start in range(size * 270, size * 270 + len(gone) * 33, 33)]
-    return edits("remove", gone) + edits("add", others) + prints("records")(size)
+    """Nine records in ten are removed, and as many others added in the last tenth of the sequence; of these too, three times in all."""
+    script, rows, end = "", spread(size), size * 270
+    for _ in range(3):
+        gone = [row for number, row in enumerate(rows) if number % 10]
+        rows = [(start, start + 20) for start in range(end, end + len(gone) * 11, 11)]
+        script, end = script + edits("remove", gone) + edits("add", rows), rows[-1][1]
+    return script + prints("records")(size)
+
+
+def added_in_no_order(size):
+    return edits("add", in_no_order(side_by_side(size))) + prints("records")(size)
 
 
 def named(size):
@@ -522,13 +543,15 @@ def mostly_unnamed_bases(size):
             "f": f">other\n{'C' * (size - known)}\n>big\n{'A' * known}\n"}
 
 
-# The most bytes that may be held for each record or byte: about 30 % more than is held, and far less than a text that is kept.
+# The most bytes that may be held for each record or byte: 30 to 80 % more than are held, and far fewer than a text that is kept.
 MEMORY = [
     ("a run of merge", "merge -g g -i a", one_long_name, None, "VmHWM", 21),
     ("a run of cluster", "cluster -g g -i a", one_long_name, None, "VmHWM", 21),
     ("a session", "session -g g -i a", one_long_name, prints("records"), "VmHWM", 45),
     ("a session with merge", "session -g g -i a", one_long_name, prints("merge"), "VmHWM", 60),
     ("a session that removes and adds", "session -g g -i a", one_sequence, moved_to_the_end, "VmHWM", 66),
+    ("a session that adds in no order", SESSION, empty_files, added_in_no_order, "VmHWM", 27),
+    ("a run of cluster with names", "cluster -g g -i a", named, None, "VmHWM", 106),
     ("a session that renames and then opens a view", "session -g g -i a", named, renamed, "VmRSS", 132),
     ("bases that no record can name", "session -g g -i a -fi f", mostly_unknown_bases, prints("getfasta"), "VmRSS", 0.2),
     ("bases that no record of a run names", "getfasta -g g -bed a -fi f", mostly_unnamed_bases, None, "VmHWM", 0.05),
