@@ -245,18 +245,12 @@ class Walk:
 
 
 def page_with(page, keys, size):
-    """The page of promises with the program's contract, and the numbers of these definitions: of all, and of the crates that each row of its table links."""
+    """The page of promises with the program's contract, and the numbers of these definitions."""
     contract = CONTRACT.search((TOP / f"crates/{PROGRAM}/src/program.rt").read_text()).group()
     page = CONTRACT.sub(lambda _: contract, page, count=1)
     page = re.sub(r"\d+ names of bytes and the \d+ definitions of notices", what_is_uncounted(keys), page)
     keys = [*filter(is_counted, keys)]
-    page = re.sub(r"[\d,]+ definitions, [\d,]+ lines", f"{len(keys):,} definitions, {size(keys):,} lines", page)
-
-    def row(m):
-        crates = re.findall(r"/crates/(\w+)/specs/", m[1])
-        return f"{m[1]}| {size([key for key in keys if key[1] in crates]):,} |"
-
-    return re.sub(r"^(\| \[iv_.*)\| [\d,]+ \|$", row, page, flags=re.M)
+    return re.sub(r"[\d,]+ definitions, [\d,]+ lines", f"{len(keys):,} definitions, {size(keys):,} lines", page)
 
 
 def main():
