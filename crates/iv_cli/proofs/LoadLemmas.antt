@@ -10,7 +10,8 @@ use Rattle.iv_workspace.specs.States.{State, begun}
 use Rattle.iv_run.specs.declared.fault.CliFault.{CliFault}
 use Rattle.iv_run.specs.declared.fault.CliFault.TheVariants.{Memory}
 use Rattle.iv_run.specs.Loading.{Parsed, parsed}
-use Rattle.iv_run.specs.RunFiles.{AreOn, Reports}
+use Rattle.iv_run.specs.Inside.FilesReading.{AreOn}
+use Rattle.iv_run.specs.RunFiles.{Reports}
 use Rattle.iv_run.proofs.WantedLemmas.{held-whole}
 use Rattle.iv_cli.specs.Loading.{loaded}
 

@@ -9,7 +9,7 @@ pub use begin::{begin_session, load};
 pub use iv_args::{Notice, Plan, Slot, Subcommand};
 pub use iv_lines::Fault;
 pub use iv_run::{
-    CliFault, ExitReason, FileFault, HeldFasta, HeldRecords, Inputs, RunFiles, RunGenome,
-    columns_for, read_all, shot, sound_files, status,
+    CliFault, ExitReason, FileFault, FilesReader, Inputs, RunFiles, columns_for, read_all, shot,
+    status,
 };
 pub use script_endings::{ending_of_run, run_status};

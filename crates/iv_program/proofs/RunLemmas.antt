@@ -1,5 +1,5 @@
 -- Files that were read, and what a run does with them.
-use Rattle.std.proofs.Common.{◌≡◌, ◌⊎◌, inl, inr, ◌<◌, ℕ, List, [], ◌∷◌, ◌++◌, length, false, Option, None, Some, Result, Ok, Err, IfOk, IfErr, IfSome, refl, sym, ap, ◌∙◌, subst}
+use Rattle.std.proofs.Common.{◌≡◌, ◌⊎◌, inl, inr, ◌<◌, ℕ, List, [], ◌∷◌, ◌++◌, length, false, Option, None, Some, Result, Ok, Err, IfOk, IfErr, IfSome, OnOk, refl, sym, ap, ◌∙◌, subst}
 use Rattle.std.proofs.lemmas.List.Elements.{All-nil, All-cons, All-append}
 use Rattle.std.specs.List.{All}
 use Rattle.std.specs.Option.{option_to_list}
@@ -25,10 +25,10 @@ use Rattle.iv_args.specs.declared.plan.Slot.{Slot}
 use Rattle.iv_args.specs.declared.plan.Slot.TheVariants.{First, Other, Bases}
 use Rattle.iv_run.specs.Loading.{Parsed, parsed}
 use Rattle.iv_places.specs.declared.held_columns.HeldColumns.{HeldColumns}
-use Rattle.iv_lines.specs.declared.fault.LoadFault.{LoadFault}
-use Rattle.iv_fasta.specs.Fasta.{Bases as FoundBases}
+use Rattle.iv_places.specs.declared.held_columns.HeldColumns.TheVariants as held
+use Rattle.iv_text.specs.BedFile.{Bed}
 use Rattle.iv_fasta.specs.FastaReading.{Wanted}
-use Rattle.iv_run.specs.RunFiles.{AreOf, FilesRead, IsFasta, IsIfNamed, Reports}
+use Rattle.iv_run.specs.RunFiles.{AreAskedFor, AreOf, FilesRead, Reports, TakesFasta, TakesFirst, TakesSecond, report_by}
 use Rattle.iv_run.specs.declared.fault.CliFault.{CliFault}
 use Rattle.iv_run.specs.declared.fault.FileFault.{FileFault}
 use Rattle.iv_run.specs.declared.fault.FileFault.TheVariants as file
@@ -41,7 +41,7 @@ use Rattle.iv_program.specs.Limits.{most_file_bytes}
 use Rattle.iv_program.specs.Program.{Finishes, Runs, Serves, world}
 use Rattle.iv_program.specs.Runs.{World, DoesWith, HasRead, HasNotRead}
 use Rattle.iv_program.specs.Inside.Files.{AreRead, HasText, IsWhy, ReadsNamed, StopsAt, StopsFile, names_of}
-use Rattle.iv_program.specs.Inside.Runs.{DoesOne, EndsRun, Flushes, HasBeds, HasTexts, ReadsAll, RunsPlan, StopsPlan, stopped_at}
+use Rattle.iv_program.specs.Inside.Runs.{DoesOne, EndsRun, Flushes, HasFiles, HasTexts, ReadsAll, RunsPlan, StopsPlan, stopped_at}
 use Rattle.iv_program.specs.Texts.{Texts, AreTexts, IsTextIfNamed, names_before}
 use Rattle.iv_program.specs.declared.program.Ended.{Ended}
 
@@ -109,51 +109,72 @@ module _ (plan : RunPlan) {f0 f1 : FilesState} {sizes : List ℕ} (read_sizes : 
       pub before-bases : AreRead (names_before plan Bases) f0 f3
       before-bases = reads-more (names_before plan Other) before-other read_other
 
-      -- the genome file and the BED files are those of their texts
-      pub has-beds : (which : HeldColumns) (files : FilesRead) → files.run_genome.width ≡ plan.width → files.run_genome.limit ≡ plan.limit → files.run_genome.columns ≡ which
-          → AreOf None sizes first other None files → HasBeds which plan f0 f3 files
-      has-beds which files width limit columns are = record {
-        sizes = sizes;
-        first = first;
-        other = other;
-        is_sizes = read_sizes.is_text;
-        is_first = named-back (names_before plan First) f0 f1 (Some plan.first) (Some first) before-first.after read_first.is_text;
-        is_other = named-back (names_before plan Other) f0 f2 plan.other other before-other.after read_other.is_text;
-        read = before-bases;
-        width_is = width;
-        limit_is = limit;
-        columns_is = columns;
-        are = are;
-      }
+      -- and at last the FASTA file
+      module _ {f4 : FilesState} {bases : Option (List ℕ)} (read_bases : ReadsNamed f3 plan.bases bases f4) where
+        pub all-read : f4 ≡ after_reading (names_of plan) f0
+        all-read = (reads-more (names_before plan Bases) before-bases read_bases).after
 
--- the FASTA file of a plan was read after the others
-module _ (which : HeldColumns) (plan : RunPlan) {f0 f1 f2 : FilesState} {files : FilesRead} (beds : HasBeds which plan f0 f1 files)
-    {bases : Option (List ℕ)} (read_bases : ReadsNamed f1 plan.bases bases f2) where
-  pub all-read : f2 ≡ after_reading (names_of plan) f0
-  all-read = (reads-more (names_before plan Bases) beds.read read_bases).after
+        abbrev pub plan-texts : Texts
+        plan-texts = record { sizes = sizes; first = first; other = other; bases = bases }
 
-  abbrev pub plan-texts : Texts
-  plan-texts = record { sizes = beds.sizes; first = beds.first; other = beds.other; bases = bases }
+        pub all-texts : AreTexts f0 plan plan-texts
+        all-texts = record {
+          sizes = read_sizes.is_text;
+          first = named-back (names_before plan First) f0 f1 (Some plan.first) (Some first) before-first.after read_first.is_text;
+          other = named-back (names_before plan Other) f0 f2 plan.other other before-other.after read_other.is_text;
+          bases = named-back (names_before plan Bases) f0 f3 plan.bases bases before-bases.after read_bases.is_text;
+        }
 
-  pub all-texts : AreTexts f0 plan plan-texts
-  all-texts = record {
-    sizes = beds.is_sizes;
-    first = beds.is_first;
-    other = beds.is_other;
-    bases = named-back (names_before plan Bases) f0 f1 plan.bases bases beds.read.after read_bases.is_text;
+-- what reading one file answers, with its slot
+pub in-slot-ok : {T P Q : Type 0} (read : Result T FileFault) (answer : Result T (Slot × FileFault)) → IfOk answer (λ value. read ≡ Ok value) → OnOk read P → (P → Q) → OnOk answer Q
+in-slot-ok {T} {P} {Q} read (Ok value) is on leads = leads (subst (λ (r : Result T FileFault). OnOk r P) is on)
+in-slot-ok read (Err why) is on leads = tt
+
+pub in-slot-err : {T : Type 0} {P Q : FileFault → Type 0} (slot : Slot) (read : Result T FileFault) (answer : Result T (Slot × FileFault))
+    → IfErr answer (λ why. (why.0 ≡ slot) × (read ≡ Err why.1)) → IfErr read P → ((why : FileFault) → P why → Q why) → IfErr answer (λ why. (why.0 ≡ slot) × Q why.1)
+in-slot-err slot read (Ok value) is err leads = tt
+in-slot-err {T} {P} {Q} slot read (Err why) is err leads = (is.0, leads why.1 (subst (λ (r : Result T FileFault). IfErr r P) is.1 err))
+
+-- what is reported of files that were read for a plan
+module _ (plan : RunPlan) (r0 r1 r2 r3 : FilesRead) (width : r0.width ≡ plan.width) (limit : r0.files.limit ≡ plan.limit) {first : List ℕ} {other bases : Option (List ℕ)} {wanted : Wanted}
+    (takes_first : TakesFirst first r0 r1) (takes_second : TakesSecond other r1 r2) (takes_bases : TakesFasta wanted bases r2 r3) where
+  width_is : r3.width ≡ plan.width
+  width_is = takes_bases.plan.width ∙ takes_second.plan.width ∙ takes_first.plan.width ∙ width
+
+  pub limit_is : r3.files.limit ≡ plan.limit
+  limit_is = takes_bases.plan.limit ∙ takes_second.plan.limit ∙ takes_first.plan.limit ∙ limit
+
+  columns_are : r3.columns ≡ r0.columns
+  columns_are = takes_bases.plan.columns ∙ takes_second.plan.columns ∙ takes_first.plan.columns
+
+  pub has-files : (for_rows : Bool) (sizes : List ℕ) (said : Result Parsed CliFault) → AreOf None sizes [] None None r0 → AreAskedFor for_rows r2.files.first wanted → said ≡ report_by r3.files r3.damage
+      → HasFiles r0.columns for_rows plan (record { sizes = sizes; first = first; other = other; bases = bases }) said
+  has-files for_rows sizes said begun asked is = record {
+    wanted = wanted;
+    has =
+        subst (λ (r : Result Parsed CliFault). Reports r0.columns wanted r (parsed plan.width sizes first other bases plan.limit)) (sym is)
+        (subst (λ (k : HeldColumns). Reports k wanted (report_by r3.files r3.damage) (parsed plan.width sizes first other bases plan.limit)) columns_are
+        (subst (λ (n : ℕ). Reports r3.columns wanted (report_by r3.files r3.damage) (parsed plan.width sizes first other bases n)) limit_is
+        (subst (λ (w : ℕ). Reports r3.columns wanted (report_by r3.files r3.damage) (parsed w sizes first other bases r3.files.limit)) width_is
+        (takes_bases.are sizes first other (takes_second.are sizes first (takes_first.are sizes begun))))));
+    asked = subst (λ (r : Result Parsed CliFault). IfOk r (λ f. AreAskedFor for_rows f.first wanted)) (sym is) (by r3.damage);
   }
+    where
+      by : (damage : Option CliFault) → IfOk (report_by r3.files damage) (λ f. AreAskedFor for_rows f.first wanted)
+      by None = subst (λ (b : Bed). AreAskedFor for_rows b wanted) (sym takes_bases.first) asked
+      by (Some k) = tt
 
-  -- what is reported of them is so for the texts
-  pub has-texts : (wanted : Wanted) (fasta : Option (Result FoundBases LoadFault)) (said : Result Parsed CliFault) → IsIfNamed (IsFasta wanted files.run_genome.genome) bases fasta
-      → ((w : Wanted) (sizes first : List ℕ) (other found : Option (List ℕ)) → AreOf w sizes first other found (record files { fasta = fasta })
-      → Reports files.run_genome.columns w said (parsed files.run_genome.width sizes first other found files.run_genome.limit))
-      → HasTexts which wanted plan plan-texts said
-  has-texts wanted fasta said named says =
-      let columns = files.run_genome.columns in
-      subst (λ (k : HeldColumns). Reports k wanted said (parsed plan.width beds.sizes beds.first beds.other bases plan.limit)) beds.columns_is
-      (subst (λ (n : ℕ). Reports columns wanted said (parsed plan.width beds.sizes beds.first beds.other bases n)) beds.limit_is
-      (subst (λ (w : ℕ). Reports columns wanted said (parsed w beds.sizes beds.first beds.other bases files.run_genome.limit)) beds.width_is
-      (says wanted beds.sizes beds.first beds.other bases (beds.are.0, beds.are.1, beds.are.2, named))))
+  pub files-limit : (said : Result Parsed CliFault) → said ≡ report_by r3.files r3.damage → IfOk said (λ f. f.limit ≡ plan.limit)
+  files-limit said is = subst (λ (r : Result Parsed CliFault). IfOk r (λ f. f.limit ≡ plan.limit)) (sym is) (by r3.damage)
+    where
+      by : (damage : Option CliFault) → IfOk (report_by r3.files damage) (λ f. f.limit ≡ plan.limit)
+      by None = limit_is
+      by (Some k) = tt
+
+-- files with all bases
+pub all-bases : (plan : RunPlan) (texts : Texts) (files : Result Parsed CliFault) → HasFiles held.All false plan texts files → HasTexts held.All None plan texts files
+all-bases plan texts (Ok files) h = subst (λ (w : Wanted). HasTexts held.All w plan texts (Ok files)) h.asked h.has
+all-bases plan texts (Err k) h = h.has
 
 -- ---- scripts
 

@@ -16,11 +16,11 @@ ghost use Rattle.iv_program.specs.Inside.Runs.{EndsRun, HasEnough, PrintsView, R
 ghost use Rattle.iv_program.specs.Texts.{Texts, AreTexts};
 ghost use Rattle.iv_program.specs.declared.program.Ended.{Ended};
 
-use crate::files::{InputFiles, SlotFault, read_files_of_rows};
+use crate::files::{InputFiles, SlotFault, read_files};
 use crate::script_run::run_session;
 use iv_args::{Notice, Plan};
 use iv_bytes::{Flush, Sink, Source, put_all};
-use iv_run::{CliFault, ExitReason, RunFiles, shot_of_held};
+use iv_run::{CliFault, ExitReason, RunFiles, columns_for, shot_of_held};
 use iv_session::SeesRefusals;
 use std::alloc::Allocator;
 
@@ -100,7 +100,7 @@ fn print_view<A: Allocator + Copy, F: InputFiles, W: Sink>(
     ensures err { IfErr result (λ why. StopsAt plan.now (F.state files.old) (F.state files.new) why.0 why.1) }
     ensures nothing { OnErr result (W.state output.new ≡ W.state output.old) }
 {
-    let read = read_files_of_rows(alloc, files, plan)?;
+    let read = read_files(alloc, files, plan, columns_for(plan), true)?;
     Ok(shot_of_files(alloc, plan, read, output))
 }
 

@@ -13,6 +13,7 @@ use crate::program::Ended;
 use iv_args::Plan;
 use iv_bytes::{Sink, Source};
 use iv_cli::{begin_session, ending_of_run};
+use iv_places::HeldColumns;
 use iv_run::{CliFault, ExitReason, RunFiles};
 use iv_session::{RunFault, ScriptLimits, SeesRefusals, Summary, run_script};
 use std::alloc::Allocator;
@@ -104,6 +105,6 @@ pub(crate) fn run_session<
     ensures nothing { OnErr result (streams (R.state input.new) (W.state output.new) (E.state messages.new)
         ≡ streams (R.state input.old) (W.state output.old) (E.state messages.old)) }
 {
-    let read = read_files(alloc, files, plan)?;
+    let read = read_files(alloc, files, plan, HeldColumns::All, false)?;
     Ok(run_over(alloc, read, plan.limit(), input, output, messages, observer))
 }

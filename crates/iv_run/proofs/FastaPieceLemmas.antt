@@ -1,6 +1,5 @@
 -- A FASTA file that comes in pieces.
-use Rattle.std.proofs.Common.{◌≡◌, ◌∙◌, ◌⊎◌, inl, inr, ℕ, ◌+◌, ◌<◌, ◌≤◌, ◌++◌, List, [], Option, None, Some, Result, Ok, Err, IfOk, IfErr, length, refl, sym, ap, subst, append_assoc, append-nil, length-append, arith}
-use Rattle.std.specs.Option.{option_map, option_transpose}
+use Rattle.std.proofs.Common.{◌≡◌, ◌∙◌, ◌⊎◌, inl, inr, ℕ, ◌+◌, ◌<◌, ◌≤◌, ◌++◌, List, [], None, Result, Ok, Err, IfOk, IfErr, length, refl, sym, ap, append_assoc, append-nil, length-append, arith}
 use Rattle.iv_lines.specs.Genome.{Sequences, AreRanked}
 use Rattle.iv_lines.specs.declared.fault.LoadFault.{LoadFault}
 use Rattle.iv_lines.specs.declared.fault.LoadCause.TheVariants as cause
@@ -8,9 +7,7 @@ use Rattle.iv_fasta.specs.Fasta.{Bases, fasta_of}
 use Rattle.iv_fasta.specs.FastaReading.{Reading, Wanted, only, only_or_fault, read_on, size_of}
 use Rattle.iv_fasta.proofs.SummaryLemmas.{only-all-or-fault}
 use Rattle.iv_run.specs.FastaPieces.{FastaSoFar}
-use Rattle.iv_run.specs.Inside.Shots.{bases_said}
-use Rattle.iv_run.specs.RunFiles.{IsFasta, IsIfNamed}
-use Rattle.iv_run.proofs.LoadLemmas.{IsWhy}
+use Rattle.iv_run.specs.RunFiles.{IsFasta}
 
 module _ (wanted : Wanted) (g : Sequences) where
   -- the bases of the wanted sequences of a file, or its first fault
@@ -58,8 +55,7 @@ module _ (wanted : Wanted) (g : Sequences) where
     fasta-end_fault r f known (inl memory) = inl memory
     fasta-end_fault r f known (inr refused) = inr (ap wanted_of (sym (append-nil text)) ∙ sym (known.1 [] ranked) ∙ refused)
 
--- ---- files that may be left out
-
+-- all bytes at once
 pub fasta-parsed : (g : Sequences) (text : List ℕ) (r : Result Bases LoadFault) → IfOk r (λ f. fasta_of g text ≡ Ok f)
     → IfErr r (λ f. (f ≡ record { line = 0; cause = cause.Memory }) ⊎ (fasta_of g text ≡ Err f)) → IsFasta None g text r
 fasta-parsed g text (Ok f) ok err = only-all-or-fault (fasta_of g text) ∙ ok
@@ -69,33 +65,10 @@ fasta-parsed g text (Err f) ok (inr refused) = inr (only-all-or-fault (fasta_of 
 -- ---- a FASTA file of which wanted sequences are held
 
 -- its fault is that of the whole file
-whole-fault : (wanted : Wanted) (r : Result Bases LoadFault) (f : LoadFault) → only_or_fault wanted r ≡ Err f → r ≡ Err f
+pub whole-fault : (wanted : Wanted) (r : Result Bases LoadFault) (f : LoadFault) → only_or_fault wanted r ≡ Err f → r ≡ Err f
 whole-fault wanted (Ok fasta) f is = cc
 whole-fault wanted (Err e) f is = is
 
-whole-bases : (wanted : Wanted) (r : Result Bases LoadFault) (found : Bases) → only_or_fault wanted r ≡ Ok found → (whole : Bases) × (r ≡ Ok whole) × (found ≡ only wanted whole)
+pub whole-bases : (wanted : Wanted) (r : Result Bases LoadFault) (found : Bases) → only_or_fault wanted r ≡ Ok found → (whole : Bases) × (r ≡ Ok whole) × (found ≡ only wanted whole)
 whole-bases wanted (Ok fasta) found is = let same : only wanted fasta ≡ found = cc in (fasta, refl, sym same)
 whole-bases wanted (Err e) found is = cc
-
-module _ (g : Sequences) (wanted : Wanted) where
-  pub wanted-why : (text : Option (List ℕ)) (held : Option (Result Bases LoadFault)) (why : LoadFault) → IsIfNamed (IsFasta wanted g) text held → option_transpose held ≡ Err why → IsWhy why (bases_said g text)
-  wanted-why None held why named is = absurd (cc (sym (ap (λ (o : Option (Result Bases LoadFault)). option_transpose o) named) ∙ is))
-  wanted-why (Some text) None why named is = absurd named
-  wanted-why (Some text) (Some (Ok found)) why named is = absurd (cc is)
-  wanted-why (Some text) (Some (Err f)) why named is = let same : f ≡ why = cc is in subst (λ (k : LoadFault). IsWhy k (bases_said g (Some text))) same (by named)
-    where
-      by : IsWhy f (only_or_fault wanted (fasta_of g text)) → IsWhy f (bases_said g (Some text))
-      by (inl memory) = inl memory
-      by (inr e) = inr (ap (λ (r : Result Bases LoadFault). option_transpose (Some r)) (whole-fault wanted (fasta_of g text) f e))
-
-  pub wanted-found : (text : Option (List ℕ)) (held : Option (Result Bases LoadFault)) (found : Option Bases) → IsIfNamed (IsFasta wanted g) text held → option_transpose held ≡ Ok found
-      → (whole : Option Bases) × (bases_said g text ≡ Ok whole) × (found ≡ option_map (only wanted) whole)
-  wanted-found None held found named is =
-      let none : None ≡ found = cc (sym (ap (λ (o : Option (Result Bases LoadFault)). option_transpose o) named) ∙ is) in
-      (None, refl, sym none)
-  wanted-found (Some text) None found named is = absurd named
-  wanted-found (Some text) (Some (Err f)) found named is = absurd (cc is)
-  wanted-found (Some text) (Some (Ok held)) found named is =
-      let whole = whole-bases wanted (fasta_of g text) held named in
-      let some : Some held ≡ found = cc is in
-      (Some whole.0, ap (λ (r : Result Bases LoadFault). option_transpose (Some r)) whole.1, sym some ∙ ap Some whole.2)

@@ -5,5 +5,5 @@ mod IntervalsAlone
 pub mod PieceLemmas
 pub mod ColumnsLemmas
 pub mod WantedLemmas
-mod RunFilesLemmas
+pub mod FilesReadingLemmas
 pub mod FastaPieceLemmas

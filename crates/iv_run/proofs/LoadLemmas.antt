@@ -1,5 +1,5 @@
 -- Damaged files.
-use Rattle.std.proofs.Common.{◌≡◌, ℕ, List, Option, Some, Result, Ok, Err, refl, sym, ap, subst, ◌∙◌, ◌⊎◌, inl, inr}
+use Rattle.std.proofs.Common.{◌≡◌, ℕ, List, Option, Result, Ok, Err, refl, sym, ap, subst, ◌∙◌, ◌⊎◌, inl, inr}
 use Rattle.iv_lines.specs.Genome.{Sequences}
 use Rattle.iv_lines.specs.GenomeFile.{genome_of}
 use Rattle.iv_text.specs.BedFile.{Bed, bed_of}
@@ -17,7 +17,6 @@ use Rattle.iv_lines.specs.Chains.{if_ok, map_fault}
 use Rattle.iv_run.specs.Inside.Shots.{bases_said, second_of}
 use Rattle.iv_run.specs.Loading.{IsAnswer, Parsed, parsed, fault_of, damage_of}
 use Rattle.iv_text.specs.BedReading.{held_or_fault}
-use Rattle.iv_run.specs.RunFiles.{GenomeRead, IsGenomeOf, IsGenomeBy}
 
 -- a fault is reported as damage, unless it is out of memory
 reported : (c : LoadCause) (damaged : CliFault) → (c ≡ cause.Memory) ⊎ (fault_of c damaged ≡ damaged)
@@ -96,13 +95,3 @@ pub kept-why : (which : HeldColumns) (r : Result Bed LoadFault) (f : LoadFault) 
 kept-why which r f (inl memory) = inl memory
 kept-why which (Ok bed) f (inr is) = cc
 kept-why which (Err e) f (inr is) = let same : e ≡ f = cc in inr (ap Err same)
-
--- the genome file is damaged
-pub says-no_sizes : (sizes : List ℕ) (known : GenomeRead) (k : CliFault) → known.damage ≡ Some k → (f : LoadFault) × (k ≡ damage_of Sizes f) × IsWhy f (genome_of sizes) → IsGenomeOf sizes known
-says-no_sizes sizes known k is why = subst (IsGenomeBy sizes known) (sym is) (subst Reports (sym why.1) (reported-by Sizes why.0 Damages (λ e text other bases. ap (with_genome known.width text other bases known.limit) e) why.2))
-  where
-    Damages : CliFault → Type 0
-    Damages j = (text : List ℕ) (other bases : Option (List ℕ)) → parsed known.width sizes text other bases known.limit ≡ Err j
-
-    Reports : CliFault → Type 0
-    Reports j = (j ≡ Memory) ⊎ Damages j

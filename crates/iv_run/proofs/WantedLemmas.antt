@@ -1,5 +1,5 @@
 -- A run for which only the bases of sequences that a record is on are held.
-use Rattle.std.proofs.Common.{◌≡◌, ◌∙◌, ℕ, ◌++◌, Bool, true, List, [], ◌∷◌, All, Option, None, Some, Result, Ok, Err, IfOk, unwrap_or, refl, sym, ap, ap₂, subst}
+use Rattle.std.proofs.Common.{◌≡◌, ◌∙◌, ℕ, ◌++◌, Bool, true, List, [], ◌∷◌, Option, None, Some, Result, Ok, Err, unwrap_or, refl, sym, ap, ap₂, subst}
 use Rattle.std.specs.List.{flat_map}
 use Rattle.std.specs.Option.{is_some, option_map}
 use Rattle.std.proofs.lemmas.List.Elements.{All-head, All-tail}
@@ -9,7 +9,6 @@ use Rattle.iv_lines.specs.Genome.{Sequences}
 use Rattle.iv_lines.specs.Ordered.{ordered}
 use Rattle.iv_lines.specs.RecordValue.{RecordValue}
 use Rattle.iv_lines.specs.declared.fault.Fault.{Fault}
-use Rattle.iv_lines.specs.declared.fault.LoadFault.{LoadFault}
 use Rattle.iv_lines.proofs.OrderedLemmas.{ordered-all}
 use Rattle.iv_fasta.specs.Fasta.{Bases}
 use Rattle.iv_fasta.specs.FastaReading.{Wanted, is_wanted, only}
@@ -29,7 +28,7 @@ use Rattle.iv_run.specs.Inside.Prints.{Prints}
 use Rattle.iv_run.specs.Inside.Shots.{ordered_other, text_beside, view_beside}
 use Rattle.iv_run.specs.Loading.{Parsed, fault_of_arguments}
 use Rattle.iv_run.specs.Columns.{AreEnough, AskForIntervals}
-use Rattle.iv_run.specs.RunFiles.{AreWanted, AreWantedOf, Reports, held_files}
+use Rattle.iv_run.specs.RunFiles.{AreWanted, Reports, held_files}
 use Rattle.iv_run.specs.Shots.{Shows}
 use Rattle.iv_run.specs.declared.fault.CliFault.{CliFault}
 use Rattle.iv_run.proofs.ColumnsLemmas.{alone}
@@ -38,12 +37,6 @@ use Rattle.iv_run.proofs.ShotLemmas.{shown_of, shows-fault, shows-text}
 -- if all sequences are wanted, so is that of each record
 pub any-wanted : (records : List RecordValue) → AreWanted None records
 any-wanted records = λ k e within. refl
-
--- so are those of a first file, if that is the one of sound files
-pub files-wanted : (wanted : Wanted) (first : Result Bed LoadFault) (files : Result Parsed CliFault) → IfOk files (λ f. first ≡ Ok f.first) → AreWantedOf wanted first
-    → IfOk files (λ f. AreWanted wanted f.first.records)
-files-wanted wanted first (Ok f) is are = subst (AreWantedOf wanted) is are
-files-wanted wanted first (Err k) is are = tt
 
 -- ---- rows
 

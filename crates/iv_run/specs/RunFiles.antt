@@ -1,11 +1,9 @@
 -- The files of a run once they are read.
-use Rattle.std.specs.Prelude.{◌≡◌, ◌⊎◌, ℕ, ◌≤◌, true, List, Option, None, Some, All, length, Result, Ok, Err, IfOk}
+use Rattle.std.specs.Prelude.{◌≡◌, ◌⊎◌, ⊤, ℕ, Bool, true, false, List, [], Option, None, Some, All, Result, Ok, Err}
 use Rattle.std.specs.Option.{option_map}
 use Rattle.iv_text.specs.BedFile.{Bed}
 use Rattle.iv_lines.specs.Genome.{Sequences}
-use Rattle.iv_lines.specs.GenomeFile.{genome_of}
 use Rattle.iv_text.specs.BedReading.{held_bed_of}
-use Rattle.iv_lines.specs.Read.{Fits}
 use Rattle.iv_lines.specs.RecordValue.{RecordValue}
 use Rattle.iv_places.specs.HeldColumns.{held_bed}
 use Rattle.iv_places.specs.declared.held_columns.HeldColumns.{HeldColumns}
@@ -16,37 +14,13 @@ use Rattle.iv_run.specs.Loading.{IsAnswer, Parsed, parsed}
 use Rattle.iv_run.specs.declared.fault.CliFault.{CliFault}
 use Rattle.iv_run.specs.declared.fault.CliFault.TheVariants.{Memory}
 
--- the genome on which BED files are read; the report of a damaged genome file; which width a BED file without a record has, how many
--- records each may have, and which of their columns are held
-pub record GenomeRead : Type 0 where
-  pub genome : Sequences
+-- the files of a run while they are read: those that were read so far; the report of the first damaged one; which width a BED file without
+-- a record has, and which columns of BED files are held
+pub record FilesRead : Type 0 where
+  pub files : Parsed
   pub damage : Option CliFault
   pub width : ℕ
-  pub limit : ℕ
   pub columns : HeldColumns
-
--- the genome; the records of each BED file, or its fault; and the bases of the FASTA file, or its fault
-pub record FilesRead : Type 0 where
-  pub run_genome : GenomeRead
-  pub first : Result Bed LoadFault
-  pub second : Option (Result Bed LoadFault)
-  pub fasta : Option (Result Bases LoadFault)
-
--- the genome file of these bytes is sound; or this is the report of all files, whatever the others are
-abbrev pub IsGenomeBy : List ℕ → GenomeRead → Option CliFault → Type 0
-IsGenomeBy sizes run_genome None = genome_of sizes ≡ Ok run_genome.genome
-IsGenomeBy sizes run_genome (Some k) =
-    (k ≡ Memory) ⊎ ((first : List ℕ) (second fasta_text : Option (List ℕ)) → parsed run_genome.width sizes first second fasta_text run_genome.limit ≡ Err k)
-
--- this is the genome file of these bytes
-abbrev pub IsGenomeOf : List ℕ → GenomeRead → Type 0
-IsGenomeOf sizes run_genome = IsGenomeBy sizes run_genome run_genome.damage
-
--- a file that may be left out is there if it has a text, and is that of it
-abbrev pub IsIfNamed : {H : Type 0} → (List ℕ → H → Type 0) → Option (List ℕ) → Option H → Type 0
-IsIfNamed is_of None held = held ≡ None
-IsIfNamed is_of (Some text) None = ⊥
-IsIfNamed is_of (Some text) (Some held) = is_of text held
 
 -- these are the bases of the wanted sequences of the FASTA file of a text on this genome, or its first fault, or out of memory
 abbrev pub IsFasta : Wanted → Sequences → List ℕ → Result Bases LoadFault → Type 0
@@ -56,35 +30,9 @@ IsFasta wanted g text file = IsAnswer file (only_or_fault wanted (fasta_of g tex
 abbrev pub AreWanted : Wanted → List RecordValue → Type 0
 AreWanted wanted records = All (λ r. is_wanted wanted r.seq ≡ true) records
 
--- so is each of a first file, unless it is damaged
-abbrev pub AreWantedOf : Wanted → Result Bed LoadFault → Type 0
-AreWantedOf wanted first = IfOk first (λ file. AreWanted wanted file.records)
-
--- these sequences are wanted for the rows of a first file, or without one all
-abbrev pub AreAskedFor : Option (Result Bed LoadFault) → Wanted → Type 0
-AreAskedFor None wanted = wanted ≡ None
-AreAskedFor (Some first) wanted = AreWantedOf wanted first
-
--- the records are of the file's width, and on the genome, and they are not more than the limit
-pub record AreOn (g : Sequences) (limit : ℕ) (file : Bed) : Type 0 where
-  pub fit : All (Fits g file.width) file.records
-  pub few : length file.records ≤ limit
-
--- so are those of a file, unless it is damaged
-abbrev pub IsOn : Sequences → ℕ → Result Bed LoadFault → Type 0
-IsOn g limit held = IfOk held (AreOn g limit)
-
 -- this is the BED file of a text, with only the columns that are held, or its first fault, or out of memory
 abbrev pub IsParsed : HeldColumns → Sequences → ℕ → ℕ → List ℕ → Result Bed LoadFault → Type 0
 IsParsed which g width limit text file = IsAnswer file (held_bed_of which g width limit text)
-
--- the files are those of these bytes, with only the columns of BED files that are held, and with the bases of the wanted sequences
-abbrev pub AreOf : Wanted → List ℕ → List ℕ → Option (List ℕ) → Option (List ℕ) → FilesRead → Type 0
-AreOf wanted sizes first second fasta_text files =
-    let run = files.run_genome in
-    IsGenomeOf sizes run × IsParsed run.columns run.genome run.width run.limit first files.first
-    × IsIfNamed (IsParsed run.columns run.genome run.width run.limit) second files.second
-    × IsIfNamed (IsFasta wanted run.genome) fasta_text files.fasta
 
 -- files with only the columns of BED files that are held, and with the bases of the wanted sequences alone
 abbrev pub held_files : HeldColumns → Wanted → Parsed → Parsed
@@ -99,3 +47,50 @@ held_files which wanted files = record files {
 abbrev pub Reports : HeldColumns → Wanted → Result Parsed CliFault → Result Parsed CliFault → Type 0
 Reports which wanted (Ok files) said = (whole : Parsed) × (said ≡ Ok whole) × (files ≡ held_files which wanted whole)
 Reports which wanted (Err k) said = (k ≡ Memory) ⊎ (said ≡ Err k)
+
+-- the files that were read, or the report of the first damaged one
+abbrev pub report_by : Parsed → Option CliFault → Result Parsed CliFault
+report_by files None = Ok files
+report_by files (Some k) = Err k
+
+-- the files so far are those of these bytes, as they are held: one that isn't read yet counts as empty, or as not named
+abbrev pub AreOf : Wanted → List ℕ → List ℕ → Option (List ℕ) → Option (List ℕ) → FilesRead → Type 0
+AreOf wanted sizes first second fasta_text read =
+    Reports read.columns wanted (report_by read.files read.damage) (parsed read.width sizes first second fasta_text read.files.limit)
+
+-- one more file was read, for the same plan
+pub record AreForOne (old new : FilesRead) : Type 0 where
+  pub width : new.width ≡ old.width
+  pub limit : new.files.limit ≡ old.files.limit
+  pub columns : new.columns ≡ old.columns
+
+-- the first file was read, and has these bytes; if no file is damaged, it is that of these bytes on the genome
+pub record TakesFirst (text : List ℕ) (old new : FilesRead) : Type 0 where
+  pub plan : AreForOne old new
+  pub sound : new.damage ≡ None → IsParsed old.columns old.files.genome old.width old.files.limit text (Ok new.files.first)
+  pub are : (sizes : List ℕ) → AreOf None sizes [] None None old → AreOf None sizes text None None new
+
+-- what is held of a file that is named is that of its bytes
+abbrev pub IsIfNamed : {H : Type 0} → (List ℕ → H → Type 0) → Option (List ℕ) → Option H → Type 0
+IsIfNamed is_of None held = ⊤
+IsIfNamed is_of (Some text) None = ⊥
+IsIfNamed is_of (Some text) (Some held) = is_of text held
+
+-- the second file was read, if there is one, and has these bytes; if no file is damaged, it is that of these bytes
+pub record TakesSecond (text : Option (List ℕ)) (old new : FilesRead) : Type 0 where
+  pub plan : AreForOne old new
+  pub sound : new.damage ≡ None → IsIfNamed (λ bytes file. IsParsed old.columns old.files.genome old.width old.files.limit bytes (Ok file)) text new.files.second
+  pub are : (sizes first : List ℕ) → AreOf None sizes first None None old → AreOf None sizes first text None new
+
+-- the FASTA file was read, if there is one, and has these bytes; the bases of the wanted sequences are held, and if no file is damaged,
+-- they are those of these bytes
+pub record TakesFasta (wanted : Wanted) (text : Option (List ℕ)) (old new : FilesRead) : Type 0 where
+  pub plan : AreForOne old new
+  pub sound : new.damage ≡ None → IsIfNamed (λ bytes found. IsFasta wanted old.files.genome bytes (Ok found)) text new.files.bases
+  pub first : new.files.first ≡ old.files.first
+  pub are : (sizes first : List ℕ) (second : Option (List ℕ)) → AreOf None sizes first second None old → AreOf wanted sizes first second text new
+
+-- these sequences are wanted: for rows those that are on a record of this first file, or else all
+abbrev pub AreAskedFor : Bool → Bed → Wanted → Type 0
+AreAskedFor false first wanted = wanted ≡ None
+AreAskedFor true first wanted = AreWanted wanted first.records

@@ -15,9 +15,6 @@ use iv_lines::{Genome, LoadFault};
 use iv_places::HeldColumns;
 use std::alloc::Allocator;
 
-/// The bases of a FASTA file, or its first fault.
-pub type HeldFasta<A> = Result<Fasta<A>, LoadFault>;
-
 /// Takes the next bytes, unless there was a fault before.
 fn take_bytes<A: Allocator + Copy>(
     genome: &Genome<A>,
@@ -36,7 +33,7 @@ fn take_bytes<A: Allocator + Copy>(
 fn finish_fasta<A: Allocator + Copy>(
     genome: &Genome<A>,
     so_far: Result<FastaReader<A>, LoadFault>,
-) -> HeldFasta<A>
+) -> Result<Fasta<A>, LoadFault>
     requires few { IfOk so_far (λ r. size_of r < 2 ^ 64) }
     ensures { (wanted : Wanted) (text : List ℕ) → FastaSoFar wanted genome.now text so_far → IsFasta wanted genome.now text result }
 {
@@ -68,7 +65,7 @@ pub(crate) fn read_fasta<A: Allocator + Copy, R: Source>(
     wanted: Option<Vec<bool, A>>,
     source: &mut R,
     most: u64,
-) -> Result<HeldFasta<A>, FileFault>
+) -> Result<Result<Fasta<A>, LoadFault>, FileFault>
     requires { most < 2 ^ 63 }
     ensures ok { IfOk result (λ held. (text : List ℕ) × ReadsWhole (R.state source.old) (R.state source.new) most text × IsFasta (option_map (λ ranks. ranks.items) wanted) genome.now text held) }
     ensures err { IfErr result (λ why. StopsReading (R.state source.old) (R.state source.new) most why) }

@@ -1,6 +1,6 @@
 //! Files that are read from a source to their ends: all their bytes, or what is held of a file.
 ghost use Rattle.std.specs.Prelude.{◌≡◌, ◌↔◌, ◌<◌, ◌≤◌, ◌+◌, ◌^◌, ◌++◌, ℕ, List, [], false, length, None, Some, Result, IfOk, IfErr, OnOk};
-ghost use Rattle.std.specs.Option.{option_copied, option_map};
+ghost use Rattle.std.specs.Option.{option_map};
 ghost use Rattle.iv_bytes.specs.Sources.{SourceState};
 ghost use Rattle.iv_text.specs.BedReading.{AreSoundLines, size_of};
 ghost use Rattle.iv_lines.specs.Genome.{Sequences};
@@ -8,9 +8,10 @@ ghost use Rattle.iv_lines.specs.Widths.{IsWidth};
 ghost use Rattle.iv_fasta.specs.FastaReading.{Wanted};
 ghost use Rattle.iv_places.specs.declared.held_columns.HeldColumns.{HeldColumns};
 ghost use Rattle.iv_run.specs.Files.{ReadsWhole, StopsReading};
+ghost use Rattle.iv_run.specs.Inside.FilesReading.{IsOn};
 ghost use Rattle.iv_run.specs.Inside.Files.{EndsReading, HadMemory, IsPieceFault, IsTooLong};
 ghost use Rattle.iv_run.specs.Pieces.{SaysSoFar};
-ghost use Rattle.iv_run.specs.RunFiles.{AreAskedFor, IsOn, IsParsed};
+ghost use Rattle.iv_run.specs.RunFiles.{AreAskedFor, IsParsed};
 ghost use Rattle.iv_run.specs.declared.fault.FileFault.{FileFault};
 ghost use Rattle.iv_run.specs.declared.fault.FileFault.TheVariants as fault;
 
@@ -119,9 +120,6 @@ pub(crate) fn read_pieces<P: TakesPieces<A>, A: Allocator + Copy, R: Source>(
     }
 }
 
-/// The records of a BED file at their places, or its first fault.
-pub type HeldRecords<A> = Result<Places<A>, LoadFault>;
-
 /// Takes the next bytes, unless there was a fault before.
 pub(crate) fn take_next<A: Allocator + Copy>(
     genome: &Genome<A>,
@@ -147,7 +145,7 @@ pub(crate) fn finish<A: Allocator + Copy>(
     empty_width: u8,
     limit: u32,
     columns: HeldColumns,
-) -> HeldRecords<A>
+) -> Result<Places<A>, LoadFault>
     requires width { IsWidth empty_width }
     requires sound { IfOk so_far (λ d. AreSoundLines columns genome.now limit d.read) }
     requires few { IfOk so_far (λ d. size_of d < 2 ^ 64) }
@@ -167,7 +165,7 @@ pub(crate) fn parse_bed<A: Allocator + Copy>(
     limit: u32,
     columns: HeldColumns,
     text: &[u8],
-) -> HeldRecords<A>
+) -> Result<Places<A>, LoadFault>
     requires { IsWidth empty_width }
     ensures says { IsParsed columns genome.now empty_width limit text.now result }
     ensures is_on { IsOn genome.now limit result }
@@ -190,21 +188,21 @@ impl<A: Allocator + Copy> TakesPieces<A> for Result<BedReader<A>, LoadFault> {
     }
 }
 
-/// Of which sequences of a FASTA file the bases have to be held for the rows of this first file: those of the ranks at which a list
-/// says so. Without a first file there is no list, and it is all sequences.
+/// Of which sequences of a FASTA file the bases have to be held: if it is for rows, those of the ranks at which a list says so, which are
+/// those of the records of this first file. Else there is no list, and it is all sequences.
 ///
 /// # Errors
 ///
 /// An allocation failed.
 pub(crate) fn wanted_for<A: Allocator + Copy>(
     alloc: A,
-    first: Option<&HeldRecords<A>>,
+    for_rows: bool,
+    first: &Places<A>,
 ) -> Result<Option<Vec<bool, A>>, AllocError>
-    ensures { IfOk result (λ wanted. AreAskedFor (option_copied first.entry) (option_map (λ ranks. ranks.items) wanted)) }
+    ensures { IfOk result (λ wanted. AreAskedFor for_rows first.now (option_map (λ ranks. ranks.items) wanted)) }
 {
-    match first {
-        None => Ok(None),
-        Some(Ok(file)) => Ok(Some(file.ranks(alloc)?)),
-        Some(Err(_)) => Ok(Some(Vec::new(alloc))),
+    if !for_rows {
+        return Ok(None);
     }
+    Ok(Some(first.ranks(alloc)?))
 }

@@ -4,7 +4,7 @@ use crate::wrong_devices::{Place, manner};
 use iv_args::{Plan, Slot};
 use iv_bytes::StdSource;
 use iv_cli::begin_session;
-use iv_run::{ExitReason, RunGenome, sound_files};
+use iv_run::{ExitReason, FilesReader};
 use iv_text::HeldColumns;
 use std::alloc::Allocator;
 use std::test::Fail;
@@ -24,17 +24,14 @@ fn read_in<A: Allocator + Copy>(
     second: &mut Stream<'_>,
     most: u32,
 ) -> Result<u32, ExitReason> {
-    let run_genome = RunGenome::begin(alloc, plan, b"chr1\t100\n", 100, HeldColumns::All);
-    let first = match run_genome.read(&mut StdSource::new(first), u64::from(most)) {
-        Ok(first) => first,
-        Err(fault) => return Err(ExitReason::from((Slot::First, fault))),
-    };
-    let second = match run_genome.read(&mut StdSource::new(second), u64::from(most)) {
-        Ok(second) => Some(second),
-        Err(fault) => return Err(ExitReason::from((Slot::Other, fault))),
-    };
-    let files = sound_files(run_genome, first, second, None)?;
-    Ok(begin_session(files)?.len())
+    let mut reader = FilesReader::begin(alloc, plan, b"chr1\t100\n", 100, HeldColumns::All);
+    if let Err(fault) = reader.read_first(&mut StdSource::new(first), u64::from(most)) {
+        return Err(ExitReason::from((Slot::First, fault)));
+    }
+    if let Err(fault) = reader.read_second(&mut StdSource::new(second), u64::from(most)) {
+        return Err(ExitReason::from((Slot::Other, fault)));
+    }
+    Ok(begin_session(reader.finish()?)?.len())
 }
 
 /// The same with all memory.

@@ -1,5 +1,5 @@
 -- What is known of the files of a plan, what their texts mean, and what a run of it does.
-use Rattle.std.specs.Prelude.{◌≡◌, ◌⊎◌, ℕ, Bool, true, false, List, [], Option, None, Result, Ok, Err, MatchResult, IfOk}
+use Rattle.std.specs.Prelude.{◌≡◌, ◌⊎◌, ℕ, Bool, true, false, List, [], Result, Ok, Err, MatchResult, IfOk}
 use Rattle.iv_bytes.specs.Sinks.{SinkState, Takes, FailsIn, waiting}
 use Rattle.iv_places.specs.declared.held_columns.HeldColumns.{HeldColumns}
 use Rattle.iv_fasta.specs.FastaReading.{Wanted}
@@ -8,21 +8,20 @@ use Rattle.iv_session.specs.declared.script.RunFault.{RunFault}
 use Rattle.iv_session.specs.declared.script.Summary.{Summary}
 use Rattle.iv_args.specs.Arguments.{RunPlan, is_session}
 use Rattle.iv_args.specs.declared.plan.Slot.{Slot}
-use Rattle.iv_args.specs.declared.plan.Slot.TheVariants.{Bases}
 use Rattle.iv_args.specs.declared.subcommand.Subcommand.TheVariants as kind
 use Rattle.iv_run.specs.Shots.{Shows, shown}
 use Rattle.iv_run.specs.Loading.{Parsed, parsed}
 use Rattle.iv_run.specs.Columns.{AreEnough}
-use Rattle.iv_run.specs.RunFiles.{AreOf, AreWanted, FilesRead, Reports}
+use Rattle.iv_run.specs.RunFiles.{AreAskedFor, AreWanted, Reports}
 use Rattle.iv_run.specs.declared.fault.CliFault.{CliFault}
 use Rattle.iv_run.specs.declared.fault.FileFault.{FileFault}
 use Rattle.iv_run.specs.ExitReasons.{ending_after, ending_of, ending_of_file, is_through, line_of}
 use Rattle.iv_run.specs.declared.exit_reason.ExitReason.{ExitReason}
 use Rattle.iv_run.specs.declared.exit_reason.ExitReason.TheVariants as exit_reason
-use Rattle.iv_program.specs.Files.{FilesState, IsText, after_reading}
-use Rattle.iv_program.specs.Inside.Files.{AreRead, StopsAt, names_of}
+use Rattle.iv_program.specs.Files.{after_reading}
+use Rattle.iv_program.specs.Inside.Files.{StopsAt, names_of}
 use Rattle.iv_program.specs.Runs.{World, DoesWith, HasRead, HasNotRead}
-use Rattle.iv_program.specs.Texts.{Texts, AreTexts, IsTextIfNamed, names_before}
+use Rattle.iv_program.specs.Texts.{Texts, AreTexts}
 
 -- the files of a plan, once they are read, are those of these texts, with only the columns of BED files that are held, and with the bases
 -- of the wanted sequences; or this is the fault of the first damaged one
@@ -37,20 +36,11 @@ pub record HasEnough (plan : RunPlan) (texts : Texts) (files : Result Parsed Cli
   pub columns : AreEnough which plan.view
   pub bases : IfOk files (λ f. AreWanted wanted f.first.records)
 
--- the genome file and the BED files of a plan were read, in the order of their slots, and these are their texts, with the records of BED
--- files which
-pub record HasBeds (which : HeldColumns) (plan : RunPlan) (old new : FilesState) (files : FilesRead) : Type 0 where
-  pub sizes : List ℕ
-  pub first : List ℕ
-  pub other : Option (List ℕ)
-  pub is_sizes : IsText old plan.sizes sizes
-  pub is_first : IsText old plan.first first
-  pub is_other : IsTextIfNamed old plan.other other
-  pub read : AreRead (names_before plan Bases) old new
-  pub width_is : files.run_genome.width ≡ plan.width
-  pub limit_is : files.run_genome.limit ≡ plan.limit
-  pub columns_is : files.run_genome.columns ≡ which
-  pub are : AreOf None sizes first other None files
+-- so it is, with these columns, and with the bases that are asked for
+pub record HasFiles (which : HeldColumns) (for_rows : Bool) (plan : RunPlan) (texts : Texts) (files : Result Parsed CliFault) : Type 0 where
+  pub wanted : Wanted
+  pub has : HasTexts which wanted plan texts files
+  pub asked : IfOk files (λ f. AreAskedFor for_rows f.first wanted)
 
 -- the view of a plan was printed for its texts, or its first fault is reported
 abbrev pub PrintsView : RunPlan → Texts → SinkState → SinkState → ExitReason → Type 0

@@ -1,24 +1,63 @@
+use Rattle.std.proofs.Common.{◌∙◌, ℕ, List, [], None, refl, subst}
 use Rattle.iv_lines.proofs.PieceLemmas.{handed-on}
-use Rattle.iv_args.specs.declared.plan.Slot.TheVariants.{Bases}
-use Rattle.iv_places.specs.declared.held_columns.HeldColumns.TheVariants as held
-use Rattle.iv_program.proofs.RunLemmas.{all-read, all-texts, has-texts, plan-texts, stops-at}
+use Rattle.iv_args.specs.declared.plan.Slot.TheVariants.{Sizes, First, Other, Bases}
+use Rattle.iv_places.specs.declared.held_columns.HeldColumns.{HeldColumns}
+use Rattle.iv_run.specs.RunFiles.{AreOf}
+use Rattle.iv_program.specs.Inside.Runs.{HasFiles}
+use Rattle.iv_program.proofs.RunLemmas.{all-read, all-texts, before-bases, before-first, before-other, has-files, none-read, plan-texts, stops-at}
 use Rattle.iv_program.proofs.files.read_files.Goals as goal
 
-pub returns-in_err-fasta-clause-err : goal.returns-in_err-fasta-clause-err
-returns-in_err-fasta-clause-err g c =
-    let why = c.in_err-fasta.ensures.err in
-    handed-on c.from_residual-in_err-fasta.result _ _ c.from_residual-in_err-fasta.ensures.1
-    (stops-at c.args.plan.now Bases why.1.0 (g.F.InputFiles.state c.read_fasta.new.files) _ _ why.0 why.1.1 c.in_ok-run_genome.ensures.ok.read why.1.2)
+pub returns-in_err-sizes-clause-err : goal.returns-in_err-sizes-clause-err
+returns-in_err-sizes-clause-err g c =
+    let why = c.in_err-sizes.ensures.err in
+    handed-on c.from_residual.result _ _ c.from_residual.ensures.1
+    (stops-at c.args.plan.now Sizes c.args.plan.now.sizes (g.F.InputFiles.state c.read_file.new.files) _ _ why.0 refl
+    (none-read (g.F.InputFiles.state c.args.files.now)) (rw (why.1, c.sizes_file.ensures) at c.read_file.ensures.err))
+
+pub returns-in_err-in_slot-clause-err : goal.returns-in_err-in_slot-clause-err
+returns-in_err-in_slot-clause-err g c =
+    let sizes = rw (c.in_ok-sizes.ensures.ok, c.sizes_file.ensures) at c.read_file.ensures.ok in
+    let why = c.in_err-in_slot.ensures.err in
+    handed-on c.from_residual-in_err-in_slot.result _ _ c.from_residual-in_err-in_slot.ensures.1
+    (stops-at c.args.plan.now First c.args.plan.now.first (g.F.InputFiles.state c.read_first.new.files) _ _ why.0 refl
+    (before-first c.args.plan.now sizes) (rw (why.1, c.first_file.ensures) at c.read_first.ensures.err))
+
+pub returns-in_err-read_second_if_named-clause-err : goal.returns-in_err-read_second_if_named-clause-err
+returns-in_err-read_second_if_named-clause-err g c =
+    let sizes = rw (c.in_ok-sizes.ensures.ok, c.sizes_file.ensures) at c.read_file.ensures.ok in
+    let first = rw (c.in_ok-in_slot.ensures.ok, c.first_file.ensures) at c.read_first.ensures.ok in
+    let why = c.in_err-read_second_if_named.ensures.err in
+    handed-on c.from_residual-in_err-read_second_if_named.result _ _ c.from_residual-in_err-read_second_if_named.ensures.1
+    (stops-at c.args.plan.now Other why.1.0 (g.F.InputFiles.state c.read_second_if_named.new.files) _ _ why.0 why.1.1 (before-other c.args.plan.now sizes first.1) why.1.2)
+
+pub returns-in_err-read_fasta_if_named-clause-err : goal.returns-in_err-read_fasta_if_named-clause-err
+returns-in_err-read_fasta_if_named-clause-err g c =
+    let sizes = rw (c.in_ok-sizes.ensures.ok, c.sizes_file.ensures) at c.read_file.ensures.ok in
+    let first = rw (c.in_ok-in_slot.ensures.ok, c.first_file.ensures) at c.read_first.ensures.ok in
+    let second = c.in_ok-read_second_if_named.ensures.ok in
+    let why = c.in_err-read_fasta_if_named.ensures.err in
+    handed-on c.from_residual-in_err-read_fasta_if_named.result _ _ c.from_residual-in_err-read_fasta_if_named.ensures.1
+    (stops-at c.args.plan.now Bases why.1.0 (g.F.InputFiles.state c.read_fasta_if_named.new.files) _ _ why.0 why.1.1 (before-bases c.args.plan.now sizes first.1 second.1) why.1.2)
 
 pub returns-clause-ok : goal.returns-clause-ok
 returns-clause-ok g c =
     let plan = c.args.plan.now in
-    let beds = c.in_ok-run_genome.ensures.ok in
-    let fasta = c.in_ok-fasta.ensures.ok in
-    (plan-texts held.All plan beds fasta.3, all-texts held.All plan beds fasta.3, rw fasta.2 at (has-texts held.All plan beds fasta.3 fasta.0 _ c.sound_files.result fasta.4 c.sound_files.ensures.says))
-
-pub returns-clause-limit : goal.returns-clause-limit
-returns-clause-limit g c = rw c.in_ok-run_genome.ensures.ok.limit_is at c.sound_files.ensures.limit
+    let sizes = rw (c.in_ok-sizes.ensures.ok, c.sizes_file.ensures) at c.read_file.ensures.ok in
+    let first = rw (c.in_ok-in_slot.ensures.ok, c.first_file.ensures) at c.read_first.ensures.ok in
+    let second = c.in_ok-read_second_if_named.ensures.ok in
+    let fasta = c.in_ok-read_fasta_if_named.ensures.ok in
+    let begun = c.begin-reader in
+    let says = subst (λ (l : List ℕ). AreOf None l [] None None begun.result) c.as_slice.ensures.value begun.ensures.says in
+    let texts = plan-texts plan sizes first.1 second.1 fasta.3 in (
+      texts,
+      all-texts plan sizes first.1 second.1 fasta.3,
+      subst (λ (which : HeldColumns). HasFiles which c.args.for_rows plan texts c.finish.result) begun.ensures.columns
+          (has-files plan begun.result c.read_first.new.reader c.read_second_if_named.new.reader c.read_fasta_if_named.new.reader begun.ensures.width (begun.ensures.limit ∙ c.limit.ensures.value)
+          first.2 second.2 fasta.4 c.args.for_rows c.in_ok-sizes.sizes.items c.finish.result says fasta.2 c.finish.ensures),
+    )
 
 pub returns-clause-after : goal.returns-clause-after
-returns-clause-after g c = all-read held.All c.args.plan.now c.in_ok-run_genome.ensures.ok c.in_ok-fasta.ensures.ok.3
+returns-clause-after g c =
+    let sizes = rw (c.in_ok-sizes.ensures.ok, c.sizes_file.ensures) at c.read_file.ensures.ok in
+    let first = rw (c.in_ok-in_slot.ensures.ok, c.first_file.ensures) at c.read_first.ensures.ok in
+    all-read c.args.plan.now sizes first.1 c.in_ok-read_second_if_named.ensures.ok.1 c.in_ok-read_fasta_if_named.ensures.ok.3
