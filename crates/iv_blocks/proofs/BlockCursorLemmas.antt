@@ -1,17 +1,10 @@
 -- Blocks that are read one by one, as long as they pass a test.
-use Rattle.std.proofs.Common.{◌≡◌, ℕ, suc, ◌+◌, ◌++◌, Bool, true, false, List, [], ◌∷◌, inl, inr, map, Option, Some, None, refl, sym, ◌∙◌, ap, arith}
-use Rattle.std.specs.Map.Iter.{TakesFirst}
+use Rattle.std.proofs.Common.{◌≡◌, ℕ, suc, ◌+◌, ◌++◌, Bool, true, false, List, [], ◌∷◌, inl, inr, Option, Some, None, refl, ◌∙◌, ap, arith}
 use Rattle.std.specs.List.{take_while, prefix_len}
 use Rattle.std.specs.Option.{is_some}
 use Rattle.iv_lines.specs.declared.interval.Interval.{Interval}
 use Rattle.iv_lines.proofs.ListLemmas.{Mem}
-use Rattle.iv_blocks.specs.Inside.BlockCursor.{interval_of, ahead_of, BeginsElse, GivesPassing, drop_while, TakesForEach}
-use Rattle.iv_blocks.specs.KeptBlocks.{Entries}
-
--- what is read ahead, and what is left, are all
-pub ahead-read : (old new : Entries) (given : Option Interval) → TakesFirst (λ (b : Interval). b) (map interval_of old) given (map interval_of new) → ahead_of given new ≡ map interval_of old
-ahead-read old new None took = took.1 ∙ sym took.0
-ahead-read old new (Some b) took = sym took
+use Rattle.iv_blocks.specs.Inside.BlockCursor.{BeginsElse, GivesPassing, drop_while, TakesForEach}
 
 module _ (test : Interval → Bool) where
   pub take-first : (blocks after : List Interval) (b : Interval) → blocks ≡ b ∷ after → test b ≡ true → take_while test blocks ≡ b ∷ take_while test after

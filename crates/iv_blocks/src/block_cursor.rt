@@ -41,13 +41,14 @@ pub(crate) struct BlockCursor<'a, A: Allocator + Copy> {
 }
 
 impl<'a, A: Allocator + Copy> Model for BlockCursor<'a, A> {
-    ghost use Rattle.std.specs.Prelude.{◌≡◌, List, [], None};
+    ghost use Rattle.std.specs.Prelude.{◌≡◌, List, [], None, map};
     ghost use Rattle.iv_lines.specs.declared.interval.Interval.{Interval};
-    ghost use Rattle.iv_blocks.specs.Inside.BlockCursor.{ahead_of};
+    ghost use Rattle.iv_cover.specs.RecordWalks.{ahead_of};
+    ghost use Rattle.iv_blocks.specs.Inside.BlockCursor.{interval_of};
 
     ghost Value = { List Interval };
 
-    ghost view = { λ a. ahead_of a.next a.walk };
+    ghost view = { λ a. ahead_of a.next (map interval_of a.walk) };
 
     ghost invariant = { λ a. a.next ≡ None → a.walk ≡ [] };
 }

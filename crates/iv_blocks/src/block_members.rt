@@ -1,11 +1,11 @@
 //! The records that are in a block.
 ghost use Rattle.std.specs.Prelude.{◌≡◌, ◌≤◌, take, length};
 ghost use Rattle.iv_ledger.specs.Steps.{TakesUpTo};
+ghost use Rattle.std.specs.Option.{option_map};
 ghost use Rattle.iv_cover.specs.RecordWalks.{GivesRecord};
-ghost use Rattle.iv_blocks.specs.Inside.JoinedBlocks.{ahead_of};
+ghost use Rattle.iv_cover.specs.RecordWalks.{ahead_of};
 
-use crate::joined_blocks::{next_of, record_again};
-use iv_cover::RecordWalk;
+use iv_cover::{RecordWalk, ahead_again, next_of};
 use std::marker::Model;
 
 /// The records that are in a block, one after another, on a walk of their own: so many of those that a walk had left before it.
@@ -13,7 +13,7 @@ use std::marker::Model;
 /// The model is the list of those that are left. No call takes memory.
 #[derive(Drop)]
 pub(crate) struct BlockMembers<W: RecordWalk> {
-    // The record that was put back, before those of the walk.
+    // The record that was read ahead, before those of the walk.
     first: Option<W::Record>,
     records: W,
     count: u64,
@@ -22,20 +22,21 @@ pub(crate) struct BlockMembers<W: RecordWalk> {
 impl<W: RecordWalk> Model for BlockMembers<W> {
     ghost use Rattle.std.specs.Prelude.{◌≤◌, List, length, take};
     ghost use Rattle.iv_lines.specs.RecordValue.{RecordValue};
-    ghost use Rattle.iv_blocks.specs.Inside.JoinedBlocks.{ahead_of};
+    ghost use Rattle.std.specs.Option.{option_map};
+    ghost use Rattle.iv_cover.specs.RecordWalks.{ahead_of};
 
     ghost Value = { List RecordValue };
 
-    ghost view = { λ m. take m.count (ahead_of W.value m.first (W.left m.records)) };
+    ghost view = { λ m. take m.count (ahead_of (option_map W.value m.first) (W.left m.records)) };
 
-    ghost invariant = { λ m. m.count ≤ length (ahead_of W.value m.first (W.left m.records)) };
+    ghost invariant = { λ m. m.count ≤ length (ahead_of (option_map W.value m.first) (W.left m.records)) };
 }
 
 impl<W: RecordWalk> BlockMembers<W> {
-    /// So many records from the front: the one that was put back, if there is one, and those of the walk.
+    /// So many records from the front: the one that was read ahead, if there is one, and those of the walk.
     pub(crate) fn of(first: Option<W::Record>, records: W, count: u64) -> Self
-        requires { count ≤ length (ahead_of W.value first (W.left records)) }
-        ensures { result ≡ take count (ahead_of W.value first (W.left records)) }
+        requires { count ≤ length (ahead_of (option_map W.value first) (W.left records)) }
+        ensures { result ≡ take count (ahead_of (option_map W.value first) (W.left records)) }
     {
         BlockMembers {
             first,
@@ -68,7 +69,7 @@ impl<W: RecordWalk> BlockMembers<W> {
         ensures { result ≡ self.now }
     {
         BlockMembers::of(
-            record_again::<W>(&self.first),
+            ahead_again::<W>(&self.first),
             self.records.again(),
             self.count,
         )

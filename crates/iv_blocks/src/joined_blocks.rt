@@ -6,12 +6,11 @@ ghost use Rattle.iv_lines.specs.Read.{IsOnGenome};
 ghost use Rattle.iv_lines.specs.RecordValue.{RecordValue};
 ghost use Rattle.iv_ledger.specs.Steps.{TakesUpTo};
 ghost use Rattle.iv_cover.specs.Inside.RemainingBlocks.{remaining_blocks};
-ghost use Rattle.iv_cover.specs.RecordWalks.{GivesRecord};
 ghost use Rattle.iv_cover.specs.Inside.TrackBlocks.{blocks_of, GivesFirst};
-ghost use Rattle.iv_blocks.specs.Inside.JoinedBlocks.{GivesBlock, IsFirstOf, ahead_of, first_start};
+ghost use Rattle.iv_blocks.specs.Inside.JoinedBlocks.{GivesBlock, IsFirstOf, first_start};
 
 use crate::block_members::BlockMembers;
-use iv_cover::RecordWalk;
+use iv_cover::{RecordWalk, ahead_again, look_ahead, next_of};
 use iv_lines::Interval;
 use std::marker::Model;
 
@@ -31,12 +30,13 @@ pub(crate) struct JoinedBlocks<W: RecordWalk> {
 impl<W: RecordWalk> Model for JoinedBlocks<W> {
     ghost use Rattle.std.specs.Prelude.{List, None};
     ghost use Rattle.iv_cover.specs.Inside.RemainingBlocks.{remaining_blocks};
-    ghost use Rattle.iv_blocks.specs.Inside.JoinedBlocks.{ahead_of};
+    ghost use Rattle.std.specs.Option.{option_map};
+    ghost use Rattle.iv_cover.specs.RecordWalks.{ahead_of};
     ghost use Rattle.iv_cover.specs.Inside.TrackBlocks.{BlockWithMembers};
 
     ghost Value = { List BlockWithMembers };
 
-    ghost view = { λ b. remaining_blocks b.distance None (ahead_of W.value b.ahead (W.left b.records)) };
+    ghost view = { λ b. remaining_blocks b.distance None (ahead_of (option_map W.value b.ahead) (W.left b.records)) };
 }
 
 impl<W: RecordWalk> JoinedBlocks<W> {
@@ -70,7 +70,7 @@ impl<W: RecordWalk> JoinedBlocks<W> {
     ) -> Option<(Interval, BlockMembers<W>)>
         ensures { GivesBlock self.old result self.new }
     {
-        let first = record_again::<W>(&self.ahead);
+        let first = ahead_again::<W>(&self.ahead);
         let records = self.records.again();
         let (block, count) = self.next_counted(meter)?;
         Some((block, BlockMembers::of(first, records, count)))
@@ -107,45 +107,5 @@ impl<W: RecordWalk> JoinedBlocks<W> {
             count += 1;
         }
         Some((block, count))
-    }
-}
-
-/// The record that was put back, or the next of the walk. At most one step.
-#[inline(always)]
-pub(crate) fn next_of<W: RecordWalk>(
-    ahead: &mut Option<W::Record>,
-    records: &mut W,
-    meter: &mut W::Meter,
-) -> Option<W::Record>
-    ensures none { ahead.new ≡ None }
-    ensures first { GivesRecord W.value (ahead_of W.value ahead.old (W.left records.old)) result (W.left records.new) }
-    ensures steps { TakesUpTo (W.steps meter.old) (W.steps meter.new) 1 }
-{
-    match ahead.take() {
-        Some(record) => Some(record),
-        None => records.next(meter),
-    }
-}
-
-/// Reads the next record of the walk, if none was put back, and puts it back. At most one step.
-#[inline(always)]
-fn look_ahead<W: RecordWalk>(ahead: &mut Option<W::Record>, records: &mut W, meter: &mut W::Meter)
-    ensures same { ahead_of W.value ahead.new (W.left records.new) ≡ ahead_of W.value ahead.old (W.left records.old) }
-    ensures none { ahead.new ≡ None → W.left records.new ≡ [] }
-    ensures steps { TakesUpTo (W.steps meter.old) (W.steps meter.new) 1 }
-{
-    if ahead.is_some() {
-        return;
-    }
-    *ahead = records.next(meter);
-}
-
-/// A record that was put back, once more.
-pub(crate) fn record_again<W: RecordWalk>(ahead: &Option<W::Record>) -> Option<W::Record>
-    ensures { (records : List RecordValue) → ahead_of W.value result records ≡ ahead_of W.value ahead.now records }
-{
-    match ahead {
-        Some(record) => Some(W::record_again(record)),
-        None => None,
     }
 }

@@ -5,6 +5,7 @@ pub mod Cover
 pub mod Positions
 pub mod Swept
 pub mod WalkLemmas
+pub mod ReadAheadLemmas
 pub mod RemainingLemmas
 pub mod Meanings
 pub mod DepthLemmas

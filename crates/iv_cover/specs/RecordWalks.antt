@@ -6,3 +6,8 @@ use Rattle.iv_lines.specs.RecordValue.{RecordValue}
 abbrev pub GivesRecord : {R : Type 0} → (R → RecordValue) → List RecordValue → Option R → List RecordValue → Type 0
 GivesRecord value old None new = (old ≡ []) × (new ≡ [])
 GivesRecord value old (Some r) new = old ≡ value r ∷ new
+
+-- what was read ahead, if there is something, and those that are left
+abbrev pub ahead_of : {T : Type 0} → Option T → List T → List T
+ahead_of None items = items
+ahead_of (Some item) items = item ∷ items

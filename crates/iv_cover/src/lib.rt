@@ -7,6 +7,7 @@ mod kept;
 mod lemmas;
 mod number;
 mod op;
+mod read_ahead;
 mod record_walk;
 mod result_texts;
 mod summaries;
@@ -21,6 +22,7 @@ pub use lemmas::{
 };
 pub use number::ParsedNumber;
 pub use op::Op;
+pub use read_ahead::{ahead_again, look_ahead, next_of};
 pub use record_walk::RecordWalk;
 pub use result_texts::{results, results_in, summary};
 pub use summaries::put_results;

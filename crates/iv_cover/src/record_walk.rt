@@ -58,6 +58,7 @@ impl<'a, A: Allocator + Copy> RecordWalk for TrackRecords<'a, A> {
 
     ghost steps = { λ meter. meter };
 
+    #[inline(always)]
     fn next(&mut self, meter: &mut Meter) -> Option<RecordRef<'a>> {
         self.next(meter)
     }
@@ -66,11 +67,13 @@ impl<'a, A: Allocator + Copy> RecordWalk for TrackRecords<'a, A> {
         self.again()
     }
 
+    #[inline(always)]
     fn interval(given: &RecordRef<'a>) -> Interval {
         given.lemma_of_interval();
         Interval::of(given)
     }
 
+    #[inline(always)]
     fn record_again(given: &RecordRef<'a>) -> RecordRef<'a> {
         given.again()
     }

@@ -1,5 +1,5 @@
 -- The records of one sequence, taken one after another from a walk.
-use Rattle.std.proofs.Common.{◌≡◌, ◌≢◌, ℕ, ◌<◌, ◌≤◌, ◌==◌, List, [], ◌∷◌, ◌++◌, All, map, filter, nat_lt, true, false, refl, sym, ap, ◌∙◌, subst, arith, inl, inr, append_assoc, Option, Some, None, eq-eqb, lt-ltb, le-ltb}
+use Rattle.std.proofs.Common.{◌≡◌, ◌≢◌, ℕ, ◌<◌, ◌≤◌, ◌==◌, List, [], ◌∷◌, ◌++◌, All, map, filter, nat_lt, true, false, refl, sym, ap, ◌∙◌, subst, arith, inl, inr, append_assoc, eq-eqb, lt-ltb, le-ltb}
 use Rattle.std.proofs.lemmas.Bool.{ne_eqb}
 use Rattle.std.proofs.lemmas.List.{map-append}
 use Rattle.std.proofs.lemmas.List.Elements.{All-head, All-tail, All-nil, All-push}
@@ -10,24 +10,8 @@ use Rattle.iv_lines.specs.RecordValue.{RecordValue, record_cmp}
 use Rattle.iv_lines.proofs.InOrderLemmas.{all-recursion}
 use Rattle.iv_lines.proofs.ListLemmas.{Mem, mem-all}
 use Rattle.iv_lines.proofs.PrecedesLemmas.{precedes-from}
-use Rattle.std.specs.Option.{option_map}
 use Rattle.iv_cover.specs.Blocks.{start_of, stop_of}
-use Rattle.iv_cover.specs.RecordWalks.{GivesRecord}
-use Rattle.iv_depth.specs.Inside.SequenceEdges.{Gathered, IsReadAhead, WritesSequence}
-use Rattle.iv_depth.specs.Inside.Walks.{ahead_of}
-
--- ---- what was read ahead of a walk
-
--- a call gave what is read ahead
-pub given-ahead : {R : Type 0} (value : R → RecordValue) (old new : List RecordValue) (o : Option R) → GivesRecord value old o new → old ≡ ahead_of (option_map value o) new
-given-ahead value old new None h = h.0 ∙ sym h.1
-given-ahead value old new (Some r) h = h
-
-pub given-read : {R : Type 0} (value : R → RecordValue) (old new : List RecordValue) (o : Option R) → GivesRecord value old o new → IsReadAhead o new
-given-read value old new None h = h.1
-given-read value old new (Some r) h = tt
-
--- ---- one record after another
+use Rattle.iv_depth.specs.Inside.SequenceEdges.{Gathered, WritesSequence}
 
 -- records on the sequence were taken, and where they start and stop is written; those that are left are on it or on later ones
 pub record IsTaking (seq : ℕ) (all left : List RecordValue) (starts stops : List ℕ) : Type 0 where

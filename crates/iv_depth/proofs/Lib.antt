@@ -1,7 +1,6 @@
 pub mod ChangesLemmas
 pub mod BoundLemmas
 pub mod Stretches
-pub mod RemainingLemmas
 pub mod Breaks
 pub mod Sequences
 pub mod Genomes

@@ -51,7 +51,7 @@ pub(crate) struct ChangeCursor<'a, A: Allocator + Copy> {
 impl<'a, A: Allocator + Copy> Model for ChangeCursor<'a, A> {
     ghost use Rattle.std.specs.Prelude.{◌≡◌, [], None};
     ghost use Rattle.iv_depth.specs.Changes.{Entries};
-    ghost use Rattle.iv_depth.specs.Inside.Walks.{ahead_of};
+    ghost use Rattle.iv_cover.specs.RecordWalks.{ahead_of};
 
     ghost Value = { Entries };
 

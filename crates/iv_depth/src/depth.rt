@@ -58,7 +58,7 @@ impl<A: Allocator + Copy> Kept<A> for Depth<A> {
     ) -> Result<Depth<A>, AllocError> {
         let count = track.len() as usize;
         let records = track.walk(0, 0, meter);
-        let mut sequences = SequenceEdges::of(alloc, records, count, meter)?;
+        let mut sequences = SequenceEdges::of(alloc, records, count)?;
         let mut built = LedgerBuilder::new(alloc)?;
         for seq in 0..genome.count() {
             sequences.gather(seq, meter);

@@ -61,7 +61,7 @@ impl<'t, A: Allocator + Copy> DepthSweep<'t, A> {
         records.lemma_of_few();
         let count = records.len();
         Ok(DepthSweep {
-            sequences: SequenceEdges::of(alloc, records, count, &mut ())?,
+            sequences: SequenceEdges::of(alloc, records, count)?,
         })
     }
 

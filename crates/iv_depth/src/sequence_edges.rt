@@ -4,16 +4,16 @@ ghost use Rattle.iv_lines.specs.Ordered.{AreInOrder};
 ghost use Rattle.iv_depth.specs.Inside.SequenceEdges.{TakesSequence, WritesSequence};
 
 use crate::edges::Edges;
-use iv_cover::RecordWalk;
+use iv_cover::{RecordWalk, next_of};
 use iv_places::order_neighbors;
 use std::alloc::{AllocError, Allocator, Global};
 use std::marker::Model;
 
 /// The records that are left of a walk, and where those of one sequence start and where they stop.
 #[derive(Drop)]
-pub struct SequenceEdges<W: RecordWalk, A: Allocator = Global> {
+pub(crate) struct SequenceEdges<W: RecordWalk, A: Allocator = Global> {
     records: W,
-    // The record that comes before those.
+    // The record that was read ahead of those: it was on a later sequence.
     ahead: Option<W::Record>,
     starts: Vec<u32, A>,
     stops: Vec<u32, A>,
@@ -22,8 +22,8 @@ pub struct SequenceEdges<W: RecordWalk, A: Allocator = Global> {
 impl<W: RecordWalk, A: Allocator> Model for SequenceEdges<W, A> {
     ghost use Rattle.std.specs.Prelude.{◌≤◌, length, vec_capacity};
     ghost use Rattle.std.specs.Option.{option_map};
-    ghost use Rattle.iv_depth.specs.Inside.SequenceEdges.{Gathered, IsReadAhead};
-    ghost use Rattle.iv_depth.specs.Inside.Walks.{ahead_of};
+    ghost use Rattle.iv_cover.specs.RecordWalks.{ahead_of};
+    ghost use Rattle.iv_depth.specs.Inside.SequenceEdges.{Gathered};
 
     ghost Value = { Gathered };
 
@@ -31,28 +31,21 @@ impl<W: RecordWalk, A: Allocator> Model for SequenceEdges<W, A> {
 
     ghost invariant = { λ e.
         let few = length (ahead_of (option_map W.value e.ahead) (W.left e.records)) in
-        IsReadAhead e.ahead (W.left e.records) × (few ≤ vec_capacity e.starts) × (few ≤ vec_capacity e.stops) };
+        (few ≤ vec_capacity e.starts) × (few ≤ vec_capacity e.stops) };
 }
 
 impl<W: RecordWalk, A: Allocator + Copy> SequenceEdges<W, A> {
     /// Before the first of at most `count` records. It takes all the memory that it will need: 8 bytes for each, of which those of the
     /// records of one sequence are used.
-    pub(crate) fn of(
-        alloc: A,
-        records: W,
-        count: usize,
-        meter: &mut W::Meter,
-    ) -> Result<Self, AllocError>
+    pub(crate) fn of(alloc: A, records: W, count: usize) -> Result<Self, AllocError>
         requires { length (W.left records) ≤ count }
         ensures { IfOk result (λ e. e.left ≡ W.left records) }
     {
-        let mut records = records;
         let starts = Vec::with_capacity(alloc, count)?;
         let stops = Vec::with_capacity(alloc, count)?;
-        let ahead = records.next(meter);
         Ok(SequenceEdges {
             records,
-            ahead,
+            ahead: None,
             starts,
             stops,
         })
@@ -79,8 +72,7 @@ impl<W: RecordWalk, A: Allocator + Copy> SequenceEdges<W, A> {
         requires stops { self.old.stops ≡ [] }
         ensures { WritesSequence seq self.old self.new }
     {
-        let mut next = self.ahead.take();
-        while let Some(record) = next {
+        while let Some(record) = next_of(&mut self.ahead, &mut self.records, meter) {
             let interval = W::interval(&record);
             if interval.seq != seq {
                 self.ahead = Some(record);
@@ -88,7 +80,6 @@ impl<W: RecordWalk, A: Allocator + Copy> SequenceEdges<W, A> {
             }
             self.starts.push_reserved(interval.start);
             self.stops.push_reserved(interval.stop);
-            next = self.records.next(meter);
         }
     }
 

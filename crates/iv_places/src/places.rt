@@ -145,7 +145,7 @@ impl<A: Allocator + Copy> Places<A> {
         )
     }
 
-    /// Which sequences have a record, by rank. The list ends with the last one that has.
+    /// Which sequences have a record, by rank. A rank past the end of the list has none.
     ///
     /// # Errors
     ///

@@ -37,6 +37,7 @@ impl<'a, A: Allocator + Copy> Model for TrackRecords<'a, A> {
 
 impl<'a, A: Allocator + Copy> TrackRecords<'a, A> {
     /// The next record, `None` after the last. A call is at most one step.
+    #[inline(always)]
     pub fn next(&mut self, meter: &mut Meter) -> Option<RecordRef<'a>>
         ensures feature { YieldsFirst (λ records. records) self.old result self.new }
         ensures steps { TakesUpTo meter.old meter.new 1 }
@@ -74,6 +75,7 @@ impl<'a, A: Allocator + Copy> TrackRecords<'a, A> {
 }
 
 /// The next copy of the record that came last, if there is one.
+#[inline(always)]
 fn next_held<'a>(held: &mut Option<(RecordRef<'a>, u32)>) -> Option<RecordRef<'a>>
     ensures { YieldsFirst again held.old result held.new }
 {

@@ -1,20 +1,15 @@
 -- A walk over kept blocks, one read ahead. This is the state of a print, as seen by its proof.
-use Rattle.std.specs.Prelude.{◌≡◌, ℕ, zero, suc, ◌+◌, ◌≤◌, ◌==◌, ◌&&◌, ◌||◌, nat_le, nat_lt, Bool, true, false, if◌then◌else◌, List, [], ◌∷◌, ◌++◌, Option, Some, None, map, length, drop}
+use Rattle.std.specs.Prelude.{◌≡◌, ℕ, zero, suc, ◌+◌, ◌≤◌, ◌==◌, ◌&&◌, ◌||◌, nat_le, nat_lt, Bool, true, false, if◌then◌else◌, List, [], ◌∷◌, ◌++◌, Option, Some, None, length, drop}
 use Rattle.std.specs.List.{flat_map, prefix_len, take_while}
 use Rattle.iv_lines.specs.Genome.{Sequences, sequence_length, sequence_name}
 use Rattle.iv_cover.specs.Runs.{Run}
 use Rattle.iv_lines.specs.declared.interval.Interval.{Interval}
 use Rattle.iv_blocks.specs.ComplementRows.{gap_row}
-use Rattle.iv_blocks.specs.KeptBlocks.{Key, Kept, Entries}
+use Rattle.iv_blocks.specs.KeptBlocks.{Key, Kept}
 
 -- the interval of a kept block
 abbrev pub interval_of : Key × Kept → Interval
 interval_of e = record { seq = e.0.0; start = e.0.2; stop = e.1.stop }
-
--- the block that was read ahead, if there is one, and those that are left
-abbrev pub ahead_of : Option Interval → Entries → List Interval
-ahead_of None entries = map interval_of entries
-ahead_of (Some b) entries = b ∷ map interval_of entries
 
 -- the block starts at this position of the sequence of this rank, or before it
 abbrev pub starts_until : ℕ → ℕ → Interval → Bool

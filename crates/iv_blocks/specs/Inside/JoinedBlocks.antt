@@ -4,11 +4,6 @@ use Rattle.iv_lines.specs.RecordValue.{RecordValue}
 use Rattle.iv_lines.specs.declared.interval.Interval.{Interval}
 use Rattle.iv_cover.specs.Inside.TrackBlocks.{BlockWithMembers, with_members}
 
--- the record that was put back, if there is one, and those that are left
-abbrev pub ahead_of : {R : Type 0} → (R → RecordValue) → Option R → List RecordValue → List RecordValue
-ahead_of value None records = records
-ahead_of value (Some r) records = value r ∷ records
-
 -- a call gave the first of the blocks, and how many records are in it, or none if none is left
 abbrev pub IsFirstOf : List BlockWithMembers → Option (Interval × ℕ) → List BlockWithMembers → Type 0
 IsFirstOf old None new = (old ≡ []) × (new ≡ [])

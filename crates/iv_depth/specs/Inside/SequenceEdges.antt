@@ -1,15 +1,10 @@
 -- Where the records of a walk start and where they stop, sequence by sequence. This is the state of a sweep and of a build, as seen by
 -- their proofs.
-use Rattle.std.specs.Prelude.{◌≡◌, ℕ, nat_lt, List, [], Option, Some, None, map, filter, ⊤}
+use Rattle.std.specs.Prelude.{◌≡◌, ℕ, nat_lt, List, map, filter}
 use Rattle.iv_lines.specs.RecordValue.{RecordValue}
 use Rattle.iv_lines.specs.CoveredPositions.{on}
 use Rattle.iv_cover.specs.Blocks.{start_of, stop_of}
 use Rattle.iv_depth.specs.Inside.Edges.{AreStopsOf}
-
--- one was read ahead, unless none is left
-abbrev pub IsReadAhead : {R : Type 0} → Option R → List RecordValue → Type 0
-IsReadAhead None records = records ≡ []
-IsReadAhead (Some r) records = ⊤
 
 -- the records that are left, and where those of one sequence start and stop
 pub record Gathered : Type 0 where

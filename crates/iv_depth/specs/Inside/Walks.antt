@@ -1,16 +1,11 @@
 -- A walk over changes of depth, sequence by sequence. This is the state of a print, as seen by its proof.
-use Rattle.std.specs.Prelude.{◌≡◌, ◌≢◌, ℕ, ◌+◌, ◌==◌, ◌<◌, ◌≤◌, ◌^◌, if◌then◌else◌, nat_le, List, [], ◌∷◌, Option, Some, None, ℤ, pos, ◌+ℤ◌, All}
+use Rattle.std.specs.Prelude.{◌≡◌, ◌≢◌, ℕ, ◌+◌, ◌==◌, ◌<◌, ◌≤◌, ◌^◌, if◌then◌else◌, nat_le, List, [], ◌∷◌, ℤ, pos, ◌+ℤ◌, All}
 use Rattle.std.specs.Int.RustNames.{unsigned_abs}
 use Rattle.std.specs.List.{AllByRecursion}
 use Rattle.std.specs.Map.{values_of}
 use Rattle.iv_lines.specs.Genome.{Sequences, sequence_length}
 use Rattle.iv_ledger.specs.Entries.{IsLedger, pair_cmp}
 use Rattle.iv_depth.specs.Changes.{Entries, total, reaches}
-
--- what was read ahead, if there is something, and those that are left
-abbrev pub ahead_of : {T : Type 0} → Option T → List T → List T
-ahead_of None items = items
-ahead_of (Some item) items = item ∷ items
 
 -- the depth to which changes sum up to p
 abbrev pub depth_by : Entries → ℕ → ℕ → ℕ

@@ -1,7 +1,7 @@
 use Rattle.std.proofs.Common.{◌∙◌, ap, map}
 use Rattle.iv_blocks.specs.Inside.BlockCursor.{interval_of}
 use Rattle.iv_blocks.specs.KeptBlocks.{KeptBlocks, Entries}
-use Rattle.iv_blocks.proofs.BlockCursorLemmas.{ahead-read}
+use Rattle.iv_cover.proofs.ReadAheadLemmas.{ahead-read}
 use Rattle.iv_blocks.proofs.block_cursor.BlockCursor.of.Goals as goal
 
 pub returns-clause-all : goal.returns-clause-all

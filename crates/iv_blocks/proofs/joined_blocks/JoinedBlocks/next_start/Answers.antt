@@ -1,6 +1,8 @@
 use Rattle.std.proofs.Common.{◌∙◌, None, Some, sym, ap}
+use Rattle.std.specs.Option.{option_map}
 use Rattle.iv_lines.specs.declared.interval.Interval.{Interval}
-use Rattle.iv_blocks.specs.Inside.JoinedBlocks.{ahead_of, first_start}
+use Rattle.iv_cover.specs.RecordWalks.{ahead_of}
+use Rattle.iv_blocks.specs.Inside.JoinedBlocks.{first_start}
 use Rattle.iv_cover.specs.Inside.RemainingBlocks.{remaining_blocks}
 use Rattle.iv_blocks.proofs.JoinedBlocksLemmas.{remaining-start}
 use Rattle.iv_blocks.proofs.joined_blocks.JoinedBlocks.next_start.Goals as goal
@@ -14,6 +16,6 @@ returns-clause-start g c =
     ∙ sym (
     ap first_start
     (sym c.self.view_is
-    ∙ ap (remaining_blocks distance None) (sym c.look_ahead.ensures.same ∙ ap (λ o. ahead_of g.W.RecordWalk.value o left) (sym c.in_ok-as_ref.ensures.value)))
+    ∙ ap (remaining_blocks distance None) (sym c.look_ahead.ensures.same ∙ ap (λ o. ahead_of (option_map g.W.RecordWalk.value o) left) (sym c.in_ok-as_ref.ensures.value)))
     ∙ remaining-start distance first left
     )

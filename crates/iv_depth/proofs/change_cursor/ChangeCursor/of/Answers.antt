@@ -1,5 +1,5 @@
 use Rattle.std.proofs.Common.{◌∙◌}
-use Rattle.iv_depth.proofs.RemainingLemmas.{ahead-read}
+use Rattle.iv_cover.proofs.ReadAheadLemmas.{ahead-read}
 use Rattle.iv_depth.proofs.change_cursor.ChangeCursor.of.Goals as goal
 
 pub returns-clause-all : goal.returns-clause-all

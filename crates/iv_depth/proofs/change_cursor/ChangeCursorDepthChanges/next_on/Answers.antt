@@ -2,8 +2,8 @@ use Rattle.std.proofs.Common.{◌≡◌, ◌∙◌, ℕ, ◌∷◌, sym, ap, sub
 use Rattle.std.specs.Prelude.{ℤ}
 use Rattle.std.proofs.lemmas.Int.{to_z-of_z}
 use Rattle.iv_depth.specs.Changes.{ChangeKey, Entries}
-use Rattle.iv_depth.specs.Inside.Walks.{ahead_of}
-use Rattle.iv_depth.proofs.RemainingLemmas.{ahead-read}
+use Rattle.iv_cover.specs.RecordWalks.{ahead_of}
+use Rattle.iv_cover.proofs.ReadAheadLemmas.{ahead-read}
 use Rattle.iv_depth.proofs.Sequences.{BeginsElsewhere, AreAhead-next, AreAhead-past}
 use Rattle.iv_depth.proofs.change_cursor.ChangeCursorDepthChanges.next_on.Goals as goal
 

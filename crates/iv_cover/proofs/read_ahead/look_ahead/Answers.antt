@@ -1,7 +1,7 @@
 use Rattle.std.proofs.Common.{◌∙◌, sym, subst}
 use Rattle.iv_cover.specs.RecordWalks.{GivesRecord}
-use Rattle.iv_blocks.proofs.JoinedBlocksLemmas.{given-ahead, none-ahead}
-use Rattle.iv_blocks.proofs.joined_blocks.look_ahead.Goals as goal
+use Rattle.iv_cover.proofs.ReadAheadLemmas.{given-ahead, none-ahead}
+use Rattle.iv_cover.proofs.read_ahead.look_ahead.Goals as goal
 
 pub returns-clause-same : goal.returns-clause-same
 returns-clause-same g c =
