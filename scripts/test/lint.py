@@ -28,9 +28,12 @@ TOP = Path(__file__).resolve().parent.parent.parent
 OPENING, CLOSING = "([{", ")]}"
 REFUSED = re.compile(r"\b(NoMemory|Memory|AllocError)\b")
 RENAMED = re.compile(r"\b(NoMemory|Memory|AllocError|Meter)\s+as\b")
-METER = re.compile(r"\bMeter\s*>?\s*::\s*new\b")
+METER = re.compile(r"\bMeter\s*>?\s*::\s*new\b|::\s*meter\s*\(\s*\)")
 MAKES_A_METER = {
+    "iv_cover/src/record_walk.rt": {"meter"},
+    "iv_pair/src/hit_finder.rt": {"of"},
     "iv_pair/src/hits.rt": {"of"},
+    "iv_pair/src/pair_rows.rt": {"put_pair"},
     "iv_pair/src/second.rt": {"new", "hits"},
     "iv_session/src/line.rt": {"run_request"},
     "iv_workspace/src/session/edits.rt": {"edit"},
@@ -187,7 +190,9 @@ def meters_made(place, code):
         return
     makers = MAKES_A_METER.get(place, set())
     functions = list(bodies(code, "fn"))
-    loops = [body for _, body in bodies(code, "for|while|loop")]
+    # the `for` of an `impl` is no loop
+    looped = re.sub(r"\bimpl\b[^{;]*", lambda m: m.group().replace(" for ", "     "), code)
+    loops = [body for _, body in bodies(looped, "for|while|loop")]
     seen = set()
     for m in METER.finditer(code):
         around = [(start, head) for head, (start, end) in functions if start <= m.start() < end]
@@ -262,6 +267,7 @@ PLANTED = [
     ("iv_cover", "fn f() -> u64 { <Meter>::new().steps() }", METERS),
     ("iv_cover", "type Count = iv_ledger::Meter;", OTHER_NAME),
     ("iv_depth", "impl Changes for Cursor { type Meter = Meter; }", None),
+    ("iv_blocks", "fn f<W: RecordWalk>() { g(&mut W::meter()); }", METERS),
     ("iv_depth", "fn f<C: Changes>() { g(C::Meter::new()); }", METERS),
     ("iv_track", "fn from_records<A>(a: A) -> Meter { Meter::new() }", METERS),
     ("iv_workspace", "fn may() { g(Meter::new()); g(Meter::new()); }", METERS),

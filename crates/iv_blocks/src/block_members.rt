@@ -27,16 +27,16 @@ impl<W: RecordWalk> Model for BlockMembers<W> {
 
     ghost Value = { List RecordValue };
 
-    ghost view = { λ m. take m.count (ahead_of (option_map W.value m.first) (W.left m.records)) };
+    ghost view = { λ m. take m.count (ahead_of (option_map W.Record.as_record m.first) (W.left m.records)) };
 
-    ghost invariant = { λ m. m.count ≤ length (ahead_of (option_map W.value m.first) (W.left m.records)) };
+    ghost invariant = { λ m. m.count ≤ length (ahead_of (option_map W.Record.as_record m.first) (W.left m.records)) };
 }
 
 impl<W: RecordWalk> BlockMembers<W> {
     /// So many records from the front: the one that was read ahead, if there is one, and those of the walk.
     pub(crate) fn of(first: Option<W::Record>, records: W, count: u64) -> Self
-        requires { count ≤ length (ahead_of (option_map W.value first) (W.left records)) }
-        ensures { result ≡ take count (ahead_of (option_map W.value first) (W.left records)) }
+        requires { count ≤ length (ahead_of (option_map W.Record.as_record first) (W.left records)) }
+        ensures { result ≡ take count (ahead_of (option_map W.Record.as_record first) (W.left records)) }
     {
         BlockMembers {
             first,
@@ -54,7 +54,7 @@ impl<W: RecordWalk> BlockMembers<W> {
 
     /// The next record, `None` after the last. A call is at most one step.
     pub(crate) fn next(&mut self, meter: &mut W::Meter) -> Option<W::Record>
-        ensures first { GivesRecord W.value self.old result self.new }
+        ensures first { GivesRecord W.Record.as_record self.old result self.new }
         ensures steps { TakesUpTo (W.steps meter.old) (W.steps meter.new) 1 }
     {
         if self.count == 0 {

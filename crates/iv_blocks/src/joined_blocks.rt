@@ -36,7 +36,7 @@ impl<W: RecordWalk> Model for JoinedBlocks<W> {
 
     ghost Value = { List BlockWithMembers };
 
-    ghost view = { λ b. remaining_blocks b.distance None (ahead_of (option_map W.value b.ahead) (W.left b.records)) };
+    ghost view = { λ b. remaining_blocks b.distance None (ahead_of (option_map W.Record.as_record b.ahead) (W.left b.records)) };
 }
 
 impl<W: RecordWalk> JoinedBlocks<W> {

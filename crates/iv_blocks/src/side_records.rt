@@ -1,5 +1,5 @@
 //! The records of a file on one side, one after another, and those of a block.
-ghost use Rattle.std.specs.Prelude.{◌≡◌, length, filter, map};
+ghost use Rattle.std.specs.Prelude.{◌≡◌, ℕ, length, filter, map};
 ghost use Rattle.iv_cover.specs.Columns.{column_value};
 ghost use Rattle.iv_blocks.specs.Inside.Groups.{is_on};
 
@@ -43,8 +43,6 @@ impl<'t> RecordWalk for SideRecords<'t> {
 
     type Meter = ();
 
-    ghost value = { λ r. r };
-
     ghost left = { λ records. records };
 
     ghost steps = { λ _. 0 };
@@ -56,6 +54,11 @@ impl<'t> RecordWalk for SideRecords<'t> {
             }
         }
         None
+    }
+
+    fn next_interval(&self, meter: &mut ()) -> Option<Interval> {
+        let record = RecordWalk::again(self).next(meter)?;
+        Some(record.interval())
     }
 
     fn again(&self) -> Self {
@@ -72,6 +75,17 @@ impl<'t> RecordWalk for SideRecords<'t> {
 
     fn record_again(given: &RecordRef<'t>) -> RecordRef<'t> {
         given.again()
+    }
+
+    fn meter()
+        ensures { ◌≡◌ {A = ℕ} 0 0 }
+    {
+    }
+
+    fn read(_meter: &()) -> u64
+        ensures { result ≡ 0 }
+    {
+        0
     }
 
     fn lemma_of_few(&self) {

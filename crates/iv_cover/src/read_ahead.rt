@@ -15,7 +15,7 @@ pub fn next_of<W: RecordWalk>(
     meter: &mut W::Meter,
 ) -> Option<W::Record>
     ensures none { ahead.new ≡ None }
-    ensures first { GivesRecord W.value (ahead_of (option_map W.value ahead.old) (W.left records.old)) result (W.left records.new) }
+    ensures first { GivesRecord W.Record.as_record (ahead_of (option_map W.Record.as_record ahead.old) (W.left records.old)) result (W.left records.new) }
     ensures steps { TakesUpTo (W.steps meter.old) (W.steps meter.new) 1 }
 {
     match ahead.take() {
@@ -31,7 +31,7 @@ pub fn look_ahead<W: RecordWalk>(
     records: &mut W,
     meter: &mut W::Meter,
 )
-    ensures same { ahead_of (option_map W.value ahead.new) (W.left records.new) ≡ ahead_of (option_map W.value ahead.old) (W.left records.old) }
+    ensures same { ahead_of (option_map W.Record.as_record ahead.new) (W.left records.new) ≡ ahead_of (option_map W.Record.as_record ahead.old) (W.left records.old) }
     ensures none { ahead.new ≡ None → W.left records.new ≡ [] }
     ensures steps { TakesUpTo (W.steps meter.old) (W.steps meter.new) 1 }
 {
@@ -43,7 +43,7 @@ pub fn look_ahead<W: RecordWalk>(
 
 /// The record that was read ahead once more, if there is one.
 pub fn ahead_again<W: RecordWalk>(ahead: &Option<W::Record>) -> Option<W::Record>
-    ensures { option_map W.value result ≡ option_map W.value ahead.now }
+    ensures { option_map W.Record.as_record result ≡ option_map W.Record.as_record ahead.now }
 {
     match ahead {
         Some(record) => Some(W::record_again(record)),

@@ -3,10 +3,10 @@ ghost use Rattle.std.specs.Prelude.{◌≡◌, ◌<◌, ◌^◌, ℕ, List, leng
 ghost use Rattle.iv_lines.specs.Intervals.{interval_of};
 ghost use Rattle.iv_lines.specs.RecordValue.{RecordValue};
 ghost use Rattle.iv_ledger.specs.Steps.{TakesUpTo};
-ghost use Rattle.iv_cover.specs.RecordWalks.{GivesRecord};
+ghost use Rattle.iv_cover.specs.RecordWalks.{GivesRecord, ShowsNext};
 
 use iv_ledger::Meter;
-use iv_lines::{Interval, RecordRef};
+use iv_lines::{BedRecord, Interval, RecordRef};
 use iv_places::PlacedRecords;
 use iv_track::TrackRecords;
 use std::alloc::Allocator;
@@ -14,12 +14,10 @@ use std::alloc::Allocator;
 /// A walk over records, which can be begun again from where it is. No call takes memory.
 pub trait RecordWalk: Drop {
     /// A record as the walk gives it.
-    type Record: Drop;
+    type Record: BedRecord;
     /// Counts the steps of calls.
-    type Meter;
+    type Meter: Drop;
 
-    /// The record that it is.
-    ghost value: { Self.Record → RecordValue };
     /// The records that are left.
     ghost left: { Self → List RecordValue };
     /// How many steps are counted.
@@ -27,7 +25,12 @@ pub trait RecordWalk: Drop {
 
     /// The next record, `None` after the last. A call is at most one step.
     fn next(&mut self, meter: &mut Self::Meter) -> Option<Self::Record>
-        ensures first { GivesRecord value (left self.old) result (left self.new) }
+        ensures first { GivesRecord Self.Record.as_record (left self.old) result (left self.new) }
+        ensures steps { TakesUpTo (steps meter.old) (steps meter.new) 1 };
+
+    /// The interval of the next record, `None` after the last: the walk stays where it is. A call is at most one step.
+    fn next_interval(&self, meter: &mut Self::Meter) -> Option<Interval>
+        ensures next { ShowsNext (left self.now) result }
         ensures steps { TakesUpTo (steps meter.old) (steps meter.new) 1 };
 
     /// The same walk once more, from where it is now. It is no step.
@@ -36,11 +39,19 @@ pub trait RecordWalk: Drop {
 
     /// The interval of a record.
     fn interval(given: &Self::Record) -> Interval
-        ensures { result ≡ interval_of (value given.now) };
+        ensures { result ≡ interval_of (Self.Record.as_record given.now) };
 
     /// The same record once more.
     fn record_again(given: &Self::Record) -> Self::Record
-        ensures { value result ≡ value given.now };
+        ensures { Self.Record.as_record result ≡ Self.Record.as_record given.now };
+
+    /// A meter that has counted no step yet.
+    fn meter() -> Self::Meter
+        ensures { steps result ≡ 0 };
+
+    /// How many steps a meter has counted.
+    fn read(meter: &Self::Meter) -> u64
+        ensures { result ≡ steps meter.now };
 
     /// A lemma for callers' proofs: 63 bits count the records that are left. The call does nothing.
     fn lemma_of_few(&self)
@@ -52,8 +63,6 @@ impl<'a, A: Allocator + Copy> RecordWalk for TrackRecords<'a, A> {
 
     type Meter = Meter;
 
-    ghost value = { λ r. r };
-
     ghost left = { λ records. records };
 
     ghost steps = { λ meter. meter };
@@ -61,6 +70,12 @@ impl<'a, A: Allocator + Copy> RecordWalk for TrackRecords<'a, A> {
     #[inline(always)]
     fn next(&mut self, meter: &mut Meter) -> Option<RecordRef<'a>> {
         self.next(meter)
+    }
+
+    #[inline(always)]
+    fn next_interval(&self, meter: &mut Meter) -> Option<Interval> {
+        let feature = self.again().next(meter)?;
+        Some(feature.interval())
     }
 
     fn again(&self) -> Self {
@@ -78,6 +93,14 @@ impl<'a, A: Allocator + Copy> RecordWalk for TrackRecords<'a, A> {
         given.again()
     }
 
+    fn meter() -> Meter {
+        Meter::new()
+    }
+
+    fn read(meter: &Meter) -> u64 {
+        meter.steps()
+    }
+
     fn lemma_of_few(&self) {
         self.lemma_of_few()
     }
@@ -89,8 +112,6 @@ impl<'t> RecordWalk for PlacedRecords<'t> {
     /// Records of a file are walked over without a step.
     type Meter = ();
 
-    ghost value = { λ r. r };
-
     ghost left = { λ records. records };
 
     ghost steps = { λ _. 0 };
@@ -98,6 +119,12 @@ impl<'t> RecordWalk for PlacedRecords<'t> {
     #[inline(always)]
     fn next(&mut self, _meter: &mut ()) -> Option<RecordRef<'t>> {
         Iterator::next(self)
+    }
+
+    #[inline(always)]
+    fn next_interval(&self, _meter: &mut ()) -> Option<Interval> {
+        let place = self.places().first()?;
+        Some(place.interval)
     }
 
     #[inline(always)]
@@ -114,6 +141,19 @@ impl<'t> RecordWalk for PlacedRecords<'t> {
     #[inline(always)]
     fn record_again(given: &RecordRef<'t>) -> RecordRef<'t> {
         given.again()
+    }
+
+    #[inline(always)]
+    fn meter()
+        ensures { ◌≡◌ {A = ℕ} 0 0 }
+    {
+    }
+
+    #[inline(always)]
+    fn read(_meter: &()) -> u64
+        ensures { result ≡ 0 }
+    {
+        0
     }
 
     fn lemma_of_few(&self) {

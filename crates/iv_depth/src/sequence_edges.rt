@@ -27,10 +27,10 @@ impl<W: RecordWalk, A: Allocator> Model for SequenceEdges<W, A> {
 
     ghost Value = { Gathered };
 
-    ghost view = { λ e. record { left = ahead_of (option_map W.value e.ahead) (W.left e.records); starts = e.starts.items; stops = e.stops.items } };
+    ghost view = { λ e. record { left = ahead_of (option_map W.Record.as_record e.ahead) (W.left e.records); starts = e.starts.items; stops = e.stops.items } };
 
     ghost invariant = { λ e.
-        let few = length (ahead_of (option_map W.value e.ahead) (W.left e.records)) in
+        let few = length (ahead_of (option_map W.Record.as_record e.ahead) (W.left e.records)) in
         (few ≤ vec_capacity e.starts) × (few ≤ vec_capacity e.stops) };
 }
 

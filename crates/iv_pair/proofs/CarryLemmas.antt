@@ -1,40 +1,20 @@
 -- Records that a search carries, and those ahead of it.
-use Rattle.std.proofs.Common.{◌≡◌, ℕ, ◌+◌, ◌-◌, ◌<◌, ◌≤◌, ◌^◌, inl, inr, Bool, true, false, cond, List, [], ◌∷◌, ◌++◌, Option, Some, None, refl, sym, ap, ◌∙◌, subst, arith, length, append_assoc}
+use Rattle.std.proofs.Common.{◌≡◌, ℕ, ◌+◌, ◌-◌, ◌<◌, ◌≤◌, ◌^◌, inl, inr, Bool, true, false, cond, List, [], ◌∷◌, map, ◌++◌, Option, Some, None, refl, sym, ap, ◌∙◌, subst, arith, length, append_assoc}
 use Rattle.std.specs.Prelude.{filter}
 use Rattle.std.proofs.lemmas.Bool.{cases_lt, false_from_ne_true}
 use Rattle.std.proofs.lemmas.List.Elements.{All-nil, All-weaker, filter-append, filter_passes}
-use Rattle.iv_lines.specs.RecordValue.{RecordValue, record_cmp}
+use Rattle.iv_lines.specs.RecordValue.{RecordValue}
 use Rattle.iv_lines.specs.Ordered.{AreInOrder}
-use Rattle.iv_lines.proofs.InOrderLemmas.{in_order-filter}
 use Rattle.iv_track.specs.Tracked.{is_from}
+use Rattle.iv_cover.specs.RecordWalks.{GivesRecord}
 use Rattle.iv_lines.specs.CoveredPositions.{covers}
 use Rattle.iv_lines.proofs.ListLemmas.{all-mem, filter-all}
 use Rattle.iv_track.specs.Regions.{overlaps, hits}
 use Rattle.iv_pair.specs.Inside.Lengths.{AreUpTo}
-use Rattle.iv_pair.specs.Inside.HitFinder.{held, keeps, IsOnward, HitAlike, AllCover, AllBegun, IsPlaced}
+use Rattle.iv_pair.specs.Inside.HitFinder.{IsOnward, HitAlike, AllCover, AllBegun, StandsAt}
 use Rattle.iv_track.proofs.RegionLemmas.{overlaps_parts, overlaps_from}
 use Rattle.iv_pair.proofs.HitsLemmas.{covers_parts, covers_from, length-filter_le}
 use Rattle.iv_track.proofs.PlaceLemmas.{pair_le, filter-implied}
-
--- ---- slots
-
-pub held-append : {K : Type 0} (xs ys : List (Option K)) → held (xs ++ ys) ≡ held xs ++ held ys
-held-append [] ys = refl
-held-append (None ∷ xs) ys = held-append xs ys
-held-append (Some k ∷ xs) ys = ap (λ l. k ∷ l) (held-append xs ys)
-
-pub held-filter : {K : Type 0} (p : K → Bool) (xs : List (Option K)) → held (filter (keeps p) xs) ≡ filter p (held xs)
-held-filter p [] = refl
-held-filter p (None ∷ xs) = held-filter p xs
-held-filter p (Some k ∷ xs) = elim (p k) as (λ b. held (cond b (Some k ∷ filter (keeps p) xs) (filter (keeps p) xs)) ≡ cond b (k ∷ filter p (held xs)) (filter p (held xs))) [
-  | true ↦ ap (λ l. k ∷ l) (held-filter p xs)
-  | false ↦ held-filter p xs
-]
-
-pub held-few : {K : Type 0} (xs : List (Option K)) → length (held xs) ≤ length xs
-held-few [] = omega arith
-held-few (None ∷ xs) = let r : length (held xs) ≤ length xs = held-few xs in omega arith
-held-few (Some k ∷ xs) = let r : length (held xs) ≤ length xs = held-few xs in omega arith
 
 -- ---- positions
 
@@ -152,7 +132,7 @@ alike-anew walk seq start from n up low = λ s t stop on.
 
 -- ---- what is found
 
-pub found : (seq start stop : ℕ) (xs walk whole : List RecordValue) → start < stop → AllCover seq start xs → HitAlike seq start (xs ++ walk) whole → xs ++ hits walk seq start stop ≡ hits whole seq start stop
+found : (seq start stop : ℕ) (xs walk whole : List RecordValue) → start < stop → AllCover seq start xs → HitAlike seq start (xs ++ walk) whole → xs ++ hits walk seq start stop ≡ hits whole seq start stop
 found seq start stop xs walk whole some cover h =
     let p : RecordValue → Bool = overlaps seq start stop in
     ap (λ (l : List RecordValue). l ++ filter p walk) (sym (filter-all p xs (λ b m. cover-hit seq start stop b some (all-mem (λ (q : RecordValue). covers seq start q ≡ true) xs cover b m))))
@@ -161,31 +141,65 @@ found seq start stop xs walk whole some cover h =
 
 -- ---- where a search is
 
--- before the first record
-pub placed-first : (records carried walk : List RecordValue) → carried ≡ [] → walk ≡ records → AreInOrder records → length records < 2 ^ 32 → IsPlaced records carried walk 0 0
-placed-first records carried walk none all order few = record {
-  cover = subst (AllCover 0 0) (sym none) (All-nil (λ b. covers 0 0 b ≡ true));
-  alike = subst (λ (l : List RecordValue). HitAlike 0 0 l records) (sym (ap (λ (l : List RecordValue). l ++ walk) none ∙ all)) (alike-itself 0 0 records);
-  rows_ordered = subst AreInOrder (sym all) order;
-  rows_few = omega (arith, ap length all, few);
-}
-
--- from the root
-pub placed-anew : (records carried walk : List RecordValue) (seq start from n : ℕ) → carried ≡ [] → walk ≡ filter (is_from seq from) records → AreInOrder records → length records < 2 ^ 32
-    → AreUpTo seq n records → from ≤ start + 1 - n → IsPlaced records carried walk seq start
-placed-anew records carried walk seq start from n none these order few up low = record {
+-- before all records
+pub stands-anew : (records carried walk : List RecordValue) (seq start : ℕ) → carried ≡ [] → walk ≡ records → AreInOrder records → length walk < 2 ^ 63 → StandsAt records carried walk seq start
+stands-anew records carried walk seq start none all order few = record {
   cover = subst (AllCover seq start) (sym none) (All-nil (λ b. covers seq start b ≡ true));
-  alike = subst (λ (l : List RecordValue). HitAlike seq start l records) (sym (ap (λ (l : List RecordValue). l ++ walk) none ∙ these)) (alike-anew records seq start from n up low);
-  rows_ordered = subst AreInOrder (sym these) (in_order-filter record_cmp (is_from seq from) records order);
-  rows_few = omega (arith, ap length these, length-filter_le (is_from seq from) records, few);
+  alike = subst (λ (l : List RecordValue). HitAlike seq start l records) (sym (ap (λ (l : List RecordValue). l ++ walk) none ∙ all)) (alike-itself seq start records);
+  ahead_ordered = subst AreInOrder (sym all) order;
+  few = omega (arith, ap length none, few);
+  ordered = order;
 }
 
--- further on
-pub placed-on : (records carried walk xs ys : List RecordValue) (seq start : ℕ) → AllCover seq start carried → AreInOrder walk → length walk ≤ length ys → length ys < 2 ^ 32
-    → HitAlike seq start (carried ++ walk) (xs ++ ys) → HitAlike seq start (xs ++ ys) records → IsPlaced records carried walk seq start
-placed-on records carried walk xs ys seq start cover order less few h k = record {
-  cover = cover;
-  alike = alike-trans seq start (carried ++ walk) (xs ++ ys) records h k;
-  rows_ordered = order;
-  rows_few = omega arith;
+-- before records among which all hits from here on are
+pub stands-skipped : (records carried walk : List RecordValue) (seq start : ℕ) → carried ≡ [] → HitAlike seq start walk records → AreInOrder walk → AreInOrder records → length walk < 2 ^ 63 → StandsAt records carried walk seq start
+stands-skipped records carried walk seq start none alike ahead order few = record {
+  cover = subst (AllCover seq start) (sym none) (All-nil (λ b. covers seq start b ≡ true));
+  alike = subst (λ (l : List RecordValue). HitAlike seq start (l ++ walk) records) (sym none) alike;
+  ahead_ordered = ahead;
+  few = omega (arith, ap length none, few);
+  ordered = order;
 }
+
+-- at a later position
+pub stands-kept : (records carried kept walk : List RecordValue) (a b seq start : ℕ) → IsOnward a b seq start → kept ≡ filter (covers seq start) carried → StandsAt records carried walk a b → StandsAt records kept walk seq start
+stands-kept records carried kept walk a b seq start on these s = record {
+  cover = subst (AllCover seq start) (sym these) (kept-cover seq start carried);
+  alike = subst (λ (l : List RecordValue). HitAlike seq start (l ++ walk) records) (sym these)
+      (kept-alike seq start carried walk records (all-begun a b seq start carried s.cover on) (alike-onward a b seq start (carried ++ walk) records s.alike on));
+  ahead_ordered = s.ahead_ordered;
+  few = omega (arith, ap length these, length-filter_le (covers seq start) carried, s.few);
+  ordered = s.ordered;
+}
+
+-- further on in the walk
+pub stands-on : (records carried walk xs ys : List RecordValue) (seq start : ℕ) → AllCover seq start carried → AreInOrder walk → length carried + length walk ≤ length xs + length ys → HitAlike seq start (carried ++ walk) (xs ++ ys)
+    → StandsAt records xs ys seq start → StandsAt records carried walk seq start
+stands-on records carried walk xs ys seq start cover order less alike s = record {
+  cover = cover;
+  alike = alike-trans seq start (carried ++ walk) (xs ++ ys) records alike s.alike;
+  ahead_ordered = order;
+  few = omega (arith, less, s.few);
+  ordered = s.ordered;
+}
+
+-- what is carried, and the hits ahead, are all hits
+pub stands-found : (records carried walk : List RecordValue) (seq start stop : ℕ) → start < stop → StandsAt records carried walk seq start → carried ++ hits walk seq start stop ≡ hits records seq start stop
+stands-found records carried walk seq start stop some s = found seq start stop carried walk records some s.cover s.alike
+
+-- ---- values of records
+
+pub map-filter : {X : Type 0} (value : X → RecordValue) (p : RecordValue → Bool) (xs : List X) → map value (filter (λ x. p (value x)) xs) ≡ filter p (map value xs)
+map-filter value p [] = refl
+map-filter value p (x ∷ xs) = elim (p (value x)) as (λ b. map value (cond b (x ∷ filter (λ y. p (value y)) xs) (filter (λ y. p (value y)) xs)) ≡ cond b (value x ∷ filter p (map value xs)) (filter p (map value xs))) [
+  | true ↦ ap (λ (l : List RecordValue). value x ∷ l) (map-filter value p xs)
+  | false ↦ map-filter value p xs
+]
+
+-- a call gave the first of the records, and left the others
+pub given-next : {R : Type 0} (value : R → RecordValue) (old new : List RecordValue) (given : Option R) (r : RecordValue) (others : List RecordValue) → GivesRecord value old given new → old ≡ r ∷ others → new ≡ others
+given-next value old new None r others gives is = let none : [] ≡ r ∷ others = sym gives.0 ∙ is in absurd cc
+given-next value old new (Some x) r others gives is = let both : value x ∷ new ≡ r ∷ others = sym gives ∙ is in cc
+
+pub given-first : {R : Type 0} (value : R → RecordValue) (old new : List RecordValue) (x : R) (r : RecordValue) (others : List RecordValue) → GivesRecord value old (Some x) new → old ≡ r ∷ others → r ≡ value x
+given-first value old new x r others gives is = let both : value x ∷ new ≡ r ∷ others = sym gives ∙ is in cc

@@ -21,11 +21,22 @@ use Rattle.iv_lines.specs.declared.interval.Interval.{Interval}
 use Rattle.iv_track.specs.Regions.{overlaps}
 use Rattle.iv_pair.specs.Hits.{hits_of}
 use Rattle.iv_pair.specs.Inside.Counts.{is_before, is_up_to, begins_before, ends_by, place_before, end_by, end_of, AreEndsOf, AreStartsOf, EndsAscend}
-use Rattle.iv_pair.specs.Inside.PairSweeps.{Precedes}
+use Rattle.iv_pair.specs.Inside.HitFinder.{IsOnward}
 use Rattle.iv_pair.specs.declared.count_sweep.End.{End}
 use Rattle.iv_pair.proofs.FrontLemmas.{count-implied, count-map, split_up-cons}
-use Rattle.iv_pair.proofs.ReachLemmas.{precedes}
-use Rattle.iv_pair.proofs.StepLemmas.{later-precedes}
+use Rattle.iv_lines.proofs.PrecedesLemmas.{precedes-from}
+
+-- of two records in order the first begins no later
+precedes : (x y : RecordValue) → is_le (record_cmp x y) ≡ true → IsOnward x.seq x.start y.seq y.start
+precedes x y h = elim (precedes-from x y h) [
+  | inl later ↦ (omega (arith, later), λ e. absurd (omega (arith, later, e)))
+  | inr same ↦ (omega (arith, same.0), λ e. same.1)
+]
+
+-- each that comes later in a list in order
+later-precedes : (b : RecordValue) (bs : List RecordValue) → AreInOrder (b ∷ bs) → All (λ (y : RecordValue). IsOnward b.seq b.start y.seq y.start) bs
+later-precedes b bs h =
+    All-weaker (λ y. is_le (record_cmp b y) ≡ true) (λ (y : RecordValue). IsOnward b.seq b.start y.seq y.start) (λ y le. precedes b y le) bs (All-from_recursion (λ y. is_le (record_cmp b y) ≡ true) bs h.0)
 
 -- ---- one record beside another
 
@@ -53,10 +64,6 @@ count-hits a second some long = ap (λ (n : ℕ). n + count_by (ends_by a.seq a.
         )
 
 -- ---- positions in order
-
--- the position t of sequence s is this position or after it
-abbrev IsOnward : ℕ → ℕ → ℕ → ℕ → Type 0
-IsOnward seq at s t = (seq ≤ s) × (seq ≡ s → at ≤ t)
 
 -- what is before a position is before a later one
 before-later : (seq at s t x y : ℕ) → IsOnward seq at s t → is_before seq at x y ≡ true → is_before s t x y ≡ true
@@ -190,7 +197,7 @@ pub begun-later : (a : RecordValue) (records second : List RecordValue) (places 
     → n ≡ count_by (place_before seq start) places → All (λ y. n ≤ count_by (begins_before y.seq y.start) second) records
 begun-later a records second places seq start n order lie on from is =
     let e : n ≡ count_by (begins_before a.seq a.start) second = is ∙ lie.counts seq start ∙ (λ i. count_by (begins_before (on i) (from i)) second) in
-    All-weaker (Precedes a) (λ y. n ≤ count_by (begins_before y.seq y.start) second)
+    All-weaker (λ (y : RecordValue). IsOnward a.seq a.start y.seq y.start) (λ y. n ≤ count_by (begins_before y.seq y.start) second)
     (λ y k. omega (arith, e, begun-more a.seq a.start y.seq y.start second k.0 k.1)) records (later-precedes a records order)
 
 -- and no fewer end up to where it begins
@@ -198,7 +205,7 @@ pub ended-later : (a : RecordValue) (records second : List RecordValue) (ends : 
     → n ≡ count_by (end_by seq start) ends → All (λ y. n ≤ count_by (ends_by y.seq y.start) second) records
 ended-later a records second ends seq start n order are on from is =
     let e : n ≡ count_by (ends_by a.seq a.start) second = is ∙ are.counts seq start ∙ (λ i. count_by (ends_by (on i) (from i)) second) in
-    All-weaker (Precedes a) (λ y. n ≤ count_by (ends_by y.seq y.start) second)
+    All-weaker (λ (y : RecordValue). IsOnward a.seq a.start y.seq y.start) (λ y. n ≤ count_by (ends_by y.seq y.start) second)
     (λ y k. omega (arith, e, ended-more a.seq a.start y.seq y.start second k.0 k.1)) records (later-precedes a records order)
 
 -- ---- a cursor over starts

@@ -1,8 +1,7 @@
 -- What rows need of the second list.
-use Rattle.std.proofs.Common.{◌≡◌, ℕ, ◌+◌, ◌<◌, ◌==◌, ◌||◌, not, Bool, true, false, cond, List, [], ◌∷◌, ◌++◌, refl, sym, ap, ◌∙◌, arith, zero-add}
+use Rattle.std.proofs.Common.{◌≡◌, ℕ, ◌+◌, ◌<◌, ◌==◌, ◌||◌, not, Bool, true, false, cond, List, [], ◌∷◌, refl, sym, ap, ◌∙◌, arith, zero-add}
 use Rattle.std.specs.List.{flat_map, list_any}
 use Rattle.std.proofs.lemmas.Bool.{false≢true, ne_eqb}
-use Rattle.std.proofs.lemmas.List.Elements.{All-head, All-tail}
 use Rattle.iv_lines.specs.Genome.{Sequences}
 use Rattle.iv_lines.specs.RecordValue.{RecordValue, part}
 use Rattle.iv_lines.specs.CoveredPositions.{covers}
@@ -69,20 +68,12 @@ uncovered-alike g a second other alike =
     (empty-alike (depth second a.seq) (depth other a.seq) (λ p. depth-zero second a.seq p ∙ ap not (alike a.seq p) ∙ sym (depth-zero other a.seq p)) a.start a.stop)
 
 -- the rows of one record
-rows-alike : (output : PairOutput) → needs_cover_alone output ≡ true → (g : Sequences) (a : RecordValue) (second other : List RecordValue) → a.start < a.stop → HaveBases second → HaveBases other → CoverAlike second other
-    → pair_rows output g a second ≡ pair_rows output g a other
-rows-alike (Intersect IfHit) is g a second other some bases others alike =
+pub rows-alike : (output : PairOutput) → needs_cover_alone output ≡ true → DependsOnCoverAlone output
+rows-alike (Intersect IfHit) is second other bases others alike g a some =
     any-line g a second ∙ ap (λ b. cond b (record_line g a) []) (hits-alike second other a some bases others alike) ∙ sym (any-line g a other)
-rows-alike (Intersect IfNoHit) is g a second other some bases others alike =
+rows-alike (Intersect IfNoHit) is second other bases others alike g a some =
     none-line g a second ∙ ap (λ b. cond b [] (record_line g a)) (hits-alike second other a some bases others alike) ∙ sym (none-line g a other)
-rows-alike (Subtract true) is g a second other some bases others alike =
+rows-alike (Subtract true) is second other bases others alike g a some =
     none-line g a second ∙ ap (λ b. cond b [] (record_line g a)) (hits-alike second other a some bases others alike) ∙ sym (none-line g a other)
-rows-alike (Subtract false) is g a second other some bases others alike = uncovered-alike g a second other alike
-rows-alike output is g a second other some bases others alike = absurd (false≢true is)
-
--- the rows of all
-pub text-alike : (output : PairOutput) → needs_cover_alone output ≡ true → DependsOnCoverAlone output
-text-alike output is g [] second other firsts bases others alike = refl
-text-alike output is g (a ∷ first) second other firsts bases others alike =
-    (λ i. rows-alike output is g a second other (All-head (λ (r : RecordValue). r.start < r.stop) a first firsts) bases others alike i
-    ++ text-alike output is g first second other (All-tail (λ (r : RecordValue). r.start < r.stop) a first firsts) bases others alike i)
+rows-alike (Subtract false) is second other bases others alike g a some = uncovered-alike g a second other alike
+rows-alike output is second other bases others alike g a some = absurd (false≢true is)

@@ -1,10 +1,9 @@
 -- Where the records are that share a position with an interval.
-use Rattle.std.proofs.Common.{◌≡◌, ◌==◌, ℕ, ◌+◌, ◌-◌, ◌<◌, ◌≤◌, ◌↔◌, Bool, true, false, cond, List, [], ◌∷◌, ◌++◌, max, refl, ap, ◌∙◌, subst, arith, length, eq-eqb}
+use Rattle.std.proofs.Common.{◌≡◌, ℕ, ◌+◌, ◌-◌, ◌<◌, ◌≤◌, ◌↔◌, Bool, true, false, cond, List, [], ◌∷◌, max, refl, arith, length, eq-eqb}
 use Rattle.std.specs.Prelude.{filter}
 use Rattle.std.proofs.lemmas.Bool.{and_parts, lt-ltb, ltb-true, le-leb, leb-true}
 use Rattle.std.proofs.lemmas.List.Sums.{length-filter, count_by-le-length}
 use Rattle.std.proofs.lemmas.Map.Views.{exact_unsigned_eq}
-use Rattle.iv_lines.specs.Ordered.{AreInOrder}
 use Rattle.iv_lines.specs.RecordValue.{RecordValue}
 use Rattle.iv_track.specs.Tracked.{is_from}
 use Rattle.iv_lines.specs.CoveredPositions.{covers}
@@ -14,7 +13,7 @@ use Rattle.iv_pair.specs.Hits.{hits_of}
 use Rattle.iv_pair.specs.Inside.Lengths.{AreUpTo}
 use Rattle.iv_pair.specs.Inside.HitLines.{AllOverlap}
 use Rattle.iv_track.proofs.PlaceLemmas.{pair_le, filter-implied}
-use Rattle.iv_track.proofs.RegionLemmas.{overlaps_parts, overlaps_from, hit_not, hits_beyond, from_apart}
+use Rattle.iv_track.proofs.RegionLemmas.{overlaps_parts, overlaps_from}
 
 pub covers_parts : (seq p : ℕ) (q : RecordValue) → covers seq p q ≡ true → (q.seq ≡ seq) × (q.start ≤ p) × (p < q.stop)
 covers_parts seq p q h =
@@ -66,15 +65,3 @@ hits-overlap (q ∷ records) a = go (hits-overlap records a) (overlaps a.seq a.s
     go : AllOverlap a (hits_of records a) → (b : Bool) → overlaps a.seq a.start a.stop q ≡ b → AllOverlap a (cond b (q ∷ hits_of records a) (hits_of records a))
     go rest true is = (is, rest)
     go rest false is = rest
-
-pub none-active : (xs : List RecordValue) → (length xs == 0) ≡ true → xs ≡ []
-none-active [] h = refl
-none-active (x ∷ xs) h = let none : length (x ∷ xs) ≡ 0 = exact_unsigned_eq (length (x ∷ xs)) 0 h in absurd (omega (arith, none))
-
--- if nothing is active, and a record that begins at the stop or past it is the first that is left, there is no hit
-pub none-from : (seq start stop : ℕ) (active records rest : List RecordValue) (r : RecordValue) → (length active == 0) ≡ true → records ≡ r ∷ rest → AreInOrder records → is_from seq stop r ≡ true
-    → active ++ hits records seq start stop ≡ []
-none-from seq start stop active records rest r none is order far =
-    ap (λ (l : List RecordValue). l ++ hits records seq start stop) (none-active active none)
-    ∙ hit_not records rest r seq start stop is (from_apart seq start stop r far)
-    ∙ hits_beyond seq start stop r rest (subst AreInOrder is order) far

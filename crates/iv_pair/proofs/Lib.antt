@@ -6,8 +6,7 @@ mod YieldLemmas
 mod CarryLemmas
 mod FrontLemmas
 mod CountLemmas
-mod ReachLemmas
-mod StepLemmas
 mod EmptyAlike
 mod CoverLemmas
 mod CopyLemmas
+mod PairTextLemmas

@@ -3,7 +3,5 @@ pub mod Lengths
 pub mod HitFinder
 pub mod HitLines
 pub mod Counts
-pub mod Pairs
 pub mod PairSweeps
-pub mod JoinedCovers
-pub mod PairPrinters
+pub mod PairTexts

@@ -1,7 +1,6 @@
 pub mod Hits
 pub mod IntersectRows
 pub mod PairRows
-pub mod Counts
 pub mod Pairs
 pub mod CoverAlone
 pub mod Inside

@@ -1,9 +1,9 @@
--- Two lists of records, and what a sweep over both gives.
+-- Rows beside a second list.
 use Rattle.std.specs.Prelude.{List}
 use Rattle.iv_lines.specs.RecordValue.{RecordValue}
+use Rattle.iv_pair.specs.declared.pair_rows.PairOutput.{PairOutput}
 
--- the records of the first list that are left, those of the second, all of them, and the hits of the record that was given last
-pub record Pairs : Type 0 where
-  pub first : List RecordValue
+-- which rows are put, and the records of the second list
+pub record Beside : Type 0 where
+  pub output : PairOutput
   pub second : List RecordValue
-  pub found : List RecordValue

@@ -1,88 +1,55 @@
 //! How many hits each record has, in one sweep over the records of two files.
-ghost use Rattle.std.specs.Prelude.{◌≡◌, ◌<◌, ◌≤◌, IfOk, count_by, length, map};
+ghost use Rattle.std.specs.Prelude.{◌≡◌, ◌<◌, ◌≤◌, IfOk, List, count_by, length, map};
 ghost use Rattle.std.specs.List.Sorted.{IsPermutation};
 ghost use Rattle.iv_bytes.specs.Sinks.{Puts};
 ghost use Rattle.iv_lines.specs.Ordered.{AreInOrder};
-ghost use Rattle.iv_pair.specs.Inside.Counts.{EndsAscend, StartsAscend, end_by, end_of, is_before, is_up_to, place_before};
+ghost use Rattle.iv_lines.specs.RecordValue.{RecordValue};
+ghost use Rattle.iv_pair.specs.Inside.Counts.{AreEndsOf, EndsAscend, StartsAscend, end_by, end_of, is_before, is_up_to, place_before};
 ghost use Rattle.iv_pair.specs.PairRows.{pair_text};
+ghost use Rattle.iv_pair.specs.CoverAlone.{GiveRowsAlike};
 ghost use Rattle.iv_pair.specs.declared.intersect.IntersectOutput.TheVariants.{Count};
 ghost use Rattle.iv_pair.specs.declared.pair_rows.PairOutput.TheVariants.{Intersect};
 
 use crate::intersect::put_count;
 use iv_bytes::{Sink, WriteFault};
+use iv_cover::RecordWalk;
 use iv_lines::{BedRecord, Genome};
 use iv_places::{Place, PlacedRecords};
-use std::alloc::{AllocError, Allocator, Global};
-use std::marker::Model;
+use std::alloc::{AllocError, Allocator};
 
 /// How many places are looked at one after another, before a search goes over those that are left.
 const FEW: usize = 8;
 
-/// Two lists of records in order, and where those of the second end: 8 bytes for each of them.
+/// Puts for each record of the first list, in its order, its line with the number of its hits, as `bedtools intersect -c` does.
 ///
-/// The number of hits of a record is how many begin before its stop, less how many end at its start or before it. So it
-/// takes no walk over the hits. Its model is the two lists.
-#[derive(Drop)]
-pub struct CountSweep<'t, A: Allocator = Global> {
-    first: PlacedRecords<'t>,
-    second: PlacedRecords<'t>,
-    /// Where the records of the second list end, in order.
-    ends: Vec<End, A>,
-}
-
-impl<'t, A: Allocator> Model for CountSweep<'t, A> {
-    ghost use Rattle.iv_pair.specs.Counts.{Lists};
-    ghost use Rattle.iv_pair.specs.Inside.Counts.{IsCountSweep};
-
-    ghost Value = { Lists };
-
-    ghost view = { λ s. record { first = s.first; second = s.second } };
-
-    ghost invariant = { λ s. IsCountSweep s.ends.items s.first s.second };
-}
-
-impl<'t, A: Allocator + Copy> CountSweep<'t, A> {
-    /// The sweep over two lists. It takes all the memory that it needs.
-    pub fn new(
-        alloc: A,
-        first: &PlacedRecords<'t>,
-        second: &PlacedRecords<'t>,
-    ) -> Result<Self, AllocError>
-        requires first { AreInOrder first.now }
-        requires second { AreInOrder second.now }
-        ensures first { IfOk result (λ s. s.first ≡ first.now) }
-        ensures second { IfOk result (λ s. s.second ≡ second.now) }
-    {
-        let ends = ends_of(alloc, second.places())?;
-        Ok(CountSweep {
-            first: first.again(),
-            second: second.again(),
-            ends,
-        })
+/// That is how many of the second list begin before its stop, less how many end at its start or before it. So it takes no walk over
+/// the hits, and no memory. Both lists are in order. On a fault the sink has taken a prefix of the text.
+pub(crate) fn put_counts<A: Allocator + Copy, W: RecordWalk, S: Sink>(
+    first: W,
+    second: &PlacedRecords<'_>,
+    ends: &[End],
+    genome: &Genome<A>,
+    meter: &mut W::Meter,
+    sink: &mut S,
+) -> Result<(), WriteFault>
+    requires first { AreInOrder (W.left first) }
+    requires second { AreInOrder second.now }
+    requires ends { AreEndsOf ends.now second.now }
+    ensures { (other : List RecordValue) → GiveRowsAlike (Intersect Count) second.now other → Puts (S.state sink.old) (S.state sink.new) result (pair_text (Intersect Count) genome.now (W.left first) other) }
+{
+    let mut first = first;
+    let places = second.places();
+    let mut begun = 0;
+    let mut ended = 0;
+    while let Some(feature) = first.next(meter) {
+        let seq = feature.seq();
+        let start = feature.start();
+        ended = pass_ends(ends, ended, seq, start);
+        begun = pass_starts(places, begun, places.len(), seq, start);
+        let reached = count_starts(places, begun, seq, feature.stop());
+        put_count(genome, &feature, (reached - ended) as u64, sink)?;
     }
-
-    /// Puts for each record of the first list, in its order, its line with the number of its hits, as `bedtools intersect -c`
-    /// does.
-    ///
-    /// It takes no memory. On a fault the sink has taken a prefix of the text.
-    pub fn print<S: Sink>(&self, genome: &Genome<A>, sink: &mut S) -> Result<(), WriteFault>
-        ensures { Puts (S.state sink.old) (S.state sink.new) result (pair_text (Intersect Count) genome.now self.now.first self.now.second) }
-    {
-        let places = self.second.places();
-        let ends = self.ends.as_slice();
-        let mut begun = 0;
-        let mut ended = 0;
-        for feature in self.first.again() {
-            feature.lemma_of_interval();
-            let seq = feature.seq();
-            let start = feature.start();
-            ended = pass_ends(ends, ended, seq, start);
-            begun = pass_starts(places, begun, places.len(), seq, start);
-            let reached = count_starts(places, begun, seq, feature.stop());
-            put_count(genome, &feature, (reached - ended) as u64, sink)?;
-        }
-        Ok(())
-    }
+    Ok(())
 }
 
 /// Where a record ends. Ends are in order by the rank of the sequence, and then by the stop.
@@ -131,14 +98,6 @@ fn is_by(end: &End, seq: u32, at: u64) -> bool
     ensures { result ≡ is_up_to seq at end.now.seq end.now.stop }
 {
     end.seq < seq || end.seq == seq && u64::from(end.stop) <= at
-}
-
-/// How many of the ends are at a position or before it. They are searched.
-pub(crate) fn count_ends(ends: &[End], seq: u32, at: u64) -> usize
-    requires { EndsAscend ends.now }
-    ensures { result ≡ count_by (end_by seq at) ends.now }
-{
-    ends.partition_point(|end| is_by(end, seq, at))
 }
 
 /// How many places begin before a position, if it is known that so many do.

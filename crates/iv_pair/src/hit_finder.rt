@@ -1,269 +1,217 @@
 //! The hits of one interval after another.
-ghost use Rattle.std.specs.Prelude.{◌≡◌, ◌+◌, ◌-◌, ◌<◌, ◌≤◌, ◌^◌, ◌++◌, ◌∷◌, [], length, filter, true, false};
+ghost use Rattle.std.specs.Prelude.{◌≡◌, ◌+◌, ◌-◌, ◌<◌, ◌≤◌, ◌^◌, ◌++◌, [], filter, length, map, true};
 ghost use Rattle.iv_lines.specs.CoveredPositions.{covers};
+ghost use Rattle.iv_lines.specs.Intervals.{interval_of};
 ghost use Rattle.iv_lines.specs.Ordered.{AreInOrder};
-ghost use Rattle.iv_pair.specs.Inside.HitFinder.{AllCover, HitAlike, IsOnward, held, keeps};
+ghost use Rattle.iv_lines.specs.RecordValue.{RecordValue};
+ghost use Rattle.iv_pair.specs.Inside.HitFinder.{AllCover, HitAlike, IsOnward};
 ghost use Rattle.iv_track.specs.Regions.{hits};
-ghost use Rattle.iv_pair.specs.Inside.Lengths.{AreUpTo};
 
 use crate::hits::{Hits, is_from};
-use crate::second::{Second, first_start};
-use arrayvec::ArrayVec;
-use iv_ledger::Meter;
-use iv_lines::{BedRecord, RecordRef};
-use iv_track::TrackRecords;
-use std::alloc::Allocator;
+use crate::second_records::SecondRecords;
+use iv_cover::RecordWalk;
+use iv_lines::Interval;
+use std::alloc::{Allocator, Global};
 use std::marker::Model;
 
-/// How many records are carried at most.
-const MOST_CARRIED: usize = 64;
+/// How many records a search looks at one after another, before it skips those in between.
+const FEW: u32 = 8;
 
 /// The hits of one interval after another.
 ///
 /// A search goes on from the position of the one before, as long as intervals come in the order of a track. It carries the
 /// records that it has passed and that reach past its position, as many as it has room for, and doesn't go on if it has none:
-/// so the records that it carries and those ahead have all hits. If the next position is far ahead, it begins at the root, from
-/// the longest length before that position.
+/// so the records that it carries and those ahead have all hits. If the next position is far ahead, it skips what is between.
 #[derive(Drop)]
-pub(crate) struct HitFinder<'a, A: Allocator + Copy> {
-    second: &'a Second<A>,
-    carried: Carried<'a>,
-    walk: TrackRecords<'a, A>,
+pub(crate) struct HitFinder<N: SecondRecords<W>, W: RecordWalk, A: Allocator = Global> {
+    second: N,
+    carried: Vec<W::Record, A>,
+    walk: W,
+    meter: W::Meter,
     // The interval that was sought last.
     seq: u32,
     start: u64,
     stop: u64,
-    // No record on this sequence has more positions.
-    longest: u64,
 }
 
-impl<'a, A: Allocator + Copy> Model for HitFinder<'a, A> {
-    ghost use Rattle.std.specs.Prelude.{◌++◌};
+impl<N: SecondRecords<W>, W: RecordWalk, A: Allocator> Model for HitFinder<N, W, A> {
+    ghost use Rattle.std.specs.Prelude.{◌++◌, map};
     ghost use Rattle.iv_pair.specs.Inside.HitFinder.{Finding, StandsAt};
     ghost use Rattle.iv_track.specs.Regions.{hits};
 
     ghost Value = { Finding };
 
-    ghost view = { λ f. record { records = f.second.now.records; seq = f.seq; start = f.start; found = f.carried ++ hits f.walk f.seq f.start f.stop } };
+    ghost view = { λ f. record { records = N.records f.second; seq = f.seq; start = f.start; stop = f.stop; found = map W.Record.as_record f.carried.items ++ hits (W.left f.walk) f.seq f.start f.stop } };
 
-    ghost invariant = { λ f. StandsAt f.second.now.records f.carried f.walk f.seq f.start f.longest };
+    ghost invariant = { λ f. StandsAt (N.records f.second) (map W.Record.as_record f.carried.items) (W.left f.walk) f.seq f.start };
 }
 
-impl<'a, A: Allocator + Copy> HitFinder<'a, A> {
-    /// It is at the first record.
-    pub(crate) fn of(second: &'a Second<A>, meter: &mut Meter) -> Self
-        ensures { result.records ≡ second.now.records }
+impl<N: SecondRecords<W>, W: RecordWalk, A: Allocator> HitFinder<N, W, A> {
+    ghost use Rattle.iv_pair.specs.Inside.HitFinder.{IsSameSearch};
+
+    /// It is at the first record. It carries records in this vector, as many as it has room for.
+    pub(crate) fn of(second: N, room: Vec<W::Record, A>) -> Self
+        requires order { AreInOrder (N.records second) }
+        requires none { room.items ≡ [] }
+        ensures { result.records ≡ N.records second }
     {
-        let longest = second.longest(0, meter);
+        let mut meter = W::meter();
+        let walk = second.walk(&mut meter);
+        walk.lemma_of_few();
         HitFinder {
             second,
-            carried: Carried::none(),
-            walk: second.walk(0, 0, meter),
+            carried: room,
+            walk,
+            meter,
             seq: 0,
             start: 0,
             stop: 0,
-            longest,
         }
     }
 
     /// Seeks the records that share a position with an interval. `hits` then has them.
-    pub(crate) fn seek(&mut self, seq: u32, start: u64, stop: u64, meter: &mut Meter)
+    #[inline(always)]
+    pub(crate) fn seek(&mut self, seq: u32, start: u64, stop: u64)
         requires { start < stop }
         ensures found { self.new.found ≡ hits self.old.records seq start stop }
         ensures same { self.new.records ≡ self.old.records }
     {
-        self.go_to(seq, start, meter);
+        self.go_to(seq, start, stop);
+        if take_begun(
+            &mut self.carried,
+            &mut self.walk,
+            seq,
+            start,
+            FEW,
+            &mut self.meter,
+        ) {
+            return;
+        }
+        self.skip();
         take_begun(
             &mut self.carried,
             &mut self.walk,
-            self.seq,
-            self.start,
+            seq,
+            start,
             u32::MAX,
-            meter,
+            &mut self.meter,
         );
-        self.stop = stop;
     }
 
-    /// Goes to a position: on from where the search is, if that is near and not past it, and else from the root.
-    fn go_to(&mut self, seq: u32, start: u64, meter: &mut Meter)
-        requires { start < 2 ^ 64 - 1 }
+    /// Goes to an interval: on from where the search is, if that isn't past its start, and else to the first record.
+    #[inline(always)]
+    fn go_to(&mut self, seq: u32, start: u64, stop: u64)
         ensures same { self.new.records ≡ self.old.records }
-        ensures there { (self.new.seq ≡ seq) × (self.new.start ≡ start) }
+        ensures there { (self.new.seq ≡ seq) × (self.new.start ≡ start) × (self.new.stop ≡ stop) }
     {
-        let longest = self.longest_on(seq, meter);
-        let from = first_start(start, longest);
         let goes_on = is_onward(self.seq, self.start, seq, start);
         self.seq = seq;
         self.start = start;
-        self.longest = longest;
+        self.stop = stop;
         if goes_on {
-            self.carried.keep(seq, start);
-            take_begun(&mut self.carried, &mut self.walk, seq, start, 8, meter);
-            if begins_from(&self.walk, seq, from, meter) {
-                return;
-            }
+            keep::<W, A>(&mut self.carried, seq, start);
+            return;
         }
         self.carried.clear();
-        self.walk = self.second.walk(seq, from, meter);
+        self.walk = self.second.walk(&mut self.meter);
+        self.walk.lemma_of_few();
     }
 
-    /// The records that share a position with the interval that was sought last, as `Second::hits` gives them.
-    pub(crate) fn hits(&self) -> Hits<'_, A>
-        ensures { result ≡ self.now.found }
+    /// Skips records ahead that have no hit from here on, if it is known where to go on.
+    fn skip(&mut self)
+        requires { self.old.start < 2 ^ 64 - 1 }
+        ensures { IsSameSearch self.old self.new }
+    {
+        let Some(walk) = self
+            .second
+            .skip_to(self.seq, self.start, &self.walk, &mut self.meter)
+        else {
+            return;
+        };
+        walk.lemma_of_few();
+        self.carried.clear();
+        self.walk = walk;
+    }
+
+    /// The records that share a position with the interval that was sought last, in the order of a track.
+    #[inline(always)]
+    pub(crate) fn hits(&self) -> Hits<'_, W>
+        ensures found { result ≡ self.now.found }
+        ensures ordered { AreInOrder self.now.records }
     {
         Hits::of(
-            self.carried.slots(),
+            self.carried.as_slice(),
             self.walk.again(),
             self.seq,
             self.start,
             self.stop,
         )
     }
-
-    /// A number of positions that no record on this sequence has more than.
-    fn longest_on(&self, seq: u32, meter: &mut Meter) -> u64
-        ensures { AreUpTo seq result self.now.records }
-    {
-        if seq == self.seq {
-            self.longest
-        } else {
-            self.second.longest(seq, meter)
-        }
-    }
 }
 
 /// Whether the position `to` of the sequence of rank `to_seq` is the position `at` of sequence `seq` or after it.
-pub(crate) fn is_onward(seq: u32, at: u64, to_seq: u32, to: u64) -> bool
+#[inline(always)]
+fn is_onward(seq: u32, at: u64, to_seq: u32, to: u64) -> bool
     ensures { result ≡ true → IsOnward seq at to_seq to }
 {
     seq < to_seq || seq == to_seq && at <= to
 }
 
-/// Whether the first of the records is from a start on. If it does, to begin at the root would lead no further.
-fn begins_from<A: Allocator + Copy>(
-    walk: &TrackRecords<'_, A>,
-    seq: u32,
-    from: u64,
-    meter: &mut Meter,
-) -> bool {
-    match walk.again().next(meter) {
-        Some(feature) => is_from(&feature, seq, from),
-        None => true,
-    }
-}
-
 /// Goes on over records that start at this position or before it, at most so many, and carries those that reach past it. It stops
-/// at one of them if there is no room.
-fn take_begun<'a, A: Allocator + Copy>(
-    carried: &mut Carried<'a>,
-    walk: &mut TrackRecords<'a, A>,
+/// at one of them if there is no room. Answers whether it came to one that starts later, or to the end.
+#[inline(always)]
+fn take_begun<W: RecordWalk, A: Allocator>(
+    carried: &mut Vec<W::Record, A>,
+    walk: &mut W,
     seq: u32,
     start: u64,
     most: u32,
-    meter: &mut Meter,
-)
+    meter: &mut W::Meter,
+) -> bool
     requires start { start < 2 ^ 64 - 1 }
-    requires ordered { AreInOrder walk.old }
-    requires cover { AllCover seq start carried.old }
-    ensures ordered { AreInOrder walk.new }
-    ensures few { length walk.new ≤ length walk.old }
-    ensures cover { AllCover seq start carried.new }
-    ensures alike { HitAlike seq start (carried.new ++ walk.new) (carried.old ++ walk.old) }
+    requires ordered { AreInOrder (W.left walk.old) }
+    requires cover { AllCover seq start (map W.Record.as_record carried.old.items) }
+    ensures ordered { AreInOrder (W.left walk.new) }
+    ensures few { length carried.new.items + length (W.left walk.new) ≤ length carried.old.items + length (W.left walk.old) }
+    ensures cover { AllCover seq start (map W.Record.as_record carried.new.items) }
+    ensures alike { HitAlike seq start (map W.Record.as_record carried.new.items ++ W.left walk.new) (map W.Record.as_record carried.old.items ++ W.left walk.old) }
 {
     for _ in 0..most {
-        let mut ahead = walk.again();
-        let Some(feature) = ahead.next(meter) else {
-            return;
+        let Some(next) = walk.next_interval(meter) else {
+            return true;
         };
-        if is_from(&feature, seq, start + 1) {
-            return;
+        if is_from(next, seq, start + 1) {
+            return true;
         }
-        if covers(&feature, seq, start) {
-            if !carried.push(feature) {
-                return;
-            }
+        if !covers(next, seq, start) {
+            walk.next(meter);
+            continue;
         }
-        *walk = ahead;
-    }
-}
-
-/// A few records of the second file, in its order, on the stack: those that a search has passed and that reach past its
-/// position.
-///
-/// Its model is their list.
-#[derive(Drop)]
-struct Carried<'a> {
-    slots: ArrayVec<Option<RecordRef<'a>>, MOST_CARRIED>,
-}
-
-impl<'a> Model for Carried<'a> {
-    ghost use Rattle.std.specs.Prelude.{List};
-    ghost use Rattle.iv_lines.specs.RecordValue.{RecordValue};
-    ghost use Rattle.iv_pair.specs.Inside.HitFinder.{held};
-
-    ghost Value = { List RecordValue };
-
-    ghost view = { λ c. held c.slots.items };
-}
-
-impl<'a> Carried<'a> {
-    /// No records.
-    fn none() -> Self
-        ensures { result ≡ [] }
-    {
-        Carried {
-            slots: ArrayVec::new(),
-        }
-    }
-
-    /// The records, each in a slot.
-    fn slots(&self) -> &[Option<RecordRef<'a>>]
-        ensures held { held result.now ≡ self.now }
-        ensures few { length result.now ≤ 64 }
-    {
-        self.slots.as_slice()
-    }
-
-    /// Drops them all.
-    fn clear(&mut self)
-        ensures { self.new ≡ [] }
-    {
-        self.slots.clear();
-    }
-
-    /// One more after them, if there is room.
-    fn push(&mut self, feature: RecordRef<'a>) -> bool
-        ensures pushed { result ≡ true → self.new ≡ self.old ++ feature.entry ∷ [] }
-        ensures full { result ≡ false → self.new ≡ self.old }
-    {
-        if self.slots.is_full() {
+        if carried.len() == carried.capacity() {
             return false;
         }
-        self.slots.push(Some(feature));
-        true
+        if let Some(feature) = walk.next(meter) {
+            carried.push_reserved(feature);
+        }
     }
-
-    /// Drops those that don't have this position.
-    fn keep(&mut self, seq: u32, position: u64)
-        ensures { self.new ≡ filter (covers seq position) self.old }
-    {
-        self.slots.retain(|slot| is_kept(slot, seq, position));
-    }
+    false
 }
 
-/// Whether a slot has a record with this position.
-fn is_kept(slot: &Option<RecordRef<'_>>, seq: u32, position: u64) -> bool
-    ensures { result ≡ keeps (covers seq position) slot.now }
+/// Drops those of the records that don't have this position.
+#[inline(always)]
+fn keep<W: RecordWalk, A: Allocator>(records: &mut Vec<W::Record, A>, seq: u32, position: u64)
+    ensures { map W.Record.as_record records.new.items ≡ filter (covers seq position) (map W.Record.as_record records.old.items) }
 {
-    match slot {
-        Some(feature) => covers(feature, seq, position),
-        None => false,
+    if records.as_slice().is_empty() {
+        return;
     }
+    records.retain(|feature| covers(W::interval(feature), seq, position));
 }
 
-/// Whether a record has this position of this sequence.
-fn covers<R: BedRecord>(feature: &R, seq: u32, position: u64) -> bool
-    ensures { result ≡ covers seq position (R.as_record feature.now) }
+/// Whether an interval has this position of this sequence.
+#[inline(always)]
+fn covers(next: Interval, seq: u32, position: u64) -> bool
+    ensures { (r : RecordValue) → next ≡ interval_of r → result ≡ covers seq position r }
 {
-    feature.seq() == seq && feature.start() <= position && position < feature.stop()
+    next.seq == seq && u64::from(next.start) <= position && position < u64::from(next.stop)
 }

@@ -4,27 +4,26 @@
 
 mod count_sweep;
 mod getfasta;
-mod hit_counts;
 mod hit_finder;
 mod hits;
 mod intersect;
 mod intervals;
-mod joined_cover;
 mod lemmas;
 mod lengths;
-mod pair_printer;
 mod pair_rows;
 mod pair_sweep;
 mod second;
+mod second_records;
 mod subtract;
 
-pub use count_sweep::CountSweep;
 pub use getfasta::print_fasta;
-pub use hits::{Hits, is_from, overlaps};
+pub use hits::Hits;
 pub use intersect::{Cross, IntersectOutput, put_intersect};
 pub use iv_fasta::{Fasta, FastaOutput, FastaReader, complement, put_fasta};
 pub use lemmas::{overlap_is_a_shared_position, uncovered_parts_are_maximal};
-pub use pair_rows::{PairOutput, needs_cover_alone, print_pairs, put_pair_rows};
+pub use pair_rows::{
+    PairOutput, join_beside, needs_cover_alone, print_pairs, put_pair, put_pair_rows,
+};
 pub use pair_sweep::PairSweep;
 pub use second::Second;
 pub use subtract::put_subtract;

@@ -159,7 +159,7 @@ impl<A: Allocator + Copy> Second<A> {
     ///
     /// The interval is 0-based and half-open, and has a position. Records that end where it starts, or start where it ends,
     /// are none of them. It copies no record, and takes no memory.
-    pub fn hits(&self, seq: u32, start: u64, stop: u64) -> Hits<'_, A>
+    pub fn hits(&self, seq: u32, start: u64, stop: u64) -> Hits<'_, TrackRecords<'_, A>>
         requires { start < stop }
         ensures hits { result ≡ hits self.now.records seq start stop }
         ensures ordered { AreInOrder self.now.records }
@@ -167,8 +167,7 @@ impl<A: Allocator + Copy> Second<A> {
     {
         let mut meter = Meter::new();
         let from = first_start(start, self.longest(seq, &mut meter));
-        let hits = Hits::of(&[], self.walk(seq, from, &mut meter), seq, start, stop);
-        hits
+        Hits::of(&[], self.walk(seq, from, &mut meter), seq, start, stop)
     }
 
     /// A length that no record on the sequence of this rank exceeds.

@@ -18,7 +18,7 @@ fn mark<A: Allocator>(ranks: &mut Vec<bool, A>, seq: u32) -> Result<(), AllocErr
     Ok(())
 }
 
-/// The ranks of these places, marked in a list that ends with the last of them.
+/// A list that is marked at the ranks of these places; a rank past its end is not marked.
 pub(crate) fn marked<A: Allocator + Copy>(
     alloc: A,
     places: &[Place],

@@ -10,7 +10,7 @@ ghost use Rattle.iv_blocks.specs.Inside.Texts.{merge_text};
 ghost use Rattle.iv_places.specs.declared.held_columns.HeldColumns.{HeldColumns};
 ghost use Rattle.iv_fasta.specs.FastaReading.{Wanted};
 ghost use Rattle.iv_fasta.specs.FastaRows.{fasta_text};
-ghost use Rattle.iv_pair.specs.CoverAlone.{DependsOnCoverAlone, HaveBases};
+ghost use Rattle.iv_pair.specs.CoverAlone.{GiveRowsAlike};
 ghost use Rattle.iv_pair.specs.PairRows.{pair_text};
 ghost use Rattle.iv_view.specs.Inside.Texts.{records_text};
 ghost use Rattle.iv_view.specs.Views.{kept_text};
@@ -30,7 +30,7 @@ use iv_bytes::{Buffered, Sink, WriteFault};
 use iv_depth::DepthSweep;
 use iv_fasta::{Fasta, FastaOutput, put_fasta};
 use iv_lines::{Fault, Genome, put_line};
-use iv_pair::{CountSweep, IntersectOutput, PairOutput, PairSweep, needs_cover_alone};
+use iv_pair::{PairOutput, PairSweep, join_beside};
 use iv_places::{PlacedRecords, Places};
 use iv_view::{Available, KeptView, View, ViewFault, WrittenView};
 use std::alloc::{AllocError, Allocator};
@@ -114,10 +114,11 @@ impl<A: Allocator + Copy> RunFiles<A> {
             return Err(CliFault::from(Fault::NoSecond));
         };
         first.sort(alloc)?;
-        first.lemma_of_bases();
-        sort_beside(alloc, output, &mut second)?;
-        let (first, second) = (first.records(), second.records());
-        sweep_pairs(alloc, output, &first, &second, &genome, sink)
+        second.sort(alloc)?;
+        join_beside(output, &mut second);
+        let sweep = PairSweep::new(alloc, output, second.records())?;
+        sweep.print(first.records(), &genome, &mut (), sink)?;
+        Ok(())
     }
 
     /// Puts the bases of the records of the first file, in the order of a track. There is a FASTA file.
@@ -200,63 +201,6 @@ fn sweep_blocks<'t, A: Allocator + Copy, S: Sink>(
         return Ok(put_merge(options.distance, &records, genome, sink)?);
     }
     Ok(MergeSweep::new(alloc, options, records)?.print(genome, sink)?)
-}
-
-/// Sorts the records of a second file in the order of a track, for one print of these rows. If the rows depend only on the
-/// positions that it covers, overlapping records are joined first, so that many records at one position cost little.
-fn sort_beside<A: Allocator + Copy>(
-    alloc: A,
-    output: PairOutput,
-    file: &mut Places<A>,
-) -> Result<(), AllocError>
-    ensures text { OnOk result ((genome : Sequences) (first : List RecordValue) → HaveBases first → pair_text output genome first file.new.records ≡ pair_text output genome first (ordered file.old.records)) }
-    ensures order { OnOk result (AreInOrder file.new.records) }
-{
-    file.sort(alloc)?;
-    if !needs_cover_alone(output) {
-        return Ok(());
-    }
-    join_sorted(output, file);
-    Ok(())
-}
-
-/// Joins the records of a sorted second file, for rows that depend only on the positions that it covers.
-fn join_sorted<A: Allocator + Copy>(output: PairOutput, file: &mut Places<A>)
-    requires order { AreInOrder file.old.records }
-    requires alone { DependsOnCoverAlone output }
-    ensures text { (genome : Sequences) (first : List RecordValue) → HaveBases first → pair_text output genome first file.new.records ≡ pair_text output genome first file.old.records }
-    ensures order { AreInOrder file.new.records }
-{
-    file.lemma_of_bases();
-    file.join();
-    file.lemma_of_bases();
-}
-
-/// Puts these rows of two lists of records: intersect or subtract. All memory is allocated before the first byte is put.
-///
-/// If only the number of hits is wanted, no hit is looked at.
-fn sweep_pairs<'t, A: Allocator + Copy, S: Sink>(
-    alloc: A,
-    output: PairOutput,
-    first: &PlacedRecords<'t>,
-    second: &PlacedRecords<'t>,
-    genome: &Genome<A>,
-    sink: &mut S,
-) -> Result<(), CliFault>
-    requires first { AreInOrder first.now }
-    requires second { AreInOrder second.now }
-    ensures text { Prints (S.state sink.old) (S.state sink.new) result (pair_text output genome.now first.now second.now) }
-    ensures alone { result ≡ Err CliFault.Memory → sink.new ≡ sink.old }
-{
-    match output {
-        PairOutput::Intersect(IntersectOutput::Count) => {
-            CountSweep::new(alloc, first, second)?.print(genome, sink)?;
-        }
-        _ => {
-            PairSweep::new(alloc, first, second)?.print(output, genome, sink)?;
-        }
-    }
-    Ok(())
 }
 
 /// Puts the row of each record: its bases. It takes no memory.

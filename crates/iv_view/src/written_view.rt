@@ -3,7 +3,6 @@ ghost use Rattle.std.specs.Prelude.{◌+◌, ◌<◌, [], ◌∷◌, IsTrue, IsS
 ghost use Rattle.std.specs.List.{flat_map};
 ghost use Rattle.std.specs.Option.{option_copied, unwrap_or};
 ghost use Rattle.iv_bytes.specs.Sinks.{Puts};
-ghost use Rattle.iv_pair.specs.PairRows.{pair_rows};
 ghost use Rattle.iv_track.specs.Regions.{hits as hits_in, near};
 ghost use Rattle.iv_ledger.specs.Steps.{TakesUpTo};
 ghost use Rattle.iv_view.specs.Views.{needs_second, second_records, written_rows, WritesWithin};
@@ -14,7 +13,7 @@ use iv_bytes::{Sink, WriteFault};
 use iv_fasta::{Fasta, FastaOutput, put_fasta};
 use iv_ledger::Meter;
 use iv_lines::{BedRecord, Genome, RecordRef, put_line};
-use iv_pair::{PairOutput, Second, print_fasta, print_pairs, put_pair_rows};
+use iv_pair::{PairOutput, Second, print_fasta, print_pairs, put_pair};
 use iv_track::{Region, Track};
 use std::alloc::Allocator;
 
@@ -113,19 +112,4 @@ impl WrittenView {
             WrittenView::Records => put_line(sink, genome, &feature),
         }
     }
-}
-
-/// Puts the rows of one record beside its hits.
-fn put_pair<A: Allocator + Copy, S: Sink>(
-    output: PairOutput,
-    feature: &RecordRef<'_>,
-    second: &Second<A>,
-    genome: &Genome<A>,
-    sink: &mut S,
-) -> Result<(), WriteFault>
-    ensures { Puts (S.state sink.old) (S.state sink.new) result (pair_rows output genome.now feature.now second.now.records) }
-{
-    feature.lemma_of_interval();
-    let hits = second.hits(feature.seq(), feature.start(), feature.stop());
-    put_pair_rows(output, genome, feature, hits, sink)
 }

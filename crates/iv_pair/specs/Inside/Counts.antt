@@ -1,7 +1,6 @@
 -- How many records begin before a position, and how many end up to it. Positions are in order by the rank of the sequence first.
 use Rattle.std.specs.Prelude.{◌≡◌, ◌<◌, ℕ, ◌==◌, ◌&&◌, ◌||◌, nat_le, nat_lt, Bool, List, All, count_by}
 use Rattle.std.specs.List.Sorted.{IsPartitionedBy}
-use Rattle.iv_lines.specs.Ordered.{AreInOrder}
 use Rattle.iv_lines.specs.RecordValue.{RecordValue}
 use Rattle.iv_places.specs.declared.place.Place.{Place}
 use Rattle.iv_pair.specs.declared.count_sweep.End.{End}
@@ -52,14 +51,3 @@ pub record AreStartsOf (places : List Place) (records : List RecordValue) : Type
   pub ascend : StartsAscend places
   pub counts : (seq at : ℕ) → count_by (place_before seq at) places ≡ count_by (begins_before seq at) records
   pub some : All (λ (b : RecordValue). b.start < b.stop) records
-
--- two lists in order, and the ends of the second
-pub record IsCountSweep (ends : List End) (first second : List RecordValue) : Type 0 where
-  pub ends_are : AreEndsOf ends second
-  pub first_ordered : AreInOrder first
-  pub second_ordered : AreInOrder second
-
--- records in order, and where they end
-pub record AreCounted (ends : List End) (records : List RecordValue) : Type 0 where
-  pub ends_are : AreEndsOf ends records
-  pub ordered : AreInOrder records

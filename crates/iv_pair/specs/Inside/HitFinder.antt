@@ -1,28 +1,24 @@
 -- Where a search for hits is. This is the state of `HitFinder`, as seen by its proof.
-use Rattle.std.specs.Prelude.{◌≡◌, ℕ, ◌<◌, ◌≤◌, ◌^◌, ◌++◌, Bool, true, false, List, [], ◌∷◌, Option, Some, None, All, length}
+use Rattle.std.specs.Prelude.{◌≡◌, ℕ, ◌+◌, ◌<◌, ◌≤◌, ◌^◌, ◌++◌, true, List, All, length}
 use Rattle.iv_lines.specs.Ordered.{AreInOrder}
 use Rattle.iv_lines.specs.RecordValue.{RecordValue}
 use Rattle.iv_lines.specs.CoveredPositions.{covers}
 use Rattle.iv_track.specs.Regions.{hits}
-use Rattle.iv_pair.specs.Inside.Lengths.{AreUpTo}
-
--- the records in these slots
-abbrev pub held : {K : Type 0} → List (Option K) → List K
-held [] = []
-held (None ∷ slots) = held slots
-held (Some k ∷ slots) = k ∷ held slots
-
--- whether a slot has a record, and it passes
-abbrev pub keeps : {K : Type 0} → (K → Bool) → Option K → Bool
-keeps p None = false
-keeps p (Some k) = p k
 
 -- the records of the second file, where the search is, and the hits of the interval that was sought last
 pub record Finding : Type 0 where
   pub records : List RecordValue
   pub seq : ℕ
   pub start : ℕ
+  pub stop : ℕ
   pub found : List RecordValue
+
+-- the same records are searched, for the same interval
+pub record IsSameSearch (old new : Finding) : Type 0 where
+  pub records : new.records ≡ old.records
+  pub seq : new.seq ≡ old.seq
+  pub start : new.start ≡ old.start
+  pub stop : new.stop ≡ old.stop
 
 -- the position t of sequence s is this position or after it
 abbrev pub IsOnward : ℕ → ℕ → ℕ → ℕ → Type 0
@@ -41,15 +37,9 @@ abbrev pub AllBegun : ℕ → ℕ → List RecordValue → Type 0
 AllBegun seq start walk = All (λ (b : RecordValue). IsOnward b.seq b.start seq start) walk
 
 -- the records carried and those ahead have the hits of all records from this position on
-pub record IsPlaced (records carried walk : List RecordValue) (seq start : ℕ) : Type 0 where
+pub record StandsAt (records carried walk : List RecordValue) (seq start : ℕ) : Type 0 where
   pub cover : AllCover seq start carried
   pub alike : HitAlike seq start (carried ++ walk) records
-  pub rows_ordered : AreInOrder walk
-  pub rows_few : length walk < 2 ^ 32
-
--- the search is at this position, and on its sequence no record is longer than `longest`
-pub record StandsAt (records carried walk : List RecordValue) (seq start longest : ℕ) : Type 0 where
-  pub placed : IsPlaced records carried walk seq start
+  pub ahead_ordered : AreInOrder walk
+  pub few : length carried + length walk < 2 ^ 63
   pub ordered : AreInOrder records
-  pub few : length records < 2 ^ 32
-  pub up_to : AreUpTo seq longest records

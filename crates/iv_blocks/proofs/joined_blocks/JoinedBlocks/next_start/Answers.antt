@@ -11,11 +11,11 @@ pub returns-clause-start : goal.returns-clause-start
 returns-clause-start g c =
     let distance = c.self.inside.distance in
     let left = g.W.RecordWalk.left c.look_ahead.new.records in
-    let first = g.W.RecordWalk.value c.in_ok-as_ref.field-0.now in
+    let first = g.W.Record.BedRecord.as_record c.in_ok-as_ref.field-0.now in
     ap (λ (n : Interval). Some (n.seq, n.start)) c.interval-first.ensures
     ∙ sym (
     ap first_start
     (sym c.self.view_is
-    ∙ ap (remaining_blocks distance None) (sym c.look_ahead.ensures.same ∙ ap (λ o. ahead_of (option_map g.W.RecordWalk.value o) left) (sym c.in_ok-as_ref.ensures.value)))
+    ∙ ap (remaining_blocks distance None) (sym c.look_ahead.ensures.same ∙ ap (λ o. ahead_of (option_map g.W.Record.BedRecord.as_record o) left) (sym c.in_ok-as_ref.ensures.value)))
     ∙ remaining-start distance first left
     )

@@ -26,7 +26,7 @@ loop-record-init g c =
 pub loop-record-preserved : goal.loop-record-preserved
 loop-record-preserved g c =
     let i = c.loop-record.invariant in
-    let value = g.W.RecordWalk.value in
+    let value = g.W.Record.BedRecord.as_record in
     let r : RecordValue = value c.in-Some.record in
     let records = g.W.RecordWalk.left c.next_of.new.records in
     let one = ap (λ (l : List RecordValue). length l) c.in-Some.ensures.first in
@@ -45,7 +45,7 @@ loop-record-preserved g c =
 
 pub returns-then-interval-seq : goal.returns-then-interval-seq
 returns-then-interval-seq g c =
-    let r : RecordValue = g.W.RecordWalk.value c.in-Some.record in
+    let r : RecordValue = g.W.Record.BedRecord.as_record c.in-Some.record in
     let records = g.W.RecordWalk.left c.next_of.new.records in
     let starts = c.loop-record.self-inside.starts.items in
     let stops = c.loop-record.self-inside.stops.items in
@@ -55,7 +55,7 @@ returns-then-interval-seq g c =
 
 pub returns : goal.returns
 returns g c =
-    let value = g.W.RecordWalk.value in
+    let value = g.W.Record.BedRecord.as_record in
     let records = g.W.RecordWalk.left c.next_of.new.records in
     let starts = c.loop-record.self-inside.starts.items in
     let stops = c.loop-record.self-inside.stops.items in

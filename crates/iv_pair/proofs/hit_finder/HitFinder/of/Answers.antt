@@ -1,14 +1,8 @@
-use Rattle.std.proofs.Common.{◌≡◌, ◌∙◌}
-use Rattle.iv_track.proofs.WalkLemmas.{filter-from_first}
-use Rattle.iv_pair.proofs.CarryLemmas.{placed-first}
+use Rattle.std.proofs.Common.{map, ap}
+use Rattle.iv_pair.proofs.CarryLemmas.{stands-anew}
 use Rattle.iv_pair.proofs.hit_finder.HitFinder.of.Goals as goal
 
 pub invariant_of-result : goal.invariant_of-result
 invariant_of-result g c =
-    let all : c.walk.result ≡ c.args.second.now.records = c.walk.ensures.records ∙ filter-from_first c.args.second.now.records in
-    record {
-      placed = placed-first c.args.second.now.records c.none.result c.walk.result c.none.ensures all c.walk.ensures.ordered c.walk.ensures.few;
-      ordered = c.walk.ensures.ordered;
-      few = c.walk.ensures.few;
-      up_to = c.longest-longest.ensures;
-    }
+    let value = g.W.Record.BedRecord.as_record in
+    stands-anew (g.N.SecondRecords.records c.args.second) (map value c.args.room.items) (g.W.RecordWalk.left c.walk-walk.result) 0 0 (ap (map value) c.requires.none) c.walk-walk.ensures c.requires.order c.lemma_of_few.ensures
