@@ -3,8 +3,8 @@ use Rattle.std.specs.Prelude.{ℕ, ◌||◌, if◌then◌else◌, List, [], ◌�
 use Rattle.std.specs.Option.{option_map}
 use Rattle.std.specs.Str.{bytes_eq}
 use Rattle.iv_args.specs.Arguments.{run_of}
-use Rattle.iv_args.specs.declared.notice.Notice.{Notice}
-use Rattle.iv_args.specs.declared.notice.Notice.TheVariants.{Help, HelpOf, Version}
+use Rattle.iv_args.specs.declared.subcommand.Notice.{Notice}
+use Rattle.iv_args.specs.declared.subcommand.Notice.TheVariants.{Help, HelpOf, Version}
 
 -- the notice that arguments ask for: help if `--help`, `help` or `-h` is alone; help on one kind of run if its argument comes after `--help` or
 -- `help`, or before `--help` or `-h`; and the version if `--version` is alone

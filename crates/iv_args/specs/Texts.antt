@@ -1,9 +1,9 @@
 -- What the program says about itself.
 use Rattle.std.specs.Prelude.{ℕ, List}
 use Rattle.iv_args.specs.declared.help.TheConstants.{HELP, SESSION, MERGE, CLUSTER, COMPLEMENT, GENOMECOV, INTERSECT, SUBTRACT, GETFASTA, RECORDS}
-use Rattle.iv_args.specs.declared.notice.TheConstants.{VERSION}
-use Rattle.iv_args.specs.declared.notice.Notice.{Notice}
-use Rattle.iv_args.specs.declared.notice.Notice.TheVariants.{Help, HelpOf, Version}
+use Rattle.iv_args.specs.declared.subcommand.TheConstants.{VERSION}
+use Rattle.iv_args.specs.declared.subcommand.Notice.{Notice}
+use Rattle.iv_args.specs.declared.subcommand.Notice.TheVariants.{Help, HelpOf, Version}
 use Rattle.iv_args.specs.declared.subcommand.Subcommand.{Subcommand}
 use Rattle.iv_args.specs.declared.subcommand.Subcommand.TheVariants as kind
 

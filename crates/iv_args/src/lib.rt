@@ -2,12 +2,10 @@
 #![tactic(auto)]
 
 mod help;
-mod notice;
 mod options;
 mod plan;
 mod subcommand;
 
-pub use notice::Notice;
 pub use options::{OptionUsage, OptionValue, RUNS, RunUsage};
 pub use plan::{Plan, Slot};
-pub use subcommand::{Subcommand, no_option_twice, options_among_view_arguments};
+pub use subcommand::{Notice, Subcommand, no_option_twice, options_among_view_arguments};

@@ -1,10 +1,14 @@
-//! The kinds of run, and what an argument is in each.
-ghost use Rattle.std.specs.Prelude.{◌≡◌, ◌≢◌, ◌↔◌, ◌++◌, ◌∷◌, [], ℕ, List, Some, All};
+//! The kinds of run, and what an argument is in each; and what the program says about itself.
+ghost use Rattle.std.specs.Prelude.{◌≡◌, ◌≢◌, ◌↔◌, ◌++◌, ◌∷◌, [], ℕ, List, Some, All, ◌||◌, codes, map};
 ghost use Rattle.std.specs.Map.{lookup};
 ghost use Rattle.std.specs.Str.{bytes_eq};
 ghost use Rattle.iv_args.specs.Inside.Pieces.{Piece, IsPiece, piece_arguments};
 ghost use Rattle.iv_args.specs.Arguments.{IsPlan, RunPlan, run_of, file_options, option_of, takes_value as value_follows};
 ghost use Rattle.iv_args.specs.declared.subcommand.RunOption.{RunOption};
+ghost use Rattle.iv_args.specs.Notices.{notice_of};
+ghost use Rattle.iv_args.specs.Texts.{notice_text};
+
+use crate::help::{HELP, help_of};
 
 /// A kind of run: a session, or a subcommand that prints its view of the files and ends.
 #[derive(Clone, Copy, Debug, PartialEq, Eq)]
@@ -130,3 +134,68 @@ pub fn options_among_view_arguments()
 pub fn no_option_twice()
     ensures { (plan : RunPlan) (argument : List ℕ) (front middle : List Piece) (a b : Piece) (back : List (List ℕ)) (asked : RunOption) → All (IsPiece plan.run) (front ++ a ∷ (middle ++ b ∷ [])) → option_of plan.run a.argument ≡ Some asked → option_of plan.run b.argument ≡ Some asked → ¬ IsPlan (argument ∷ (piece_arguments (front ++ a ∷ (middle ++ b ∷ [])) ++ back)) plan }
 {}
+
+/// What the program can say about itself.
+#[derive(Clone, Copy, Debug, PartialEq, Eq)]
+pub enum Notice {
+    /// How it is used.
+    Help,
+    /// How one kind of run is used.
+    HelpOf(Subcommand),
+    /// Its name and version, and what proved it.
+    Version,
+}
+
+/// The program's name and version, and what proved it.
+const VERSION: &[u8] = b"bedkeep 1.0.0
+proved with rattle-kit-13f logic dac8208d650f15bf
+";
+
+/// Whether a first argument asks for help.
+fn is_help_command(argument: &[u8]) -> bool
+    ensures { result ≡ (bytes_eq argument.now (codes "--help") || bytes_eq argument.now (codes "help")) }
+{
+    argument == b"--help".as_slice() || argument == b"help".as_slice()
+}
+
+/// Whether an option asks for help.
+fn is_help_option(argument: &[u8]) -> bool
+    ensures { result ≡ (bytes_eq argument.now (codes "--help") || bytes_eq argument.now (codes "-h")) }
+{
+    argument == b"--help".as_slice() || argument == b"-h".as_slice()
+}
+
+impl Notice {
+    /// The notice that the arguments after the program's name ask for.
+    ///
+    /// Help: `--help`, `-h` or `help` alone. Help on a subcommand or on `session`: its argument after `--help` or `help`, or
+    /// before `--help` or `-h`. The version: `--version` alone.
+    pub fn of(arguments: &[&[u8]]) -> Option<Notice>
+        ensures { result ≡ notice_of (map (λ argument. argument.now) arguments.now) }
+    {
+        match arguments {
+            [argument] if is_help_command(argument) || is_help_option(argument) => Some(
+                Notice::Help,
+            ),
+            [argument] if *argument == b"--version".as_slice() => Some(Notice::Version),
+            [argument, subject] if is_help_command(argument) => Subcommand::of(subject).map(
+                Notice::HelpOf,
+            ),
+            [subject, argument] if is_help_option(argument) => Subcommand::of(subject).map(
+                Notice::HelpOf,
+            ),
+            _ => None,
+        }
+    }
+
+    /// Its text.
+    pub fn text(self) -> &'static [u8]
+        ensures { result.now ≡ notice_text self }
+    {
+        match self {
+            Notice::Help => HELP,
+            Notice::HelpOf(run) => help_of(run),
+            Notice::Version => VERSION,
+        }
+    }
+}

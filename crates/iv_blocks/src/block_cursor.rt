@@ -1,14 +1,16 @@
 //! Blocks in order, read one ahead.
 ghost use Rattle.std.specs.Prelude.{◌≡◌, ℕ, List, [], None, map};
 ghost use Rattle.std.specs.Map.Iter.{TakesFirst};
-ghost use Rattle.iv_ledger.specs.Steps.{TakesUpTo};
 ghost use Rattle.iv_lines.specs.declared.interval.Interval.{Interval};
+ghost use Rattle.iv_ledger.specs.Steps.{TakesUpTo};
 ghost use Rattle.iv_blocks.specs.Inside.BlockCursor.{interval_of, starts_until, GivesPassing, TakesForEach};
 
 use crate::block_ledger::LedgerWalk;
 use crate::blocks::Blocks;
+use crate::joined_blocks::JoinedBlocks;
 use iv_ledger::Meter;
 use iv_lines::Interval;
+use iv_places::PlacedRecords;
 use std::alloc::Allocator;
 use std::marker::Model;
 
@@ -102,4 +104,23 @@ fn read<A: Allocator + Copy>(walk: &mut LedgerWalk<'_, A>, meter: &mut Meter) ->
         start,
         stop: entry.stop,
     })
+}
+
+impl<'t> BlocksAhead for JoinedBlocks<PlacedRecords<'t>> {
+    ghost use Rattle.iv_blocks.specs.Inside.BlockSweeps.{interval_of as interval_joined};
+
+    /// A sweep counts no steps.
+    type Meter = ();
+
+    ghost left = { λ blocks. map interval_joined blocks };
+
+    ghost steps = { λ _. 0 };
+
+    fn next_until(&mut self, seq: u32, position: u64, _counter: &mut ()) -> Option<Interval> {
+        let (next_seq, start) = self.next_start(&mut ())?;
+        if next_seq > seq || (next_seq == seq && u64::from(start) > position) {
+            return None;
+        }
+        self.next(&mut ())
+    }
 }

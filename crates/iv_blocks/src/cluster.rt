@@ -1,22 +1,28 @@
-//! The rows of a cluster.
+//! The rows of a cluster: of a track, of one region of it, or of the records of a file.
+ghost use Rattle.std.specs.List.{flat_map, take_while};
 ghost use Rattle.std.specs.Prelude.{◌≡◌, ◌<◌, ◌+◌, ◌^◌, All, length};
-ghost use Rattle.std.specs.List.{take_while};
 ghost use Rattle.iv_bytes.specs.Sinks.{Puts};
+ghost use Rattle.iv_lines.specs.Ordered.{AreInOrder};
+ghost use Rattle.iv_lines.specs.Read.{IsOnGenome, Fits};
 ghost use Rattle.iv_lines.specs.Named.{names_of};
-ghost use Rattle.iv_lines.specs.Read.{Fits};
 ghost use Rattle.iv_ledger.specs.Steps.{TakesUpTo};
+ghost use Rattle.iv_track.specs.Regions.{near};
+ghost use Rattle.iv_blocks.specs.Inside.BlockSweeps.{numbered_row};
 ghost use Rattle.iv_blocks.specs.Inside.BlockCursor.{starts_until, drop_while, TakesForEach};
-ghost use Rattle.iv_blocks.specs.Inside.Texts.{cluster_text};
+ghost use Rattle.iv_blocks.specs.Inside.Texts.{cluster_text, cluster_text_in};
 ghost use Rattle.iv_blocks.specs.Groups.{plain_options};
 ghost use Rattle.iv_blocks.specs.KeptBlocks.{AreBlocksOf};
 ghost use Rattle.iv_blocks.specs.MergeRows.{all_blocks};
+ghost use Rattle.iv_blocks.specs.ClusterRows.{blocks_until};
 
 use crate::block_cursor::{BlockCursor, BlocksAhead};
 use crate::blocks::Blocks;
+use crate::joined_blocks::{BlockMembers, JoinedBlocks};
 use iv_bytes::{Sink, WriteFault};
 use iv_ledger::Meter;
 use iv_lines::{Genome, put_numbered};
-use iv_track::Track;
+use iv_places::PlacedRecords;
+use iv_track::{Region, Track};
 use std::alloc::Allocator;
 
 impl<A: Allocator + Copy> Blocks<A> {
@@ -48,6 +54,38 @@ impl<A: Allocator + Copy> Blocks<A> {
         }
         Ok(())
     }
+
+    /// Prints the rows of a `cluster` whose record shares a position with the region, with the numbers that they have among all.
+    ///
+    /// One walk over the records near the region, and one over the blocks up to it, which are counted: at most one step for each
+    /// of them, and four more. It takes no memory. On a fault the sink has taken a prefix of the rows.
+    pub fn print_cluster_in<S: Sink>(
+        &self,
+        region: Region,
+        track: &Track<A>,
+        genome: &Genome<A>,
+        meter: &mut Meter,
+        sink: &mut S,
+    ) -> Result<(), WriteFault>
+        requires region { region.start < region.stop }
+        requires joined { self.now.options ≡ plain_options self.now.options.distance }
+        requires right { AreBlocksOf self.now.options (names_of genome.now) track.now.records self.now.entries }
+        requires fit { All (Fits genome.now track.now.width) track.now.records }
+        ensures text { Puts (S.state sink.old) (S.state sink.new) result (cluster_text_in self.now.options.distance genome.now track.now.records region.seq region.start region.stop) }
+        ensures steps { TakesUpTo meter.old meter.new (4 + length (near region track.now.records) + blocks_until self.now.options.distance genome.now track.now.records region.seq region.stop) }
+    {
+        // There are so few blocks that 64 bits number them, and the records are in order.
+        let _few = self.ledger.len();
+        let _ordered = track.len();
+        let mut ahead = BlockCursor::of(self, meter);
+        let mut number: u64 = 0;
+        let mut hits = track.hits(region, meter);
+        while let Some(feature) = hits.next(meter) {
+            number += count_until(&mut ahead, feature.seq(), feature.start(), meter);
+            put_numbered(sink, genome, &feature, number)?;
+        }
+        Ok(())
+    }
 }
 
 /// Goes past the blocks that start at this position of the sequence of this rank, or before it, and counts them.
@@ -67,4 +105,44 @@ pub(crate) fn count_until<A: Allocator + Copy>(
         count += 1;
     }
     count
+}
+
+/// Puts a row for each record: its columns, and the number of its block, counted from 1 over all sequences.
+///
+/// The records are in the order of a track and are on the genome. One sweep over them, and no memory. On a fault the sink has
+/// taken a prefix of the text.
+pub fn put_cluster<A: Allocator + Copy, S: Sink>(
+    distance: u32,
+    records: &PlacedRecords<'_>,
+    genome: &Genome<A>,
+    sink: &mut S,
+) -> Result<(), WriteFault>
+    requires order { AreInOrder records.now }
+    requires on_genome { All (IsOnGenome genome.now) records.now }
+    ensures { Puts (S.state sink.old) (S.state sink.new) result (cluster_text distance genome.now records.now) }
+{
+    // There are so few records, and so few blocks, that 64 bits number them.
+    let _few = records.len();
+    let mut number: u64 = 0;
+    let mut blocks = JoinedBlocks::of(records.again(), distance);
+    while let Some((_, members)) = blocks.next_with_members(&mut ()) {
+        number += 1;
+        put_members(members, number, genome, sink)?;
+    }
+    Ok(())
+}
+
+/// Puts the rows of a block's members, with the number of the block after their columns.
+fn put_members<A: Allocator + Copy, S: Sink>(
+    mut members: BlockMembers<PlacedRecords<'_>>,
+    number: u64,
+    genome: &Genome<A>,
+    sink: &mut S,
+) -> Result<(), WriteFault>
+    ensures { Puts (S.state sink.old) (S.state sink.new) result (flat_map (numbered_row genome.now number) members.entry) }
+{
+    while let Some(member) = members.next(&mut ()) {
+        put_numbered(sink, genome, &member, number)?;
+    }
+    Ok(())
 }

@@ -6,9 +6,8 @@ ghost use Rattle.iv_cover.specs.Inside.TrackBlocks.{with_members};
 ghost use Rattle.iv_blocks.specs.Groups.{listed};
 ghost use Rattle.iv_blocks.specs.Inside.UnstrandedBlocks.{kept_entry, stop_entry};
 
-use crate::block_members::BlockMembers;
 use crate::group::Key;
-use crate::joined_blocks::JoinedBlocks;
+use crate::joined_blocks::{BlockMembers, JoinedBlocks};
 use crate::kept_block::KeptBlock;
 use crate::options::BlockOptions;
 use iv_cover::results_in;

@@ -1,5 +1,5 @@
-//! The blocks of a walk over records.
-ghost use Rattle.std.specs.Prelude.{◌≡◌, All, List, [], None};
+//! The blocks of a walk over records, and the records of a block.
+ghost use Rattle.std.specs.Prelude.{◌≡◌, All, List, [], None, ◌≤◌, take, length};
 ghost use Rattle.iv_lines.specs.Genome.{Sequences};
 ghost use Rattle.iv_lines.specs.Ordered.{AreInOrder};
 ghost use Rattle.iv_lines.specs.Read.{IsOnGenome};
@@ -8,8 +8,9 @@ ghost use Rattle.iv_ledger.specs.Steps.{TakesUpTo};
 ghost use Rattle.iv_cover.specs.Inside.RemainingBlocks.{remaining_blocks};
 ghost use Rattle.iv_cover.specs.Inside.TrackBlocks.{blocks_of, GivesFirst};
 ghost use Rattle.iv_blocks.specs.Inside.JoinedBlocks.{GivesBlock, IsFirstOf, first_start};
+ghost use Rattle.std.specs.Option.{option_map};
+ghost use Rattle.iv_cover.specs.RecordWalks.{GivesRecord, ahead_of};
 
-use crate::block_members::BlockMembers;
 use iv_cover::{RecordWalk, ahead_again, look_ahead, next_of};
 use iv_lines::Interval;
 use std::marker::Model;
@@ -107,5 +108,73 @@ impl<W: RecordWalk> JoinedBlocks<W> {
             count += 1;
         }
         Some((block, count))
+    }
+}
+
+/// The records that are in a block, one after another, on a walk of their own: so many of those that a walk had left before it.
+///
+/// The model is the list of those that are left. No call takes memory.
+#[derive(Drop)]
+pub(crate) struct BlockMembers<W: RecordWalk> {
+    // The record that was read ahead, before those of the walk.
+    first: Option<W::Record>,
+    records: W,
+    count: u64,
+}
+
+impl<W: RecordWalk> Model for BlockMembers<W> {
+    ghost use Rattle.std.specs.Prelude.{◌≤◌, List, length, take};
+    ghost use Rattle.iv_lines.specs.RecordValue.{RecordValue};
+    ghost use Rattle.std.specs.Option.{option_map};
+    ghost use Rattle.iv_cover.specs.RecordWalks.{ahead_of};
+
+    ghost Value = { List RecordValue };
+
+    ghost view = { λ m. take m.count (ahead_of (option_map W.Record.as_record m.first) (W.left m.records)) };
+
+    ghost invariant = { λ m. m.count ≤ length (ahead_of (option_map W.Record.as_record m.first) (W.left m.records)) };
+}
+
+impl<W: RecordWalk> BlockMembers<W> {
+    /// So many records from the front: the one that was read ahead, if there is one, and those of the walk.
+    pub(crate) fn of(first: Option<W::Record>, records: W, count: u64) -> Self
+        requires { count ≤ length (ahead_of (option_map W.Record.as_record first) (W.left records)) }
+        ensures { result ≡ take count (ahead_of (option_map W.Record.as_record first) (W.left records)) }
+    {
+        BlockMembers {
+            first,
+            records,
+            count,
+        }
+    }
+
+    /// How many are left.
+    pub(crate) fn len(&self) -> u64
+        ensures { result ≡ length self.now }
+    {
+        self.count
+    }
+
+    /// The next record, `None` after the last. A call is at most one step.
+    pub(crate) fn next(&mut self, meter: &mut W::Meter) -> Option<W::Record>
+        ensures first { GivesRecord W.Record.as_record self.old result self.new }
+        ensures steps { TakesUpTo (W.steps meter.old) (W.steps meter.new) 1 }
+    {
+        if self.count == 0 {
+            return None;
+        }
+        self.count -= 1;
+        next_of(&mut self.first, &mut self.records, meter)
+    }
+
+    /// The same records once more.
+    pub(crate) fn again(&self) -> Self
+        ensures { result ≡ self.now }
+    {
+        BlockMembers::of(
+            ahead_again::<W>(&self.first),
+            self.records.again(),
+            self.count,
+        )
     }
 }

@@ -1,23 +1,25 @@
-//! A merge of the records of a file.
+//! The rows of a merge of the records of a file, in one sweep.
 ghost use Rattle.std.specs.Prelude.{◌≡◌, ◌≤◌, All, IfOk, length, filter, vec_capacity};
 ghost use Rattle.iv_bytes.specs.Sinks.{Puts};
 ghost use Rattle.iv_lines.specs.Ordered.{AreInOrder};
 ghost use Rattle.iv_lines.specs.Read.{IsOnGenome};
 ghost use Rattle.iv_cover.specs.Results.{HasRoom};
 ghost use Rattle.iv_cover.specs.Inside.TrackBlocks.{with_members};
+ghost use Rattle.iv_blocks.specs.Inside.BlockSweeps.{interval_row};
+ghost use Rattle.iv_blocks.specs.IntervalOptions.{IsByIntervals};
+ghost use Rattle.iv_blocks.specs.declared.options.BlockOptions.{BlockOptions};
 ghost use Rattle.iv_blocks.specs.Groups.{listed};
 ghost use Rattle.iv_blocks.specs.Inside.Groups.{is_on};
 ghost use Rattle.iv_blocks.specs.Inside.Texts.{merge_text};
 ghost use Rattle.iv_blocks.specs.Inside.MergeSweeps.{group_row, group_rows, sequence_rows};
 
-use crate::block_members::BlockMembers;
 use crate::group::Side;
-use crate::joined_blocks::JoinedBlocks;
+use crate::joined_blocks::{BlockMembers, JoinedBlocks};
 use crate::options::BlockOptions;
 use crate::side_records::SideRecords;
 use iv_bytes::{Sink, WriteFault, put_all};
 use iv_cover::{ColumnSummary, Value, asks_distinct, put_results};
-use iv_lines::{Genome, Interval, RowBuffer};
+use iv_lines::{Genome, Interval, RowBuffer, put_interval};
 use iv_places::PlacedRecords;
 use std::alloc::{AllocError, Allocator, Global};
 use std::marker::Model;
@@ -147,4 +149,37 @@ fn put_block<'t, A: Allocator, S: Sink>(
     RowBuffer::new().put_after_numbers(name, start, stop, sink)?;
     put_results(summaries, name, members, values, sink)?;
     put_all(sink, b"\n")
+}
+
+/// Puts a row for each block of records at most `distance` bases apart: its sequence's name, start and stop.
+///
+/// The records are in the order of a track and are on the genome. One sweep over them, and no memory. On a fault the sink has
+/// taken a prefix of the text.
+pub fn put_merge<A: Allocator + Copy, S: Sink>(
+    distance: u32,
+    records: &PlacedRecords<'_>,
+    genome: &Genome<A>,
+    sink: &mut S,
+) -> Result<(), WriteFault>
+    requires order { AreInOrder records.now }
+    requires on_genome { All (IsOnGenome genome.now) records.now }
+    ensures { (o : BlockOptions) → IsByIntervals distance o → Puts (S.state sink.old) (S.state sink.new) result (merge_text o genome.now records.now) }
+{
+    let mut blocks = JoinedBlocks::of(records.again(), distance);
+    while let Some(block) = blocks.next(&mut ()) {
+        put_interval_row(block, genome, sink)?;
+    }
+    Ok(())
+}
+
+/// Puts the row of a block: its sequence's name, start and stop.
+fn put_interval_row<A: Allocator + Copy, S: Sink>(
+    block: Interval,
+    genome: &Genome<A>,
+    sink: &mut S,
+) -> Result<(), WriteFault>
+    ensures { Puts (S.state sink.old) (S.state sink.new) result (interval_row genome.now block) }
+{
+    let name = genome.name_or_empty(block.seq);
+    put_interval(name, u64::from(block.start), u64::from(block.stop), sink)
 }

@@ -3,8 +3,8 @@ ghost use Rattle.std.specs.Prelude.{◌≡◌, ℕ, length, filter, map};
 ghost use Rattle.iv_cover.specs.Columns.{column_value};
 ghost use Rattle.iv_blocks.specs.Inside.Groups.{is_on};
 
-use crate::block_members::BlockMembers;
 use crate::group::Side;
+use crate::joined_blocks::BlockMembers;
 use iv_cover::{Column, ParsedNumber, RecordWalk, Value, Values};
 use iv_lines::{Interval, RecordRef};
 use iv_places::PlacedRecords;
@@ -79,8 +79,7 @@ impl<'t> RecordWalk for SideRecords<'t> {
 
     fn meter()
         ensures { ◌≡◌ {A = ℕ} 0 0 }
-    {
-    }
+    {}
 
     fn read(_meter: &()) -> u64
         ensures { result ≡ 0 }

@@ -6,7 +6,7 @@ use Rattle.std.specs.Option.{is_some, option_map}
 use Rattle.iv_lines.specs.Intervals.{interval_of}
 use Rattle.iv_lines.specs.RecordValue.{RecordValue}
 use Rattle.iv_places.specs.Inside.Places.{interval_in}
-use Rattle.iv_places.specs.declared.place.Place.{Place}
+use Rattle.iv_places.specs.declared.placed_records.Place.{Place}
 use Rattle.iv_cover.specs.RecordWalks.{GivesRecord, ShowsNext}
 use Rattle.iv_cover.specs.RecordWalks.{ahead_of}
 

@@ -7,7 +7,6 @@ mod kept;
 mod lemmas;
 mod number;
 mod op;
-mod read_ahead;
 mod record_walk;
 mod result_texts;
 mod summaries;
@@ -22,8 +21,7 @@ pub use lemmas::{
 };
 pub use number::ParsedNumber;
 pub use op::Op;
-pub use read_ahead::{ahead_again, look_ahead, next_of};
-pub use record_walk::RecordWalk;
+pub use record_walk::{RecordWalk, ahead_again, look_ahead, next_of};
 pub use result_texts::{results, results_in, summary};
 pub use summaries::put_results;
 pub use value::Value;

@@ -12,8 +12,8 @@ ghost use Rattle.iv_depth.specs.RegionRows.{covered_runs_in};
 
 use crate::changes::{Changes, add_record, push_changes, remove_record};
 use crate::depth_rows::{DepthOutput, put_genome};
+use crate::edges::SequenceEdges;
 use crate::region::{length_of, put_region};
-use crate::sequence_edges::SequenceEdges;
 use iv_bytes::{Sink, WriteFault};
 use iv_cover::Kept;
 use iv_ledger::{LedgerBuilder, Meter, Natural};

@@ -7,8 +7,7 @@ ghost use Rattle.iv_depth.specs.Inside.Texts.{depth_text};
 
 use crate::change_cursor::DepthChanges;
 use crate::depth_rows::{DepthOutput, put_sequence};
-use crate::edges::Edges;
-use crate::sequence_edges::SequenceEdges;
+use crate::edges::{Edges, SequenceEdges};
 use iv_bytes::{Sink, WriteFault};
 use iv_lines::Genome;
 use iv_places::PlacedRecords;

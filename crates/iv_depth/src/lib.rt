@@ -9,7 +9,6 @@ mod depth_sweep;
 mod edges;
 mod lemmas;
 mod region;
-mod sequence_edges;
 
 pub use depth::Depth;
 pub use depth_rows::DepthOutput;

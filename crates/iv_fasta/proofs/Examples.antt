@@ -1,6 +1,7 @@
 -- Files, complements and rows worked by hand.
 use Rattle.std.proofs.Common.{◌≡◌, ℕ, List, [], ◌∷◌, true, false, Ok, Err, Some, None, map, refl}
 use Rattle.std.specs.Fmt.{digits}
+use Rattle.std.specs.List.{flat_map}
 use Rattle.std.specs.Prelude.{codes}
 use Rattle.iv_lines.specs.Genome.{Sequences}
 use Rattle.iv_lines.specs.RecordValue.{RecordValue}
@@ -9,7 +10,7 @@ use Rattle.iv_lines.specs.declared.record_ref.Strand.{Strand}
 use Rattle.iv_lines.specs.declared.record_ref.Strand.TheVariants.{Plus, Minus, Dot}
 use Rattle.iv_fasta.specs.Complement.{complement}
 use Rattle.iv_fasta.specs.Fasta.{Bases, after_fasta_line, fasta_of}
-use Rattle.iv_fasta.specs.FastaRows.{fasta_text}
+use Rattle.iv_fasta.specs.FastaRows.{fasta_rows}
 
 pub complements : map complement (codes "ACGTURYKMBVDHSWNacgn-*") ≡ codes "TGCAAYRMKVBHDSWNtgcn-*"
 complements = refl
@@ -55,19 +56,19 @@ on strand seq start stop = record { seq = seq; start = start; stop = stop; name 
 abbrev records : List RecordValue
 records = on Minus 0 2 6 ∷ on Dot 0 2 6 ∷ on Minus 0 9 10 ∷ on Plus 1 0 5 ∷ []
 
-pub plain-rows : fasta_text (record { stranded = false; tab = false }) g fasta records ≡ codes ">s:2-6\nGTNa\n>s:2-6\nGTNa\n>s:9-10\nR\n"
+pub plain-rows : flat_map (fasta_rows (record { stranded = false; tab = false }) g fasta) records ≡ codes ">s:2-6\nGTNa\n>s:2-6\nGTNa\n>s:9-10\nR\n"
 unfolding digits
 plain-rows = refl
 
-pub strand-rows : fasta_text (record { stranded = true; tab = false }) g fasta records ≡ codes ">s:2-6(-)\ntNAC\n>s:2-6(.)\nGTNa\n>s:9-10(-)\nY\n"
+pub strand-rows : flat_map (fasta_rows (record { stranded = true; tab = false }) g fasta) records ≡ codes ">s:2-6(-)\ntNAC\n>s:2-6(.)\nGTNa\n>s:9-10(-)\nY\n"
 unfolding digits
 strand-rows = refl
 
-pub tab-rows : fasta_text (record { stranded = true; tab = true }) g fasta records ≡ codes "s:2-6(-)\ttNAC\ns:2-6(.)\tGTNa\ns:9-10(-)\tY\n"
+pub tab-rows : flat_map (fasta_rows (record { stranded = true; tab = true }) g fasta) records ≡ codes "s:2-6(-)\ttNAC\ns:2-6(.)\tGTNa\ns:9-10(-)\tY\n"
 unfolding digits
 tab-rows = refl
 
 -- a record without a strand has no brackets
-pub bare-row : fasta_text (record { stranded = true; tab = true }) g fasta (record { seq = 0; start = 0; stop = 4; name = []; score = []; strand = None; width = 3 } ∷ []) ≡ codes "s:0-4\tACGT\n"
+pub bare-row : flat_map (fasta_rows (record { stranded = true; tab = true }) g fasta) (record { seq = 0; start = 0; stop = 4; name = []; score = []; strand = None; width = 3 } ∷ []) ≡ codes "s:0-4\tACGT\n"
 unfolding digits
 bare-row = refl

@@ -1,6 +1,5 @@
 -- The rows of getfasta.
 use Rattle.std.specs.Prelude.{ℕ, ◌++◌, List, [], ◌∷◌, Option, None, Some, map, reverse, codes, decimal, slice_range, if◌then◌else◌}
-use Rattle.std.specs.List.{flat_map}
 use Rattle.iv_lines.specs.Genome.{Sequences, sequence_name}
 use Rattle.iv_lines.specs.RecordValue.{RecordValue, strand_byte}
 use Rattle.iv_lines.specs.declared.record_ref.Strand.{Strand}
@@ -40,7 +39,3 @@ fasta_rows output g fasta r = elim (bases_of fasta r.seq) [
   | None ↦ []
   | Some bases ↦ framed output (head output g r) (shown_bases (shown_strand output r) (slice_range bases r.start r.stop))
 ]
-
--- all rows: those of each record, in the order of the list
-abbrev pub fasta_text : FastaOutput → Sequences → Bases → List RecordValue → List ℕ
-fasta_text output g fasta records = flat_map (fasta_rows output g fasta) records

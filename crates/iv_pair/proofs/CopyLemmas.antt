@@ -10,7 +10,7 @@ use Rattle.iv_lines.specs.RecordValue.{RecordValue}
 use Rattle.iv_places.specs.Cover.{is_covered}
 use Rattle.iv_lines.specs.Intervals.{bare}
 use Rattle.iv_places.specs.Inside.Places.{place_at, record_at, records_at}
-use Rattle.iv_places.specs.declared.place.Place.{Place}
+use Rattle.iv_places.specs.declared.placed_records.Place.{Place}
 use Rattle.iv_places.proofs.BareLemmas.{count-bare}
 use Rattle.iv_track.specs.Regions.{overlaps}
 use Rattle.iv_pair.specs.PairRows.{pair_rows}

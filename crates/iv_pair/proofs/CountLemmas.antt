@@ -16,7 +16,7 @@ use Rattle.iv_lines.specs.Ordered.{AreInOrder}
 use Rattle.iv_lines.specs.RecordValue.{RecordValue, record_cmp}
 use Rattle.iv_places.specs.Inside.Places.{HasBase, interval_in}
 use Rattle.iv_lines.specs.Intervals.{interval_of}
-use Rattle.iv_places.specs.declared.place.Place.{Place}
+use Rattle.iv_places.specs.declared.placed_records.Place.{Place}
 use Rattle.iv_lines.specs.declared.interval.Interval.{Interval}
 use Rattle.iv_track.specs.Regions.{overlaps}
 use Rattle.iv_pair.specs.Hits.{hits_of}

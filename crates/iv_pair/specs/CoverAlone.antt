@@ -4,7 +4,7 @@ use Rattle.iv_lines.specs.Genome.{Sequences}
 use Rattle.iv_lines.specs.RecordValue.{RecordValue}
 use Rattle.iv_places.specs.Cover.{is_covered}
 use Rattle.iv_pair.specs.PairRows.{pair_rows}
-use Rattle.iv_pair.specs.declared.intersect.IntersectOutput.TheVariants.{Shared, SharedAndHit, Whole, WholeAndHit, IfHit, IfNoHit, Count}
+use Rattle.iv_pair.specs.declared.intersect.IntersectOutput.TheVariants.{IfHit, IfNoHit}
 use Rattle.iv_pair.specs.declared.pair_rows.PairOutput.{PairOutput}
 use Rattle.iv_pair.specs.declared.pair_rows.PairOutput.TheVariants.{Intersect, Subtract}
 
@@ -26,11 +26,7 @@ DependsOnCoverAlone output = (second other : List RecordValue) → HaveBases sec
 
 -- an intersect that only asks whether there is a hit, and each subtract
 abbrev pub needs_cover_alone : PairOutput → Bool
-needs_cover_alone (Intersect Shared) = false
-needs_cover_alone (Intersect SharedAndHit) = false
-needs_cover_alone (Intersect Whole) = false
-needs_cover_alone (Intersect WholeAndHit) = false
 needs_cover_alone (Intersect IfHit) = true
 needs_cover_alone (Intersect IfNoHit) = true
-needs_cover_alone (Intersect Count) = false
+needs_cover_alone (Intersect other) = false
 needs_cover_alone (Subtract whole) = true

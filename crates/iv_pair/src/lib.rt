@@ -1,13 +1,11 @@
 //! The second file, and the rows of intersect and subtract: from tracks, or in one sweep over records of two files. The FASTA file of
-//! `iv_fasta` is re-exported, with the rows of getfasta over a track.
+//! `iv_fasta` is re-exported.
 #![tactic(auto)]
 
 mod count_sweep;
-mod getfasta;
 mod hit_finder;
 mod hits;
 mod intersect;
-mod intervals;
 mod lemmas;
 mod lengths;
 mod pair_rows;
@@ -16,7 +14,6 @@ mod second;
 mod second_records;
 mod subtract;
 
-pub use getfasta::print_fasta;
 pub use hits::Hits;
 pub use intersect::{Cross, IntersectOutput, put_intersect};
 pub use iv_fasta::{Fasta, FastaOutput, FastaReader, complement, put_fasta};

@@ -1,16 +1,19 @@
-//! The records of a second file, as a search for hits goes over them.
-ghost use Rattle.std.specs.Prelude.{◌≡◌, ◌-◌, ◌<◌, ◌^◌, IfSome, List};
+//! The records of a second file, as a search for hits goes over them; and a copy that has its intervals alone.
+ghost use Rattle.std.specs.Prelude.{◌≡◌, ◌-◌, ◌<◌, ◌^◌, IfSome, List, IfOk, map};
 ghost use Rattle.iv_lines.specs.Ordered.{AreInOrder};
 ghost use Rattle.iv_lines.specs.RecordValue.{RecordValue};
 ghost use Rattle.iv_pair.specs.Inside.HitFinder.{HitAlike};
+ghost use Rattle.iv_lines.specs.Intervals.{bare};
+ghost use Rattle.iv_places.specs.Inside.Places.{HasBase, place_at};
 
 use crate::hits::is_from;
 use crate::second::{Second, first_start};
 use iv_cover::RecordWalk;
 use iv_ledger::Meter;
-use iv_places::PlacedRecords;
+use iv_lines::{Interval, RecordRef};
+use iv_places::{Place, PlacedRecords, Places};
 use iv_track::TrackRecords;
-use std::alloc::{Allocator, Global};
+use std::alloc::{AllocError, Allocator, Global};
 use std::marker::Model;
 
 /// The records of a second file, in the order of a track, and walks over them.
@@ -120,4 +123,28 @@ fn begins_from<W: RecordWalk>(walk: &W, seq: u32, from: u64, meter: &mut W::Mete
         Some(next) => is_from(next, seq, from),
         None => true,
     }
+}
+
+/// The intervals of a second file, in its order, copies repeated: 16 bytes for each.
+pub(crate) fn intervals_of<A: Allocator + Copy>(
+    second: &Second<A>,
+    meter: &mut Meter,
+) -> Result<Places<A>, AllocError>
+    ensures { IfOk result (λ copy. copy.records ≡ map bare second.now.records) }
+{
+    let mut places = Vec::with_capacity(second.allocator(), second.len() as usize)?;
+    let mut records = second.walk(0, 0, meter);
+    while let Some(feature) = records.next(meter) {
+        places.push(place_of(&feature))?;
+    }
+    Ok(Places::of_intervals(places))
+}
+
+/// The place of a record of which only the interval is looked at.
+fn place_of(feature: &RecordRef<'_>) -> Place
+    ensures is { result ≡ place_at feature.now 0 }
+    ensures base { HasBase result }
+{
+    feature.lemma_of_interval();
+    Place::of_interval(Interval::of(feature))
 }

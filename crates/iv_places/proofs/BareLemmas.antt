@@ -12,7 +12,7 @@ use Rattle.iv_lines.specs.Inside.RecordValue.{beside_cmp}
 use Rattle.iv_lines.proofs.OrderedLemmas.{ordered-in_order, rows-alone}
 use Rattle.iv_lines.specs.Intervals.{bare}
 use Rattle.iv_places.specs.Inside.Places.{record_at, records_at}
-use Rattle.iv_places.specs.declared.place.Place.{Place}
+use Rattle.iv_places.specs.declared.placed_records.Place.{Place}
 
 -- ---- records of places
 

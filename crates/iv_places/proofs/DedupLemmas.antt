@@ -2,7 +2,7 @@
 use Rattle.std.proofs.Common.{◌≡◌, Bool, true, false, cond, List, [], ◌∷◌, MatchBool, ap, subst, ◌∙◌}
 use Rattle.std.specs.List.Retain.{DedupsFrom, IsDeduped}
 use Rattle.iv_places.specs.Inside.Joins.{touches, grown, joined_places, joined_from}
-use Rattle.iv_places.specs.declared.place.Place.{Place}
+use Rattle.iv_places.specs.declared.placed_records.Place.{Place}
 
 -- a call on a place and the last one that stays: it answers whether they touch, leaves the first, and joins it to the last if they do
 abbrev pub Joins : Place → Place → Bool → Place → Place → Type 0

@@ -17,7 +17,7 @@ use Rattle.iv_places.specs.Inside.Cover.{AreApart}
 use Rattle.iv_places.specs.Inside.Joins.{touches, grown, joined_places, joined_from}
 use Rattle.iv_lines.specs.Intervals.{bare}
 use Rattle.iv_places.specs.Inside.Places.{HasBase, IsPlace, record_at, records_at}
-use Rattle.iv_places.specs.declared.place.Place.{Place}
+use Rattle.iv_places.specs.declared.placed_records.Place.{Place}
 
 -- the place covers position p of the sequence of this rank
 abbrev on : ℕ → ℕ → Place → Bool

@@ -12,7 +12,7 @@ use Rattle.iv_lines.specs.RecordValue.{RecordValue, strand_of}
 use Rattle.iv_lines.specs.Widths.{IsWidth}
 use Rattle.iv_places.proofs.RestLemmas.{rest-fed}
 use Rattle.iv_places.specs.Inside.Places.{ArePlaces, HasBase, HeldRests, IsEnded, IsPlace, place_at, record_at, records_at, rest_at, rest_in, rest_start}
-use Rattle.iv_places.specs.declared.place.Place.{Place}
+use Rattle.iv_places.specs.declared.placed_records.Place.{Place}
 
 -- an ended rest is the one that is held
 rest-is : (rests : List ℕ) (at : ℕ) (rest others : List ℕ) → drop at rests ≡ rest ++ 10 ∷ others → HasNoFeed rest → rest_at rests at ≡ rest

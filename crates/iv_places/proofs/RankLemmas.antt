@@ -3,7 +3,7 @@ use Rattle.std.proofs.Common.{◌≡◌, ◌∙◌, ℕ, ◌||◌, ◌==◌, Boo
 use Rattle.std.specs.List.{list_any}
 use Rattle.iv_places.specs.Inside.Places.{records_at}
 use Rattle.iv_places.specs.Inside.Ranks.{has_rank, is_at, is_marked}
-use Rattle.iv_places.specs.declared.place.Place.{Place}
+use Rattle.iv_places.specs.declared.placed_records.Place.{Place}
 
 any-rows : (width : ℕ) (rests : List ℕ) (seq : ℕ) (ps : List Place) → list_any (is_at seq) ps ≡ list_any (has_rank seq) (records_at width rests ps)
 any-rows width rests seq [] = refl

@@ -3,8 +3,8 @@ use Rattle.std.specs.Prelude.{ℕ, map}
 use Rattle.iv_lines.specs.Bed.{Bed}
 use Rattle.iv_lines.specs.Intervals.{bare}
 use Rattle.iv_lines.specs.RecordValue.{RecordValue}
-use Rattle.iv_places.specs.declared.held_columns.HeldColumns.{HeldColumns}
-use Rattle.iv_places.specs.declared.held_columns.HeldColumns.TheVariants as held
+use Rattle.iv_places.specs.declared.places.HeldColumns.{HeldColumns}
+use Rattle.iv_places.specs.declared.places.HeldColumns.TheVariants as held
 
 -- a record with only the columns that are held
 abbrev pub held_as : HeldColumns → RecordValue → RecordValue

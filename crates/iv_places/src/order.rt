@@ -5,7 +5,7 @@ ghost use Rattle.iv_lines.specs.RecordValue.{record_cmp};
 ghost use Rattle.iv_lines.specs.Inside.RecordValue.{beside_cmp};
 ghost use Rattle.iv_places.specs.Inside.Places.{AreInOrder, place_of, record_at};
 
-use crate::place::{Place, rest_at};
+use crate::placed_records::{Place, rest_at};
 use iv_lines::{compare_rests, name_of_rest};
 use std::alloc::{AllocError, Allocator};
 use std::cmp::Ordering;

@@ -1,23 +1,83 @@
-//! The records of a BED file as places beside the rests of their lines.
-ghost use Rattle.std.specs.Prelude.{◌≡◌, ◌∷◌, ◌++◌, [], cond, ◌<◌, ℕ, All, map, IfOk, OnOk};
+//! The records of a BED file as places beside the rests of their lines, and which columns of them are held.
+ghost use Rattle.std.specs.Prelude.{◌≡◌, ◌∷◌, ◌++◌, [], cond, ◌<◌, ℕ, All, map, IfOk, OnOk, ◌||◌, ◌==◌};
 ghost use Rattle.std.specs.List.{list_any};
 ghost use Rattle.iv_lines.specs.Ordered.{AreInOrder, ordered};
 ghost use Rattle.iv_places.specs.Inside.Joins.{grown, joined_places, touches};
 ghost use Rattle.iv_places.specs.Cover.{is_covered};
 ghost use Rattle.iv_places.specs.Inside.Cover.{AreApart};
 ghost use Rattle.iv_places.specs.Inside.Places.{HasBase, IsPlace, records_at};
-ghost use Rattle.iv_places.specs.Inside.Ranks.{has_rank, is_marked};
+ghost use Rattle.iv_places.specs.Inside.Ranks.{has_rank, is_marked, is_at};
 ghost use Rattle.iv_lines.specs.Intervals.{bare};
 ghost use Rattle.iv_lines.specs.Widths.{IsWidth};
+ghost use Rattle.iv_places.specs.HeldColumns.{held_as, held_width};
 
 use crate::order::{are_in_order, compare, order_places};
-use crate::place::Place;
-use crate::placed_records::PlacedRecords;
-use crate::ranks::marked;
+use crate::placed_records::{Place, PlacedRecords};
 use crate::rests::Rests;
 use iv_lines::{Record, RecordRef};
 use std::alloc::{AllocError, Allocator, Global};
 use std::marker::Model;
+
+/// Which columns of the records of a file are held.
+#[derive(Clone, Copy, Debug, PartialEq, Eq)]
+pub enum HeldColumns {
+    /// All of them.
+    All,
+    /// The first three: the interval.
+    Interval,
+}
+
+impl HeldColumns {
+    /// The record with only the columns that are held.
+    #[inline(always)]
+    pub fn of<'a>(self, feature: &RecordRef<'a>) -> RecordRef<'a>
+        ensures { result ≡ held_as self feature.now }
+    {
+        match self {
+            HeldColumns::All => feature.again(),
+            HeldColumns::Interval => {
+                feature.lemma_of_interval();
+                RecordRef::of_interval(feature.interval())
+            }
+        }
+    }
+
+    /// How many columns are held of a record that has so many.
+    pub fn width(self, width: u8) -> u8
+        ensures { result ≡ held_width self width }
+    {
+        match self {
+            HeldColumns::All => width,
+            HeldColumns::Interval => 3,
+        }
+    }
+}
+
+/// Marks a rank in a list of ranks, which may end before it.
+fn mark<A: Allocator>(ranks: &mut Vec<bool, A>, seq: u32) -> Result<(), AllocError>
+    ensures { OnOk result ((at : ℕ) → is_marked ranks.new.items at ≡ (seq == at || is_marked ranks.old.items at)) }
+{
+    let rank = seq as usize;
+    if rank >= ranks.len() {
+        ranks.resize(rank + 1, false)?;
+    }
+    ranks[rank] = true;
+    Ok(())
+}
+
+/// A list that is marked at the ranks of these places; a rank past its end is not marked.
+pub(crate) fn marked<A: Allocator + Copy>(
+    alloc: A,
+    places: &[Place],
+) -> Result<Vec<bool, A>, AllocError>
+    ensures { IfOk result (λ ranks. (seq : ℕ) → is_marked ranks.items seq ≡ list_any (is_at seq) places.now) }
+{
+    let mut ranks = Vec::new(alloc);
+    for place in places {
+        mark(&mut ranks, place.interval.seq)?;
+    }
+    Ok(ranks)
+}
 
 /// Joins a place to one that doesn't start past it, if the two overlap or are book-ended, and answers whether they do.
 fn take_in(last: &mut Place, place: &Place) -> bool

@@ -9,7 +9,7 @@ ghost use Rattle.iv_lines.specs.RecordValue.{record_cmp, strand_of};
 ghost use Rattle.iv_places.specs.Inside.Places.{IsPlace, record_at};
 
 use crate::order::compare;
-use crate::place::{Place, record_of, rest_at};
+use crate::placed_records::{Place, record_of, rest_at};
 use iv_lines::{Fields, RecordRef, Strand, columns, compare_rests, name_of_rest, read_strand};
 use std::alloc::{AllocError, Allocator, Global};
 use std::cmp::Ordering;

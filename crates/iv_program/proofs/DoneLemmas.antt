@@ -17,10 +17,10 @@ use Rattle.iv_args.proofs.ArgumentLemmas.{for-kind, said-same}
 use Rattle.iv_args.specs.declared.subcommand.Subcommand.{Subcommand}
 use Rattle.iv_args.specs.declared.subcommand.Subcommand.TheVariants as kind
 use Rattle.std.specs.Option.{option_to_list}
-use Rattle.iv_args.specs.declared.notice.Notice.{Notice}
+use Rattle.iv_args.specs.declared.subcommand.Notice.{Notice}
 use Rattle.iv_run.specs.Shots.{Shows, shown}
-use Rattle.iv_run.specs.declared.fault.CliFault.{CliFault}
-use Rattle.iv_run.specs.declared.fault.CliFault.TheVariants as fault
+use Rattle.iv_run.specs.declared.exit_reason.CliFault.{CliFault}
+use Rattle.iv_run.specs.declared.exit_reason.CliFault.TheVariants as fault
 use Rattle.iv_run.specs.ExitReasons.{ending_of, is_through, status_of}
 use Rattle.iv_cli.specs.ScriptEndings.{ending_of_cause}
 use Rattle.iv_run.specs.declared.exit_reason.ExitReason.{ExitReason}

@@ -18,20 +18,20 @@ use Rattle.iv_session.specs.declared.script.Summary.{Summary}
 use Rattle.iv_args.specs.Notices.{notice_of}
 use Rattle.iv_args.specs.Texts.{notice_text}
 use Rattle.iv_args.specs.Arguments.{RunPlan, IsPlan, file_of, is_session}
-use Rattle.iv_args.specs.declared.notice.Notice.{Notice}
+use Rattle.iv_args.specs.declared.subcommand.Notice.{Notice}
 use Rattle.iv_args.specs.declared.subcommand.Subcommand.{Subcommand}
 use Rattle.iv_args.specs.declared.subcommand.Subcommand.TheVariants as kind
 use Rattle.iv_args.specs.declared.plan.Slot.{Slot}
 use Rattle.iv_args.specs.declared.plan.Slot.TheVariants.{First, Other, Bases}
 use Rattle.iv_run.specs.Loading.{Parsed, parsed}
-use Rattle.iv_places.specs.declared.held_columns.HeldColumns.{HeldColumns}
-use Rattle.iv_places.specs.declared.held_columns.HeldColumns.TheVariants as held
+use Rattle.iv_places.specs.declared.places.HeldColumns.{HeldColumns}
+use Rattle.iv_places.specs.declared.places.HeldColumns.TheVariants as held
 use Rattle.iv_text.specs.BedFile.{Bed}
 use Rattle.iv_fasta.specs.FastaReading.{Wanted}
 use Rattle.iv_run.specs.RunFiles.{AreAskedFor, AreOf, FilesRead, Reports, TakesFasta, TakesFirst, TakesSecond, report_by}
-use Rattle.iv_run.specs.declared.fault.CliFault.{CliFault}
-use Rattle.iv_run.specs.declared.fault.FileFault.{FileFault}
-use Rattle.iv_run.specs.declared.fault.FileFault.TheVariants as file
+use Rattle.iv_run.specs.declared.exit_reason.CliFault.{CliFault}
+use Rattle.iv_run.specs.declared.exit_reason.FileFault.{FileFault}
+use Rattle.iv_run.specs.declared.exit_reason.FileFault.TheVariants as file
 use Rattle.iv_run.specs.ExitReasons.{ending_after, ending_of_file, ending_of_arguments, is_through, name_meant}
 use Rattle.iv_cli.specs.ScriptEndings.{ending_of_cause, ending_of_run}
 use Rattle.iv_run.specs.declared.exit_reason.ExitReason.{ExitReason}

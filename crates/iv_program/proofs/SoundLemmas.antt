@@ -4,15 +4,15 @@ use Rattle.std.proofs.Common.{◌≡◌, ◌⊎◌, ◌<◌, inl, inr, ℕ, Bool
 use Rattle.iv_bytes.specs.Sinks.{SinkState, Takes, FailsIn}
 use Rattle.iv_session.specs.Streams.{Streams}
 use Rattle.iv_args.specs.Notices.{notice_of}
-use Rattle.iv_args.specs.declared.notice.Notice.{Notice}
+use Rattle.iv_args.specs.declared.subcommand.Notice.{Notice}
 use Rattle.iv_args.specs.Arguments.{RunPlan, IsPlan, file_of, is_session}
 use Rattle.iv_args.specs.declared.subcommand.Subcommand.{Subcommand}
 use Rattle.iv_args.specs.declared.subcommand.Subcommand.TheVariants as kind
 use Rattle.iv_args.specs.declared.plan.Slot.{Slot}
 use Rattle.iv_args.specs.declared.plan.Slot.TheVariants.{Sizes, First, Other, Bases}
 use Rattle.iv_run.specs.Shots.{Shows, shown}
-use Rattle.iv_run.specs.declared.fault.CliFault.{CliFault}
-use Rattle.iv_run.specs.declared.fault.CliFault.TheVariants as fault
+use Rattle.iv_run.specs.declared.exit_reason.CliFault.{CliFault}
+use Rattle.iv_run.specs.declared.exit_reason.CliFault.TheVariants as fault
 use Rattle.iv_run.specs.ExitReasons.{ending_of, is_through, line_of, name_meant, status_of}
 use Rattle.iv_run.specs.declared.exit_reason.ExitReason.{ExitReason}
 use Rattle.iv_run.specs.declared.exit_reason.ExitReason.TheVariants as exit_reason

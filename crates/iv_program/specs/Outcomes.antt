@@ -7,7 +7,7 @@ use Rattle.iv_session.specs.Streams.{Streams}
 use Rattle.iv_args.specs.Arguments.{RunPlan, is_session}
 use Rattle.iv_cli.specs.Loading.{loaded}
 use Rattle.iv_run.specs.Shots.{shown}
-use Rattle.iv_run.specs.declared.fault.CliFault.{CliFault}
+use Rattle.iv_run.specs.declared.exit_reason.CliFault.{CliFault}
 use Rattle.iv_run.specs.ExitReasons.{ending_of, line_of, name_meant, status_of}
 use Rattle.iv_program.specs.Files.{FilesState}
 use Rattle.iv_program.specs.Limits.{most_file_bytes, most_line_bytes}

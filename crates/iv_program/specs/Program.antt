@@ -6,7 +6,7 @@ use Rattle.iv_lines.specs.declared.fault.Fault.TheVariants as refused
 use Rattle.iv_args.specs.Notices.{notice_of}
 use Rattle.iv_args.specs.Texts.{notice_text}
 use Rattle.iv_args.specs.Arguments.{RunPlan, IsPlan}
-use Rattle.iv_args.specs.declared.notice.Notice.{Notice}
+use Rattle.iv_args.specs.declared.subcommand.Notice.{Notice}
 use Rattle.iv_run.specs.ExitReasons.{is_through, line_of, name_meant}
 use Rattle.iv_run.specs.declared.exit_reason.ExitReason.{ExitReason}
 use Rattle.iv_run.specs.declared.exit_reason.ExitReason.TheVariants as exit_reason

@@ -14,8 +14,8 @@ use Rattle.iv_args.specs.declared.plan.Slot.{Slot}
 use Rattle.iv_args.specs.declared.plan.Slot.TheVariants.{Bases}
 use Rattle.iv_cli.specs.Loading.{loaded}
 use Rattle.iv_run.specs.Shots.{Shows, shown}
-use Rattle.iv_run.specs.declared.fault.CliFault.{CliFault}
-use Rattle.iv_run.specs.declared.fault.CliFault.TheVariants.{Memory}
+use Rattle.iv_run.specs.declared.exit_reason.CliFault.{CliFault}
+use Rattle.iv_run.specs.declared.exit_reason.CliFault.TheVariants.{Memory}
 use Rattle.iv_run.specs.ExitReasons.{ending_of}
 use Rattle.iv_cli.specs.ScriptEndings.{ending_of_cause}
 use Rattle.iv_run.specs.declared.exit_reason.ExitReason.{ExitReason}

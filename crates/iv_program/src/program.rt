@@ -4,7 +4,7 @@ ghost use Rattle.iv_bytes.specs.Sinks.{FailsIn, Takes, waiting};
 ghost use Rattle.iv_args.specs.Notices.{notice_of};
 ghost use Rattle.iv_args.specs.Texts.{notice_text};
 ghost use Rattle.iv_args.specs.Arguments.{RunPlan, IsPlan, is_session};
-ghost use Rattle.iv_args.specs.declared.notice.Notice.{Notice};
+ghost use Rattle.iv_args.specs.declared.subcommand.Notice.{Notice};
 ghost use Rattle.iv_run.specs.Shots.{shown};
 ghost use Rattle.iv_run.specs.ExitReasons.{ending_of as ending_of_fault, is_through, line_of, status_of};
 ghost use Rattle.iv_program.specs.Files.{after_reading};

@@ -5,7 +5,7 @@ ghost use Rattle.iv_args.specs.Arguments.{RunPlan, most_limit};
 ghost use Rattle.iv_program.specs.Files.{after_reading};
 ghost use Rattle.iv_program.specs.Inside.Files.{StopsAt, names_of};
 ghost use Rattle.iv_program.specs.Inside.Runs.{HasTexts, RunsScript, stopped_at};
-ghost use Rattle.iv_places.specs.declared.held_columns.HeldColumns.{HeldColumns};
+ghost use Rattle.iv_places.specs.declared.places.HeldColumns.{HeldColumns};
 ghost use Rattle.iv_program.specs.Texts.{Texts, AreTexts};
 
 use crate::files::{InputFiles, SlotFault, read_files};

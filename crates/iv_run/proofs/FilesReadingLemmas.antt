@@ -10,13 +10,13 @@ use Rattle.iv_lines.specs.declared.fault.LoadCause.TheVariants as cause
 use Rattle.iv_fasta.specs.Fasta.{Bases, fasta_of}
 use Rattle.iv_fasta.specs.FastaReading.{Wanted, only_or_fault}
 use Rattle.iv_args.specs.declared.plan.Slot.TheVariants as slot
-use Rattle.iv_places.specs.declared.held_columns.HeldColumns.{HeldColumns}
+use Rattle.iv_places.specs.declared.places.HeldColumns.{HeldColumns}
 use Rattle.iv_run.specs.Inside.FilesReading as reading
 use Rattle.iv_run.specs.Inside.FilesReading.{damage_after, fault_in, sound_or, sound_or_none}
 use Rattle.iv_run.specs.Inside.Shots.{bases_said, second_of}
 use Rattle.iv_run.specs.Loading.{IsAnswer, Parsed, damage_of, parsed}
 use Rattle.iv_run.specs.RunFiles.{AreForOne, AreOf, FilesRead, IsFasta, IsIfNamed, IsParsed, Reports, TakesFasta, TakesFirst, TakesSecond, held_files, report_by}
-use Rattle.iv_run.specs.declared.fault.CliFault.{CliFault}
+use Rattle.iv_run.specs.declared.exit_reason.CliFault.{CliFault}
 use Rattle.iv_run.proofs.LoadLemmas.{IsReported, IsWhy, kept-sound, kept-why, past-first, past-genome, past-second, reports, with_bases, with_first, with_genome, with_second}
 use Rattle.iv_run.proofs.FastaPieceLemmas.{whole-bases, whole-fault}
 

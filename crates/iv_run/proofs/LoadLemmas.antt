@@ -7,9 +7,9 @@ use Rattle.iv_lines.specs.declared.fault.LoadFault.{LoadFault}
 use Rattle.iv_lines.specs.declared.fault.LoadCause.{LoadCause}
 use Rattle.iv_lines.specs.declared.fault.LoadCause.TheVariants as cause
 use Rattle.iv_places.specs.HeldColumns.{held_bed}
-use Rattle.iv_places.specs.declared.held_columns.HeldColumns.{HeldColumns}
-use Rattle.iv_run.specs.declared.fault.CliFault.{CliFault}
-use Rattle.iv_run.specs.declared.fault.CliFault.TheVariants.{Damaged, Memory}
+use Rattle.iv_places.specs.declared.places.HeldColumns.{HeldColumns}
+use Rattle.iv_run.specs.declared.exit_reason.CliFault.{CliFault}
+use Rattle.iv_run.specs.declared.exit_reason.CliFault.TheVariants.{Damaged, Memory}
 use Rattle.iv_args.specs.declared.plan.Slot.{Slot}
 use Rattle.iv_args.specs.declared.plan.Slot.TheVariants.{Sizes, First, Other, Bases}
 use Rattle.iv_fasta.specs.Fasta as Fasta

@@ -2,7 +2,7 @@
 use Rattle.std.proofs.Common.{◌≡◌, ◌∙◌, ◌⊎◌, inl, inr, ℕ, ◌+◌, ◌<◌, ◌≤◌, ◌++◌, List, [], Result, Ok, Err, IfOk, length, sym, ap, subst, append_assoc, append-nil, length-append, arith}
 use Rattle.iv_text.specs.BedFile.{Bed, Draft}
 use Rattle.iv_lines.specs.Genome.{Sequences}
-use Rattle.iv_places.specs.declared.held_columns.HeldColumns.{HeldColumns}
+use Rattle.iv_places.specs.declared.places.HeldColumns.{HeldColumns}
 use Rattle.iv_text.specs.BedReading.{AreSoundLines, Reading, begun, read_on, held_bed_of, size_of, finished}
 use Rattle.iv_lines.specs.declared.fault.LoadFault.{LoadFault}
 use Rattle.iv_lines.specs.declared.fault.LoadCause.TheVariants as cause

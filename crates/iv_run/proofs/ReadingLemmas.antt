@@ -5,8 +5,8 @@ use Rattle.std.proofs.KnownBytes.{Consumes-nil, Consumes-trans, Consumes-whole}
 use Rattle.iv_bytes.specs.Sources.{SourceState, Gives, answered}
 use Rattle.iv_run.specs.Files.{ReadsWhole, StopsReading, IsFaultOf}
 use Rattle.iv_run.specs.Inside.Files.{EndsReading, HadMemory, IsTooLong, IsPieceFault}
-use Rattle.iv_run.specs.declared.fault.FileFault.{FileFault}
-use Rattle.iv_run.specs.declared.fault.FileFault.TheVariants.{Input, TooLong, Memory}
+use Rattle.iv_run.specs.declared.exit_reason.FileFault.{FileFault}
+use Rattle.iv_run.specs.declared.exit_reason.FileFault.TheVariants.{Input, TooLong, Memory}
 
 -- the source has given these bytes, and is no more failed than before
 pub record HasGiven (old new : SourceState) (bytes : List ℕ) : Type 0 where

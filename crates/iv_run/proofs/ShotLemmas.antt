@@ -10,8 +10,8 @@ use Rattle.iv_lines.specs.declared.fault.Fault.TheVariants as refused
 use Rattle.iv_fasta.specs.Fasta.{Bases}
 use Rattle.iv_view.specs.declared.view.View.{View}
 use Rattle.iv_run.specs.Inside.Prints.{Prints}
-use Rattle.iv_run.specs.declared.fault.CliFault.{CliFault}
-use Rattle.iv_run.specs.declared.fault.CliFault.TheVariants as fault
+use Rattle.iv_run.specs.declared.exit_reason.CliFault.{CliFault}
+use Rattle.iv_run.specs.declared.exit_reason.CliFault.TheVariants as fault
 use Rattle.iv_run.specs.Loading.{Parsed, fault_of_arguments, parsed}
 use Rattle.iv_run.specs.Inside.Shots.{bases_said, second_of, text_beside, view_beside}
 use Rattle.iv_run.specs.Shots.{Shows}

@@ -15,8 +15,8 @@ use Rattle.iv_fasta.specs.FastaReading.{Wanted, is_wanted, only}
 use Rattle.iv_fasta.proofs.RowLemmas.{row-wanted}
 use Rattle.iv_fasta.proofs.SummaryLemmas.{only-all}
 use Rattle.iv_places.specs.HeldColumns.{held_bed}
-use Rattle.iv_places.specs.declared.held_columns.HeldColumns.{HeldColumns}
-use Rattle.iv_places.specs.declared.held_columns.HeldColumns.TheVariants as held
+use Rattle.iv_places.specs.declared.places.HeldColumns.{HeldColumns}
+use Rattle.iv_places.specs.declared.places.HeldColumns.TheVariants as held
 use Rattle.iv_places.proofs.BareLemmas.{ordered-bare}
 use Rattle.iv_text.proofs.BedReadingLemmas.{all-held}
 use Rattle.iv_view.specs.Views.{kept_text, read_arguments, written_rows}
@@ -30,7 +30,7 @@ use Rattle.iv_run.specs.Loading.{Parsed, fault_of_arguments}
 use Rattle.iv_run.specs.Columns.{AreEnough, AskForIntervals}
 use Rattle.iv_run.specs.RunFiles.{AreWanted, Reports, held_files}
 use Rattle.iv_run.specs.Shots.{Shows}
-use Rattle.iv_run.specs.declared.fault.CliFault.{CliFault}
+use Rattle.iv_run.specs.declared.exit_reason.CliFault.{CliFault}
 use Rattle.iv_run.proofs.ColumnsLemmas.{alone}
 use Rattle.iv_run.proofs.ShotLemmas.{shown_of, shows-fault, shows-text}
 

@@ -2,8 +2,8 @@
 use Rattle.std.specs.Prelude.{◌≡◌, ℕ, ◌≤◌, ◌<◌, List, true, length}
 use Rattle.std.specs.Io.KnownBytes.{Consumes, IsAtEnd}
 use Rattle.iv_bytes.specs.Sources.{SourceState, IsInput}
-use Rattle.iv_run.specs.declared.fault.FileFault.{FileFault}
-use Rattle.iv_run.specs.declared.fault.FileFault.TheVariants.{Input, TooLong, Memory}
+use Rattle.iv_run.specs.declared.exit_reason.FileFault.{FileFault}
+use Rattle.iv_run.specs.declared.exit_reason.FileFault.TheVariants.{Input, TooLong, Memory}
 
 -- these bytes are the whole input, and not more than the limit; the source is at its end, and no more failed than before
 pub record ReadsWhole (old new : SourceState) (limit : ℕ) (bytes : List ℕ) : Type 0 where

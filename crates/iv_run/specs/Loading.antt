@@ -11,8 +11,8 @@ use Rattle.iv_lines.specs.declared.fault.Fault.{Fault}
 use Rattle.iv_lines.specs.declared.fault.Fault.TheVariants as refused
 use Rattle.iv_fasta.specs.Fasta as fasta
 use Rattle.iv_lines.specs.Chains.{if_ok, map_fault}
-use Rattle.iv_run.specs.declared.fault.CliFault.{CliFault}
-use Rattle.iv_run.specs.declared.fault.CliFault.TheVariants.{Words, Damaged, Memory}
+use Rattle.iv_run.specs.declared.exit_reason.CliFault.{CliFault}
+use Rattle.iv_run.specs.declared.exit_reason.CliFault.TheVariants.{Words, Damaged, Memory}
 use Rattle.iv_args.specs.declared.plan.Slot.{Slot}
 use Rattle.iv_args.specs.declared.plan.Slot.TheVariants.{Sizes, First, Other, Bases}
 

@@ -2,7 +2,7 @@
 use Rattle.std.specs.Prelude.{◌≡◌, ◌≤◌, ◌⊎◌, ℕ, ◌+◌, ◌++◌, List, Result, Ok, Err, length}
 use Rattle.iv_lines.specs.Genome.{Sequences}
 use Rattle.iv_text.specs.BedReading.{AreSoundLines, Reading, begun, read_on, size_of}
-use Rattle.iv_places.specs.declared.held_columns.HeldColumns.{HeldColumns}
+use Rattle.iv_places.specs.declared.places.HeldColumns.{HeldColumns}
 use Rattle.iv_lines.specs.declared.fault.LoadCause.TheVariants as cause
 use Rattle.iv_lines.specs.declared.fault.LoadFault.{LoadFault}
 

@@ -6,13 +6,13 @@ use Rattle.iv_lines.specs.Genome.{Sequences}
 use Rattle.iv_text.specs.BedReading.{held_bed_of}
 use Rattle.iv_lines.specs.RecordValue.{RecordValue}
 use Rattle.iv_places.specs.HeldColumns.{held_bed}
-use Rattle.iv_places.specs.declared.held_columns.HeldColumns.{HeldColumns}
+use Rattle.iv_places.specs.declared.places.HeldColumns.{HeldColumns}
 use Rattle.iv_lines.specs.declared.fault.LoadFault.{LoadFault}
 use Rattle.iv_fasta.specs.Fasta.{Bases, fasta_of}
 use Rattle.iv_fasta.specs.FastaReading.{Wanted, is_wanted, only, only_or_fault}
 use Rattle.iv_run.specs.Loading.{IsAnswer, Parsed, parsed}
-use Rattle.iv_run.specs.declared.fault.CliFault.{CliFault}
-use Rattle.iv_run.specs.declared.fault.CliFault.TheVariants.{Memory}
+use Rattle.iv_run.specs.declared.exit_reason.CliFault.{CliFault}
+use Rattle.iv_run.specs.declared.exit_reason.CliFault.TheVariants.{Memory}
 
 -- the files of a run while they are read: those that were read so far; the report of the first damaged one; which width a BED file without
 -- a record has, and which columns of BED files are held

@@ -5,8 +5,8 @@ use Rattle.iv_bytes.specs.Sinks.{SinkState, Takes, FailsIn}
 use Rattle.iv_lines.specs.Ordered.{ordered}
 use Rattle.iv_lines.specs.Chains.{if_ok, map_fault}
 use Rattle.iv_view.specs.Views.{read_arguments, shown_text}
-use Rattle.iv_run.specs.declared.fault.CliFault.{CliFault}
-use Rattle.iv_run.specs.declared.fault.CliFault.TheVariants as fault
+use Rattle.iv_run.specs.declared.exit_reason.CliFault.{CliFault}
+use Rattle.iv_run.specs.declared.exit_reason.CliFault.TheVariants as fault
 use Rattle.iv_run.specs.Loading.{parsed}
 use Rattle.iv_args.specs.Arguments.{RunPlan}
 

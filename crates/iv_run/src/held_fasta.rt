@@ -2,13 +2,13 @@
 ghost use Rattle.std.specs.Prelude.{◌<◌, ◌+◌, ◌^◌, ◌++◌, ℕ, List, length, IfOk, IfErr};
 ghost use Rattle.std.specs.Option.{option_map};
 ghost use Rattle.iv_fasta.specs.FastaReading.{Wanted, size_of};
-ghost use Rattle.iv_run.specs.declared.fault.FileFault.TheVariants as fault;
+ghost use Rattle.iv_run.specs.declared.exit_reason.FileFault.TheVariants as fault;
 ghost use Rattle.iv_run.specs.Files.{ReadsWhole, StopsReading};
 ghost use Rattle.iv_run.specs.FastaPieces.{FastaSoFar};
 ghost use Rattle.iv_run.specs.RunFiles.{IsFasta};
 
-use crate::fault::FileFault;
-use crate::input_files::{TakesPieces, read_pieces};
+use crate::exit_reason::FileFault;
+use crate::run_files::{TakesPieces, read_pieces};
 use iv_bytes::Source;
 use iv_fasta::{Fasta, FastaReader};
 use iv_lines::{Genome, LoadFault};

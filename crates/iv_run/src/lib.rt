@@ -2,17 +2,13 @@
 //! line on standard error.
 #![tactic(auto)]
 
-mod columns;
 mod exit_reason;
-mod fault;
 mod held_fasta;
-mod input_files;
-mod one_shot;
+mod run;
 mod run_files;
 
-pub use columns::columns_for;
-pub use exit_reason::{ExitReason, status};
-pub use fault::{CliFault, FileFault};
-pub use input_files::{TakesPieces, read_all, too_long_above_the_limit};
-pub use one_shot::{shot, shot_of_held};
-pub use run_files::{FilesReader, Inputs, RunFiles};
+pub use exit_reason::{CliFault, ExitReason, FileFault, status};
+pub use run::{columns_for, shot, shot_of_held};
+pub use run_files::{
+    FilesReader, Inputs, RunFiles, TakesPieces, read_all, too_long_above_the_limit,
+};

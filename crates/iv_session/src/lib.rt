@@ -3,7 +3,6 @@
 
 mod lemmas;
 mod line;
-mod refusal;
 mod request;
 mod script;
 
@@ -15,5 +14,4 @@ pub use iv_track::EditFault;
 pub use iv_view::{KeptView, View as ViewWords, ViewFault, WrittenView};
 pub use iv_workspace::{Accepted, Edit, PrintFault, ResizeFault, SecondFault, Session, Target};
 pub use lemmas::{first_over_is_first, sizes_are_of_lines, too_long_is_exact};
-pub use refusal::{SeesRefusals, Unseen};
-pub use script::{RunCause, RunFault, ScriptLimits, Summary, run_script};
+pub use script::{RunCause, RunFault, ScriptLimits, SeesRefusals, Summary, Unseen, run_script};

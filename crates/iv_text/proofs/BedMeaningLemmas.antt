@@ -12,7 +12,7 @@ use Rattle.iv_lines.specs.Read.{has_fault, faults, feature}
 use Rattle.iv_lines.specs.Chains.{unless_fault}
 use Rattle.iv_lines.specs.RecordValue.{RecordValue}
 use Rattle.iv_text.specs.BedFile.{is_skipped_line, is_width, Bed, Draft, after_record, bed_of}
-use Rattle.iv_places.specs.declared.held_columns.HeldColumns.TheVariants as held
+use Rattle.iv_places.specs.declared.places.HeldColumns.TheVariants as held
 use Rattle.iv_text.specs.BedReading.{after_records, finished}
 use Rattle.iv_text.specs.Inside.BedFile.{width_at, with_row}
 use Rattle.iv_lines.specs.FileMeaning.{HaveNoCause, IsFirstFault}

@@ -18,8 +18,8 @@ use Rattle.iv_lines.specs.declared.fault.LoadCause.{LoadCause}
 use Rattle.iv_lines.specs.declared.fault.LoadCause.TheVariants as cause
 use Rattle.iv_lines.specs.declared.fault.LoadFault.{LoadFault}
 use Rattle.iv_places.specs.HeldColumns.{held_as, held_bed, held_width}
-use Rattle.iv_places.specs.declared.held_columns.HeldColumns.{HeldColumns}
-use Rattle.iv_places.specs.declared.held_columns.HeldColumns.TheVariants as held
+use Rattle.iv_places.specs.declared.places.HeldColumns.{HeldColumns}
+use Rattle.iv_places.specs.declared.places.HeldColumns.TheVariants as held
 use Rattle.iv_text.specs.Inside.FastLine.{IsFastLine}
 use Rattle.iv_text.specs.BedReading.{LinesRead, known, held_draft, after, IsHeld, AreSoundLines, Reading, begun, read_on, held_or_fault, held_bed_of, after_records, finished}
 use Rattle.iv_text.specs.Inside.BedReading.{Takes, Refuses, TakesLine, RefusesLine}

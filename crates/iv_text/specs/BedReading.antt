@@ -9,7 +9,7 @@ use Rattle.iv_lines.specs.Read.{Fits}
 use Rattle.iv_lines.specs.RecordValue.{RecordValue}
 use Rattle.iv_lines.specs.declared.fault.LoadFault.{LoadFault}
 use Rattle.iv_places.specs.HeldColumns.{held_as, held_bed, held_width}
-use Rattle.iv_places.specs.declared.held_columns.HeldColumns.{HeldColumns}
+use Rattle.iv_places.specs.declared.places.HeldColumns.{HeldColumns}
 
 -- what is known of a file after lines of which the first has the number n, or the first fault
 abbrev pub after_records : Sequences → ℕ → ℕ → Draft → List (List ℕ) → Result Draft LoadFault

@@ -2,17 +2,12 @@
 #![tactic(auto)]
 
 mod bed_file;
-mod bed_lines;
 mod bed_reader;
-mod bed_widths;
 mod lemmas;
-mod number_prefix;
 mod record_reader;
 
 pub use bed_file::BedFile;
-pub use bed_lines::BedLines;
-pub use bed_reader::BedReader;
-pub use bed_widths::{is_skipped_line, width_for};
+pub use bed_reader::{BedLines, BedReader, is_skipped_line, width_for};
 pub use iv_bytes::{
     Buffered, ByteQueue, MemSink, MemSource, ReadFault, Sink, Source, StdSink, StdSource,
     WriteFault, put_all, put_pieces,

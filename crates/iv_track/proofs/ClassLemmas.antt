@@ -15,7 +15,7 @@ use Rattle.iv_lines.specs.RecordValue.{RecordValue, IsPlaced, record_cmp}
 use Rattle.iv_lines.specs.Intervals.{interval_of, record_of_interval}
 use Rattle.iv_lines.specs.declared.interval.Interval.{Interval}
 use Rattle.iv_places.specs.Inside.Places.{HasBase, interval_in}
-use Rattle.iv_places.specs.declared.place.Place.{Place}
+use Rattle.iv_places.specs.declared.placed_records.Place.{Place}
 use Rattle.iv_lines.proofs.ListLemmas.{Mem, all-mem, mem-all}
 use Rattle.iv_track.specs.Copies.{expanded}
 use Rattle.iv_track.specs.Regions.{longest}

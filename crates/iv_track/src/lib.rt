@@ -7,14 +7,10 @@ mod lemmas;
 mod length_classes;
 mod region;
 mod track;
-mod track_entries;
-mod track_hits;
 mod track_records;
 
 pub use iv_ledger::{Abbreviated, Ledger, Meter, Walk};
 pub use lemmas::{one_record_added, one_record_removed};
-pub use region::Region;
+pub use region::{Region, TrackHits};
 pub use track::{EditFault, Track};
-pub use track_entries::TrackEntries;
-pub use track_hits::TrackHits;
-pub use track_records::TrackRecords;
+pub use track_records::{TrackEntries, TrackRecords};

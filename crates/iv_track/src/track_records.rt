@@ -1,8 +1,9 @@
-//! A walk over the records of a track.
+//! Walks over the records of a track: with their copies, or over the different ones.
 ghost use Rattle.std.specs.Prelude.{◌≡◌, ◌<◌, ◌^◌, length};
 ghost use Rattle.std.specs.Iterator.{YieldsFirst};
-ghost use Rattle.iv_ledger.specs.Steps.{TakesUpTo};
+ghost use Rattle.iv_ledger.specs.Steps.{TakesUpTo, ticked};
 ghost use Rattle.iv_track.specs.Lent.{again};
+ghost use Rattle.std.specs.Map.Iter.{TakesFirst};
 
 use crate::by_rest::ByRest;
 use iv_ledger::{Meter, Walk};
@@ -86,4 +87,32 @@ fn next_held<'a>(held: &mut Option<(RecordRef<'a>, u32)>) -> Option<RecordRef<'a
     let next = feature.again();
     *held = Some((feature, left - 1));
     Some(next)
+}
+
+/// A walk over the different records of a track, in its order: an iterator whose `next` counts its steps.
+///
+/// A record comes once, with the number of its copies. Its model is the list of these pairs that are left.
+#[derive(Drop)]
+pub struct TrackEntries<'a, A: Allocator + Copy = Global> {
+    pub(crate) entries: Walk<'a, Place, u32, A, ByRest<A>>,
+}
+
+impl<'a, A: Allocator + Copy> Model for TrackEntries<'a, A> {
+    ghost use Rattle.std.specs.Prelude.{List, ℕ};
+    ghost use Rattle.iv_lines.specs.RecordValue.{RecordValue};
+
+    ghost Value = { List (RecordValue × ℕ) };
+
+    ghost view = { λ w. w.entries };
+}
+
+impl<'a, A: Allocator + Copy> TrackEntries<'a, A> {
+    /// The next record and how many copies of it there are, `None` after the last. Each call is one step, the last one too.
+    pub fn next(&mut self, meter: &mut Meter) -> Option<(RecordRef<'a>, u32)>
+        ensures next { TakesFirst (λ p. p) self.old result self.new }
+        ensures step { meter.new ≡ ticked meter.old }
+    {
+        let (feature, copies) = self.entries.next(meter)?;
+        Some((feature, *copies))
+    }
 }

@@ -5,7 +5,6 @@ mod flags;
 mod kept_state;
 mod lemmas;
 mod merge;
-mod records;
 mod view;
 mod words;
 mod written_view;

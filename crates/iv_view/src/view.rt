@@ -1,17 +1,27 @@
-//! The kinds of view.
-ghost use Rattle.std.specs.Prelude.{◌≡◌, true, map};
-ghost use Rattle.iv_view.specs.Views.{read_arguments, or_bad_arguments as kept_or_bad_arguments, beside_second as beside_a_second, beside_fasta as beside_a_fasta};
+//! The kinds of view: the arguments that ask for one, and the print of a run.
+ghost use Rattle.std.specs.Prelude.{[], ◌≡◌, true, map, All, IfOk, OnErr, None};
+ghost use Rattle.iv_view.specs.Views.{read_arguments, or_bad_arguments as kept_or_bad_arguments, beside_second as beside_a_second, beside_fasta as beside_a_fasta, kept_text, shown_text, written_rows};
 ghost use Rattle.iv_view.specs.NarrowedViews.{narrowed as narrowed_view};
+ghost use Rattle.std.specs.List.{flat_map};
+ghost use Rattle.std.specs.Option.{option_copied, unwrap_or};
+ghost use Rattle.iv_bytes.specs.Sinks.{Puts};
+ghost use Rattle.iv_lines.specs.Ordered.{AreInOrder};
+ghost use Rattle.iv_lines.specs.Read.{IsOnGenome};
+ghost use Rattle.iv_blocks.specs.Inside.Texts.{merge_text};
+ghost use Rattle.iv_pair.specs.PairRows.{pair_text};
 
 use crate::flags::{read_complement, read_genomecov, read_getfasta, read_intersect, read_subtract};
 use crate::merge::{narrow_merge, read_cluster, read_merge};
 use crate::written_view::WrittenView;
-use iv_blocks::BlockOptions;
-use iv_depth::DepthOutput;
-use iv_fasta::FastaOutput;
-use iv_lines::Fault;
-use iv_pair::PairOutput;
-use std::alloc::Allocator;
+use iv_blocks::{BlockOptions, MergeSweep, put_cluster, put_complement, put_merge};
+use iv_bytes::{Sink, WriteFault};
+use iv_cover::RecordWalk;
+use iv_depth::{DepthOutput, DepthSweep};
+use iv_fasta::{Fasta, FastaOutput};
+use iv_lines::{Fault, Genome};
+use iv_pair::{PairOutput, PairSweep, join_beside};
+use iv_places::{PlacedRecords, Places};
+use std::alloc::{AllocError, Allocator};
 
 /// Why a view is not opened, in the order in which the causes are looked for: `BadName`, `Taken`, `TooMany`, `Words`, `Column`,
 /// `NoStrand`, `NoSecond`, `NoFasta` (E13 to E20), and `NoMemory` (E22).
@@ -168,4 +178,132 @@ fn beside_fasta(available: Available, asked: Option<FastaOutput>) -> Result<View
         return Err(ViewFault::NoFasta);
     }
     Ok(View::Written(WrittenView::Getfasta(shown)))
+}
+
+impl View {
+    /// Puts the text of the view for the records of a file, beside those of a second file and the bases of a FASTA file.
+    ///
+    /// The records of both files are in the order of a track. Without a FASTA file `getfasta` puts nothing. All memory is allocated
+    /// before the first byte is put: room for a value of each record if a merge asks for `distinct`, for start and stop of each for
+    /// `genomecov`, and what a [`PairSweep`] needs. Other views take none.
+    ///
+    /// # Errors
+    ///
+    /// An allocation failed, and nothing was put. The fault of a sink is in the result: then a prefix of the text was put.
+    pub fn print_from<'t, A: Allocator + Copy, S: Sink>(
+        self,
+        alloc: A,
+        records: PlacedRecords<'t>,
+        second: Places<A>,
+        fasta: Option<&Fasta<A>>,
+        genome: &'t Genome<A>,
+        sink: &mut S,
+    ) -> Result<Result<(), WriteFault>, AllocError>
+        requires order { AreInOrder records }
+        requires on_genome { All (IsOnGenome genome.now) records }
+        requires second { AreInOrder second.records }
+        ensures text { IfOk result (λ put. Puts (S.state sink.old) (S.state sink.new) put (shown_text None self genome.now records.entry second.records (unwrap_or (option_copied fasta.entry) []))) }
+        ensures alone { OnErr result (sink.new ≡ sink.old) }
+    {
+        match self {
+            View::Kept(view) => view.print_from(alloc, records, genome, sink),
+            View::Written(view) => {
+                view.print_from(alloc, records, second, fasta, genome, &mut (), sink)
+            }
+        }
+    }
+}
+
+impl KeptView {
+    /// Puts the text of the view, as [`View::print_from`] does.
+    fn print_from<'t, A: Allocator + Copy, S: Sink>(
+        self,
+        alloc: A,
+        records: PlacedRecords<'t>,
+        genome: &'t Genome<A>,
+        sink: &mut S,
+    ) -> Result<Result<(), WriteFault>, AllocError>
+        requires order { AreInOrder records }
+        requires on_genome { All (IsOnGenome genome.now) records }
+        ensures text { IfOk result (λ put. Puts (S.state sink.old) (S.state sink.new) put (kept_text None self genome.now records.entry)) }
+        ensures alone { OnErr result (sink.new ≡ sink.old) }
+    {
+        match self {
+            KeptView::Merge(options) => put_blocks(alloc, options, records, genome, sink),
+            KeptView::Cluster(distance) => Ok(put_cluster(distance, &records, genome, sink)),
+            KeptView::Complement { limited } => Ok(put_complement(limited, &records, genome, sink)),
+            KeptView::Genomecov(shown) => {
+                let sweep = DepthSweep::new(alloc, records)?;
+                Ok(sweep.print(shown, genome, sink))
+            }
+        }
+    }
+}
+
+/// Puts the rows of a merge. Without summaries, and of both strands together, nothing is looked at except the intervals of records.
+fn put_blocks<'t, A: Allocator + Copy, S: Sink>(
+    alloc: A,
+    options: BlockOptions,
+    records: PlacedRecords<'t>,
+    genome: &'t Genome<A>,
+    sink: &mut S,
+) -> Result<Result<(), WriteFault>, AllocError>
+    requires order { AreInOrder records }
+    requires on_genome { All (IsOnGenome genome.now) records }
+    ensures text { IfOk result (λ put. Puts (S.state sink.old) (S.state sink.new) put (merge_text options genome.now records.entry)) }
+    ensures alone { OnErr result (sink.new ≡ sink.old) }
+{
+    if options.is_by_intervals() {
+        return Ok(put_merge(options.distance, &records, genome, sink));
+    }
+    let mut sweep = MergeSweep::new(alloc, options, records)?;
+    Ok(sweep.print(genome, sink))
+}
+
+impl WrittenView {
+    /// Puts the text of the view, as [`View::print_from`] does.
+    fn print_from<A: Allocator + Copy, W: RecordWalk, S: Sink>(
+        self,
+        alloc: A,
+        records: W,
+        second: Places<A>,
+        fasta: Option<&Fasta<A>>,
+        genome: &Genome<A>,
+        meter: &mut W::Meter,
+        sink: &mut S,
+    ) -> Result<Result<(), WriteFault>, AllocError>
+        requires order { AreInOrder (W.left records) }
+        requires second { AreInOrder second.records }
+        ensures text { IfOk result (λ put. Puts (S.state sink.old) (S.state sink.new) put (flat_map (written_rows self genome.now second.records (unwrap_or (option_copied fasta.entry) [])) (W.left records))) }
+        ensures alone { OnErr result (sink.new ≡ sink.old) }
+    {
+        match self {
+            WrittenView::Paired(output) => {
+                put_pairs(alloc, output, records, second, genome, meter, sink)
+            }
+            WrittenView::Getfasta(_) => Ok(self.put_each(records, fasta, genome, meter, sink)),
+            WrittenView::Records => Ok(self.put_each(records, fasta, genome, meter, sink)),
+        }
+    }
+}
+
+/// Puts the rows of each record beside the second file.
+fn put_pairs<A: Allocator + Copy, W: RecordWalk, S: Sink>(
+    alloc: A,
+    output: PairOutput,
+    records: W,
+    second: Places<A>,
+    genome: &Genome<A>,
+    meter: &mut W::Meter,
+    sink: &mut S,
+) -> Result<Result<(), WriteFault>, AllocError>
+    requires order { AreInOrder (W.left records) }
+    requires second { AreInOrder second.records }
+    ensures text { IfOk result (λ put. Puts (S.state sink.old) (S.state sink.new) put (pair_text output genome.now (W.left records) second.records)) }
+    ensures alone { OnErr result (sink.new ≡ sink.old) }
+{
+    let mut second = second;
+    join_beside(output, &mut second);
+    let sweep = PairSweep::new(alloc, output, second.records())?;
+    Ok(sweep.print(records, genome, meter, sink))
 }

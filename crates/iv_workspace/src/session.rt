@@ -1,25 +1,27 @@
-//! A session of a genome and a track, with its open views.
+//! A session of a genome and a track, with its open views; and regions of its genome.
 ghost use Rattle.std.specs.Prelude.{◌≡◌, ◌+◌, ◌≤◌, ◌<◌, ◌↔◌, None, Some, All, length, IsTrue, IfOk, IfSome, option_map, Ok};
 ghost use Rattle.iv_lines.specs.Read.{read, Fits};
 ghost use Rattle.iv_track.specs.Tracked.{most_records};
 ghost use Rattle.iv_workspace.specs.States.{State, begun, tracked};
 ghost use Rattle.iv_lines.specs.Widths.{IsWidth};
+ghost use Rattle.iv_view.specs.RegionText.{IsWithin};
+ghost use Rattle.iv_workspace.specs.Regions.{region_said};
+
+use crate::views::Views;
+use iv_fasta::Fasta;
+use iv_lines::{Fault, Genome, RecordFault, RecordRef, read_number, read_record};
+use iv_pair::Second;
+use iv_places::Places;
+use iv_text::BedFile;
+use iv_track::{Region, Track};
+use std::alloc::{AllocError, Allocator, Global};
+use std::marker::Model;
 
 mod edits;
 mod lengths;
 mod open_views;
-mod regions;
 
-use crate::views::Views;
 pub use edits::{Accepted, Edit, Target};
-use iv_fasta::Fasta;
-use iv_lines::{Genome, RecordFault, RecordRef, read_record};
-use iv_pair::Second;
-use iv_places::Places;
-use iv_text::BedFile;
-use iv_track::Track;
-use std::alloc::{AllocError, Allocator, Global};
-use std::marker::Model;
 
 /// A genome, a track of records on it, a second file and a FASTA file or none, and the open views in order of opening.
 ///
@@ -182,5 +184,28 @@ impl<A: Allocator + Copy> Session<A> {
             Some(second) => Some(second.width()),
             None => None,
         }
+    }
+}
+
+impl<A: Allocator + Copy> Session<A> {
+    /// The region that the name of a sequence, a start and an end mean: 0-based and half-open, each of 1 to 10 digits.
+    ///
+    /// # Errors
+    ///
+    /// `StartNumber`, `StopNumber`, `Order`, `UnknownSeq`, `PastEnd` (E4 to E6, E3, E7): the first of these.
+    pub fn region(&self, sequence: &[u8], start: &[u8], stop: &[u8]) -> Result<Region, Fault>
+        ensures value { result ≡ region_said self.now.genome sequence.now start.now stop.now }
+        ensures within { IfOk result (IsWithin self.now.genome) }
+    {
+        let start = read_number(start).ok_or(Fault::StartNumber)?;
+        let stop = read_number(stop).ok_or(Fault::StopNumber)?;
+        if start >= stop {
+            return Err(Fault::Order);
+        }
+        let seq = self.genome.rank(sequence).ok_or(Fault::UnknownSeq)?;
+        if stop > self.genome.length_or_zero(seq) {
+            return Err(Fault::PastEnd);
+        }
+        Ok(Region { seq, start, stop })
     }
 }

@@ -2,7 +2,7 @@
 use Rattle.std.specs.Prelude.{◌≡◌, ◌<◌, ℕ, ◌==◌, ◌&&◌, ◌||◌, nat_le, nat_lt, Bool, List, All, count_by}
 use Rattle.std.specs.List.Sorted.{IsPartitionedBy}
 use Rattle.iv_lines.specs.RecordValue.{RecordValue}
-use Rattle.iv_places.specs.declared.place.Place.{Place}
+use Rattle.iv_places.specs.declared.placed_records.Place.{Place}
 use Rattle.iv_pair.specs.declared.count_sweep.End.{End}
 
 -- whether position p of the sequence of rank s is before position `at` of the sequence of rank `seq`

@@ -1,6 +1,6 @@
 -- Places that are joined one by one.
 use Rattle.std.specs.Prelude.{◌==◌, ◌&&◌, nat_le, max, Bool, cond, List, [], ◌∷◌}
-use Rattle.iv_places.specs.declared.place.Place.{Place}
+use Rattle.iv_places.specs.declared.placed_records.Place.{Place}
 
 -- a place is on the sequence of one that doesn't start past it, and starts at its stop or before
 abbrev pub touches : Place → Place → Bool

@@ -10,7 +10,7 @@ use Rattle.iv_lines.specs.RecordValue.{RecordValue, record_cmp}
 use Rattle.iv_lines.specs.Widths.{IsWidth}
 use Rattle.iv_lines.specs.declared.interval.Interval.{Interval}
 use Rattle.iv_places.specs.declared.order.PrefixKeyed.{PrefixKeyed}
-use Rattle.iv_places.specs.declared.place.Place.{Place}
+use Rattle.iv_places.specs.declared.placed_records.Place.{Place}
 
 -- what `Rests` holds: the rests, each with the line feed that ends it, and how many columns their records have
 pub record HeldRests : Type 0 where

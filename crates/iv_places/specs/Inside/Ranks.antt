@@ -2,7 +2,7 @@
 use Rattle.std.specs.Prelude.{ℕ, ◌==◌, Bool, false, List, slice_get}
 use Rattle.std.specs.Option.{unwrap_or}
 use Rattle.iv_lines.specs.RecordValue.{RecordValue}
-use Rattle.iv_places.specs.declared.place.Place.{Place}
+use Rattle.iv_places.specs.declared.placed_records.Place.{Place}
 
 -- the record is on the sequence of this rank
 abbrev pub has_rank : ℕ → RecordValue → Bool

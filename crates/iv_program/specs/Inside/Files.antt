@@ -5,8 +5,8 @@ use Rattle.std.specs.Option.{option_to_list}
 use Rattle.iv_args.specs.Arguments.{RunPlan, file_of}
 use Rattle.iv_args.specs.declared.plan.Slot.{Slot}
 use Rattle.iv_args.specs.declared.plan.Slot.TheVariants.{Bases}
-use Rattle.iv_run.specs.declared.fault.FileFault.{FileFault}
-use Rattle.iv_run.specs.declared.fault.FileFault.TheVariants.{Input, TooLong, Memory}
+use Rattle.iv_run.specs.declared.exit_reason.FileFault.{FileFault}
+use Rattle.iv_run.specs.declared.exit_reason.FileFault.TheVariants.{Input, TooLong, Memory}
 use Rattle.iv_run.specs.declared.exit_reason.ExitReason.{ExitReason}
 use Rattle.iv_run.specs.declared.exit_reason.ExitReason.TheVariants as exit_reason
 use Rattle.iv_program.specs.Files.{FilesState, IsText, after_one, after_reading}

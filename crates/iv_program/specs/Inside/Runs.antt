@@ -1,7 +1,7 @@
 -- What is known of the files of a plan, what their texts mean, and what a run of it does.
 use Rattle.std.specs.Prelude.{◌≡◌, ◌⊎◌, ℕ, Bool, true, false, List, [], Result, Ok, Err, MatchResult, IfOk}
 use Rattle.iv_bytes.specs.Sinks.{SinkState, Takes, FailsIn, waiting}
-use Rattle.iv_places.specs.declared.held_columns.HeldColumns.{HeldColumns}
+use Rattle.iv_places.specs.declared.places.HeldColumns.{HeldColumns}
 use Rattle.iv_fasta.specs.FastaReading.{Wanted}
 use Rattle.iv_session.specs.Streams.{Streams}
 use Rattle.iv_session.specs.declared.script.RunFault.{RunFault}
@@ -13,8 +13,8 @@ use Rattle.iv_run.specs.Shots.{Shows, shown}
 use Rattle.iv_run.specs.Loading.{Parsed, parsed}
 use Rattle.iv_run.specs.Columns.{AreEnough}
 use Rattle.iv_run.specs.RunFiles.{AreAskedFor, AreWanted, Reports}
-use Rattle.iv_run.specs.declared.fault.CliFault.{CliFault}
-use Rattle.iv_run.specs.declared.fault.FileFault.{FileFault}
+use Rattle.iv_run.specs.declared.exit_reason.CliFault.{CliFault}
+use Rattle.iv_run.specs.declared.exit_reason.FileFault.{FileFault}
 use Rattle.iv_run.specs.ExitReasons.{ending_after, ending_of, ending_of_file, is_through, line_of}
 use Rattle.iv_run.specs.declared.exit_reason.ExitReason.{ExitReason}
 use Rattle.iv_run.specs.declared.exit_reason.ExitReason.TheVariants as exit_reason

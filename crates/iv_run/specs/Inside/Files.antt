@@ -1,8 +1,8 @@
 -- How reading a whole file ends.
 use Rattle.std.specs.Prelude.{◌≡◌, ◌≢◌, ℕ, ⊤, ◌≤◌, ◌<◌, List, Result, Ok, Err}
 use Rattle.iv_bytes.specs.Sources.{SourceState}
-use Rattle.iv_run.specs.declared.fault.FileFault.{FileFault}
-use Rattle.iv_run.specs.declared.fault.FileFault.TheVariants.{Input, TooLong, Memory}
+use Rattle.iv_run.specs.declared.exit_reason.FileFault.{FileFault}
+use Rattle.iv_run.specs.declared.exit_reason.FileFault.TheVariants.{Input, TooLong, Memory}
 use Rattle.iv_run.specs.Files.{ReadsWhole, StopsReading}
 
 -- a file was read, or reading it ended with a fault

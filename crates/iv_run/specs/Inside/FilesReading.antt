@@ -8,10 +8,10 @@ use Rattle.iv_fasta.specs.Fasta.{Bases}
 use Rattle.iv_args.specs.declared.plan.Slot.{Slot}
 use Rattle.iv_args.specs.declared.plan.Slot.TheVariants as slot
 use Rattle.iv_places.specs.HeldColumns.{held_width}
-use Rattle.iv_places.specs.declared.held_columns.HeldColumns.{HeldColumns}
+use Rattle.iv_places.specs.declared.places.HeldColumns.{HeldColumns}
 use Rattle.iv_run.specs.Loading.{damage_of}
 use Rattle.iv_run.specs.RunFiles.{FilesRead}
-use Rattle.iv_run.specs.declared.fault.CliFault.{CliFault}
+use Rattle.iv_run.specs.declared.exit_reason.CliFault.{CliFault}
 
 -- the fault of a file, if it is damaged
 abbrev pub fault_in : {T : Type 0} → Result T LoadFault → Option LoadFault

@@ -1,8 +1,8 @@
 -- What a print in one sweep leaves of its sink.
 use Rattle.std.specs.Prelude.{◌≡◌, ℕ, List, Result, Ok, Err}
 use Rattle.iv_bytes.specs.Sinks.{SinkState, Takes, FailsIn}
-use Rattle.iv_run.specs.declared.fault.CliFault.{CliFault}
-use Rattle.iv_run.specs.declared.fault.CliFault.TheVariants as fault
+use Rattle.iv_run.specs.declared.exit_reason.CliFault.{CliFault}
+use Rattle.iv_run.specs.declared.exit_reason.CliFault.TheVariants as fault
 
 -- if this is the text: the sink has taken all of it; or a prefix of it, and is failed; or nothing, for out of memory
 abbrev pub Prints : SinkState → SinkState → Result (Unit {0}) CliFault → List ℕ → Type 0

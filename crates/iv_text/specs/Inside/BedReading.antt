@@ -3,7 +3,7 @@ use Rattle.std.specs.Prelude.{◌≡◌, ℕ, ◌+◌, ◌++◌, List, Err, drop
 use Rattle.iv_lines.specs.Genome.{Sequences}
 use Rattle.iv_lines.specs.Lines.{lines}
 use Rattle.iv_lines.specs.declared.fault.LoadCause.{LoadCause}
-use Rattle.iv_places.specs.declared.held_columns.HeldColumns.{HeldColumns}
+use Rattle.iv_places.specs.declared.places.HeldColumns.{HeldColumns}
 use Rattle.iv_text.specs.BedReading.{LinesRead, known, held_draft, after_records}
 
 -- the first of these lines was read, and those others are left: whatever comes after them, and whatever the line's number is

@@ -1,7 +1,7 @@
 use Rattle.std.proofs.Common.{◌∙◌, ap, map, List, arith, subst}
 use Rattle.std.specs.List.Sorted.{IsPermutation}
 use Rattle.std.proofs.lemmas.List.{take_all}
-use Rattle.iv_places.specs.declared.place.Place.{Place}
+use Rattle.iv_places.specs.declared.placed_records.Place.{Place}
 use Rattle.iv_pair.specs.Inside.Counts.{end_of}
 use Rattle.iv_pair.proofs.CountLemmas.{EndsAscend-sorted}
 use Rattle.iv_pair.proofs.count_sweep.ends_of.Goals as goal

@@ -3,7 +3,7 @@ use Rattle.std.proofs.lemmas.Grind.{common_steps}
 use Rattle.std.proofs.lemmas.List.{take_more, take_more_set, get_or-map, length-map}
 use Rattle.iv_places.specs.Inside.Places.{place_of}
 use Rattle.iv_places.specs.declared.order.PrefixKeyed.{PrefixKeyed}
-use Rattle.iv_places.specs.declared.place.Place.{Place}
+use Rattle.iv_places.specs.declared.placed_records.Place.{Place}
 use Rattle.iv_places.proofs.order.write_places.Goals as goal
 
 pub loop-index-preserved : goal.loop-index-preserved

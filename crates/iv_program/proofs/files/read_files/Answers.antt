@@ -1,7 +1,7 @@
 use Rattle.std.proofs.Common.{◌∙◌, ℕ, List, [], None, refl, subst}
 use Rattle.iv_lines.proofs.PieceLemmas.{handed-on}
 use Rattle.iv_args.specs.declared.plan.Slot.TheVariants.{Sizes, First, Other, Bases}
-use Rattle.iv_places.specs.declared.held_columns.HeldColumns.{HeldColumns}
+use Rattle.iv_places.specs.declared.places.HeldColumns.{HeldColumns}
 use Rattle.iv_run.specs.RunFiles.{AreOf}
 use Rattle.iv_program.specs.Inside.Runs.{HasFiles}
 use Rattle.iv_program.proofs.RunLemmas.{all-read, all-texts, before-bases, before-first, before-other, has-files, none-read, plan-texts, stops-at}

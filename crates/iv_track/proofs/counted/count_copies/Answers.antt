@@ -5,7 +5,7 @@ use Rattle.iv_ledger.specs.Entries.{IsLedger}
 use Rattle.iv_ledger.specs.Inside.Seen.{seen}
 use Rattle.iv_lines.specs.RecordValue.{record_cmp, records_total}
 use Rattle.iv_places.specs.Inside.Places.{HeldRests, IsPlace, record_at}
-use Rattle.iv_places.specs.declared.place.Place.{Place}
+use Rattle.iv_places.specs.declared.placed_records.Place.{Place}
 use Rattle.iv_track.specs.Inside.Counted.{AreCounted, grouped}
 use Rattle.iv_track.proofs.CountedLemmas.{grouped-counted}
 use Rattle.iv_track.proofs.GroupLemmas.{grouped-all, grouped-next}

@@ -1,6 +1,6 @@
 use Rattle.std.proofs.Common.{List, subst, All}
 use Rattle.std.proofs.lemmas.List.Elements.{All-tail}
-use Rattle.iv_places.specs.declared.place.Place.{Place}
+use Rattle.iv_places.specs.declared.placed_records.Place.{Place}
 use Rattle.iv_places.specs.Inside.Places.{IsPlace}
 use Rattle.iv_places.proofs.placed_records.PlacedRecordsIterator.next.Goals as goal
 

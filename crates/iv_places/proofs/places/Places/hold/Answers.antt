@@ -2,7 +2,7 @@ use Rattle.std.proofs.Common.{◌≡◌, ◌∷◌, [], ◌++◌, ◌∙◌, Lis
 use Rattle.iv_lines.specs.Bed.{Bed}
 use Rattle.iv_lines.specs.Widths.{IsWidth}
 use Rattle.iv_places.specs.Inside.Places.{ArePlaces, HeldRests}
-use Rattle.iv_places.specs.declared.place.Place.{Place}
+use Rattle.iv_places.specs.declared.placed_records.Place.{Place}
 use Rattle.iv_places.proofs.PlaceLemmas.{ArePlacesOf, are-kept, places-wide, push-are}
 use Rattle.iv_places.proofs.places.Places.hold.Given.{Over}
 use Rattle.iv_places.proofs.places.Places.hold.Goals.{After-keep, In_ok-push}

@@ -7,7 +7,7 @@ use Rattle.iv_places.specs.Inside.Cover.{AreApart}
 use Rattle.iv_places.specs.Inside.Joins.{joined_places}
 use Rattle.iv_lines.specs.Intervals.{bare}
 use Rattle.iv_places.specs.Inside.Places.{IsPlace, records_at}
-use Rattle.iv_places.specs.declared.place.Place.{Place}
+use Rattle.iv_places.specs.declared.placed_records.Place.{Place}
 use Rattle.iv_places.proofs.BareLemmas.{rows-bare}
 use Rattle.iv_places.proofs.JoinLemmas.{all-bare, covered-joined, places-joined, rows-joined_apart, rows-joined_order}
 use Rattle.iv_places.proofs.PlaceLemmas.{all-based}

@@ -4,7 +4,7 @@ use Rattle.iv_lines.specs.RecordValue.{RecordValue}
 use Rattle.iv_lines.specs.Ordered.{ordered}
 use Rattle.iv_lines.specs.Bed.{Bed}
 use Rattle.iv_places.specs.Inside.Places.{AreInOrder, IsPlace, record_at, records_at}
-use Rattle.iv_places.specs.declared.place.Place.{Place}
+use Rattle.iv_places.specs.declared.placed_records.Place.{Place}
 use Rattle.iv_places.proofs.OrderLemmas.{sorted-rows, sorted-by-rows}
 use Rattle.iv_places.proofs.places.Places.sort.Goals as goal
 

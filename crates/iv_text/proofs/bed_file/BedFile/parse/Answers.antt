@@ -6,7 +6,7 @@ use Rattle.iv_lines.specs.declared.fault.LoadFault.{LoadFault}
 use Rattle.iv_text.specs.BedReading.{finished}
 use Rattle.iv_lines.proofs.PieceLemmas.{handed-on}
 use Rattle.iv_text.proofs.BedReadingLemmas.{text-whole}
-use Rattle.iv_places.specs.declared.held_columns.HeldColumns.TheVariants as held
+use Rattle.iv_places.specs.declared.places.HeldColumns.TheVariants as held
 use Rattle.iv_text.proofs.bed_file.BedFile.parse.Goals as goal
 
 pub returns-in_err-take_piece-clause-err : goal.returns-in_err-take_piece-clause-err

@@ -1,6 +1,6 @@
 use Rattle.std.proofs.Common.{rules, ◌∙◌, ◌-◌, ap}
 use Rattle.std.specs.Int.Count.{count_leading_zeros}
-use Rattle.iv_places.specs.declared.place.Place.{Place}
+use Rattle.iv_places.specs.declared.placed_records.Place.{Place}
 use Rattle.iv_track.proofs.ClassLemmas.{counted-one}
 use Rattle.iv_track.proofs.length_classes.LengthClasses.of.Goals as goal
 

@@ -1,10 +1,8 @@
-use Rattle.std.specs.Option.{option_copied}
-use Rattle.iv_bytes.proofs.PutLemmas.{Takes-nothing}
-use Rattle.iv_view.specs.Views.{second_records}
-use Rattle.iv_view.proofs.RowLemmas.{no-bases}
+use Rattle.std.proofs.Common.{◌≡◌, ◌∙◌}
+use Rattle.iv_track.proofs.WalkLemmas.{filter-from_first}
 use Rattle.iv_view.proofs.written_view.WrittenView.print.Goals as goal
 
-pub returns-in-None-fasta-clause-text : goal.returns-in-None-fasta-clause-text
-returns-in-None-fasta-clause-text g c =
-    rw (c.in-Getfasta.is, c.in-None-fasta.is)
-    (rw (no-bases c.in-Getfasta.shown c.args.genome.now (second_records (option_copied c.args.second)) c.args.track.now.records) (Takes-nothing (g.S.Sink.state c.args.sink.now)))
+pub returns-in-Getfasta-clause-text : goal.returns-in-Getfasta-clause-text
+returns-in-Getfasta-clause-text g c =
+    let all : c.walk-records.result ≡ c.args.track.now.records = c.walk-records.ensures.records ∙ filter-from_first c.args.track.now.records in
+    rw c.in-Getfasta.is (rw (all, c.in-Getfasta.is) at c.put_each.ensures)
