@@ -1,28 +1,25 @@
 -- The rows of the entries are those of the merge.
-use Rattle.std.proofs.Common.{◌≡◌, ℕ, ◌++◌, Bool, List, [], ◌∷◌, map, length, refl, ◌∙◌, ap, arith, All, length-append}
-use Rattle.std.specs.Prelude.{codes, decimal}
-use Rattle.std.specs.List.{flat_map, range_with_len}
+use Rattle.std.proofs.Common.{◌≡◌, ℕ, Bool, List, [], ◌∷◌, None, map, length, refl, ◌∙◌, ap, arith, All, length-append}
+use Rattle.std.specs.List.{flat_map, range_with_len, take_while}
 use Rattle.std.proofs.lemmas.List.Folds.{flat_map-map}
 use Rattle.std.proofs.lemmas.List.{length-map}
-use Rattle.iv_lines.specs.Genome.{Sequences, seq_count, sequence_name}
+use Rattle.iv_lines.specs.Genome.{Sequences, seq_count}
 use Rattle.iv_lines.specs.Named.{names_of}
 use Rattle.iv_lines.specs.Read.{Fits}
 use Rattle.iv_lines.specs.RecordValue.{RecordValue}
 use Rattle.iv_blocks.specs.Groups.{sides}
-use Rattle.iv_blocks.specs.KeptBlocks.{Key, Kept, Entries, AreBlocksOf}
+use Rattle.iv_blocks.specs.KeptBlocks.{Entries, AreBlocksOf}
 use Rattle.iv_blocks.specs.MergeRows.{side_blocks, all_blocks}
-use Rattle.iv_blocks.specs.Inside.Texts.{side_rows, merge_text}
+use Rattle.iv_blocks.specs.Inside.Regions.{goes_on}
+use Rattle.iv_blocks.specs.Inside.Texts.{entry_row, side_rows, merge_text}
 use Rattle.iv_blocks.specs.declared.options.BlockOptions.{BlockOptions}
+use Rattle.iv_blocks.proofs.BlockCursorLemmas.{take-first}
 use Rattle.iv_blocks.proofs.KeptLemmas.{entries-are, entry_of, flat_map-agree, flat_map-flat_map}
 
--- the row of an entry
-abbrev pub entry_row : Sequences → Key × Kept → List ℕ
-entry_row g e = sequence_name g e.0.0 ++ codes "\t" ++ decimal e.0.2 ++ codes "\t" ++ decimal e.1.stop ++ e.1.results ++ codes "\n"
-
--- the row of the first entry, and those of the others
-pub rows-next : (g : Sequences) (name : List ℕ) (k : Key) (v : Kept) (entries rest : Entries) → name ≡ sequence_name g k.0 → entries ≡ (k, v) ∷ rest
-    → flat_map (entry_row g) entries ≡ (name ++ codes "\t" ++ decimal k.2 ++ codes "\t" ++ decimal v.stop ++ v.results ++ codes "\n") ++ flat_map (entry_row g) rest
-rows-next g name k v entries rest named first = rw (named, first) refl
+-- a print without an end goes over all
+pub take-always : (entries : Entries) → take_while (goes_on None) entries ≡ entries
+take-always [] = refl
+take-always (e ∷ entries) = take-first (goes_on None) (e ∷ entries) entries e refl refl ∙ ap (λ (l : Entries). e ∷ l) (take-always entries)
 
 length-same : {X Y Z : Type 0} (f : X → List Y) (h : X → List Z) (xs : List X) → ((x : X) → length (f x) ≡ length (h x)) → length (flat_map f xs) ≡ length (flat_map h xs)
 length-same f h [] same = refl

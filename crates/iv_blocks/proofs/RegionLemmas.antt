@@ -1,14 +1,13 @@
 -- The entries of one group from a key on, and the rows of those that share a position with a region.
 use Rattle.std.proofs.Common.{◌≡◌, ◌⊎◌, ℕ, ◌+◌, ◌<◌, ◌≤◌, inl, inr, ◌&&◌, nat_lt, min, Bool, true, false, List, [], ◌∷◌, ◌++◌, filter, map, length, Option, Some, None, refl, sym, ◌∙◌, ap, ap₂, subst, arith, All, lt-ltb, ltb-true, append-nil, length-append}
 use Rattle.std.specs.declared.cmp.Ordering.TheVariants.{Less, Greater}
-use Rattle.std.specs.Prelude.{codes, decimal}
 use Rattle.std.specs.Cmp.{Equal-is, ranked, tied_itself}
-use Rattle.std.specs.List.{flat_map}
+use Rattle.std.specs.List.{flat_map, take_while}
 use Rattle.std.specs.List.Sorted.{IsStrictlySortedBy}
 use Rattle.std.specs.BTreeMap.{is_at}
 use Rattle.std.specs.Option.{option_map, unwrap_or}
 use Rattle.std.specs.Ordering.{nat_cmp, is_eq, is_le, ordering_reverse}
-use Rattle.std.proofs.lemmas.Bool.{and_parts, and_from, cases_Bool, cases_lt, cond-true, cond-false, false_from_ne_true}
+use Rattle.std.proofs.lemmas.Bool.{and_parts, and_from, cases_Bool, cases_lt, cond-true, cond-false, false≢true, false_from_ne_true}
 use Rattle.std.proofs.lemmas.List.{length-map}
 use Rattle.std.proofs.lemmas.List.Elements.{filter-append}
 use Rattle.std.proofs.lemmas.List.Folds.{flat_map-map}
@@ -29,14 +28,14 @@ use Rattle.iv_blocks.specs.Inside.Regions.{ReachesFrom}
 use Rattle.iv_blocks.specs.KeptBlocks.{Key, Kept, Entries, AreBlocksOf, key_cmp, kept_at, name_of}
 use Rattle.iv_blocks.specs.MergeRows.{block_row, side_blocks}
 use Rattle.iv_blocks.specs.RegionRows.{shares, side_blocks_in, blocks_in}
-use Rattle.iv_blocks.specs.Inside.Texts.{merge_text_in}
+use Rattle.iv_blocks.specs.Inside.Texts.{entry_row, merge_text_in}
 use Rattle.iv_blocks.specs.declared.options.BlockOptions.{BlockOptions}
+use Rattle.iv_blocks.proofs.BlockCursorLemmas.{take-first, take-none}
 use Rattle.iv_blocks.proofs.ComplementLemmas.{mem-values}
 use Rattle.iv_blocks.proofs.EntryLemmas.{from, walked-on, later-keys, side_entries, none-past as no_entry}
 use Rattle.iv_blocks.proofs.KeptLemmas.{group-in, side-is, entry_of, none-past}
 use Rattle.iv_blocks.proofs.Keys.{keys_total, keys_exact}
 use Rattle.iv_blocks.proofs.LookupLemmas.{key_cmp-group, beside-after}
-use Rattle.iv_blocks.proofs.MergeLemmas.{entry_row}
 use Rattle.iv_blocks.proofs.RepairLemmas.{shown-is}
 
 -- ---- lists
@@ -121,42 +120,28 @@ module _ (s : ℕ) (t : Bool) (stop : ℕ) where
       = sym (key_cmp-group s t e.0.2 f.0.2) ∙ sym (ap₂ (λ (j k : Key). key_cmp j k) late.0 own.0) ∙ h.0 f m in
       omega (arith, ranked e.0.2 f.0.2 Less (sym less), own.1, late.1)
 
-  none-early_at : (p : ℕ) (walk rest : Entries) (e : Key × Kept) → walk ≡ e ∷ rest → Ascends walk → ((f : Key × Kept) → Mem f walk → is_le (key_cmp (s, t, p) f.0) ≡ true)
-      → (e.0.0 ≡ s → e.0.1 ≡ t → ⊥) ⊎ ((e.0 ≡ (s, t, e.0.2)) × (stop ≤ e.0.2)) → filter is_early walk ≡ []
-  none-early_at p walk rest e first h after past =
-      let h2 : Ascends (e ∷ rest) = subst Ascends first h in
-      let at : is_le (key_cmp (s, t, p) e.0) ≡ true = after e (subst (λ (l : Entries). Mem e l) (sym first) (inl refl)) in
-      ap (filter is_early) first ∙ filter-none is_early (e ∷ rest) (λ f m. false_from_ne_true _ (past-all p e rest h2 at past f m))
+  -- the entry isn't of this side, or it starts at the region's stop or later
+  is-past : (e : Key × Kept) → is_early e ≡ false → (e.0.0 ≡ s → e.0.1 ≡ t → ⊥) ⊎ ((e.0 ≡ (s, t, e.0.2)) × (stop ≤ e.0.2))
+  is-past ((x, y, z), b) fails = elim (cases_Bool (is_of s t ((x, y, z), b))) [
+    | inl own ↦ elim (cases_lt z stop) [
+      | inl low ↦ absurd (false≢true (sym fails ∙ and_from _ _ own (lt-ltb _ _ low)))
+      | inr high ↦ inr (key-is s t ((x, y, z), b) own, high)
+    ]
+    | inr other ↦ inl (λ at on. false≢true (sym other ∙ of-is s t ((x, y, z), b) (ap₂ (λ (q : ℕ) (m : Bool). (q, m, z)) at on)))
+  ]
 
-  at-start : (x : ℕ) (e : Key × Kept) → e.0 ≡ (s, t, x) → e.0 ≡ (s, t, e.0.2)
-  at-start x e is = is ∙ ap (λ (n : ℕ). (s, t, n)) (sym (ap (λ (k : Key). k.2) is))
-
-  pub none-beside : (p : ℕ) (walk rest : Entries) (e : Key × Kept) → walk ≡ e ∷ rest → Ascends walk → ((f : Key × Kept) → Mem f walk → is_le (key_cmp (s, t, p) f.0) ≡ true)
-      → (e.0.0 ≡ s → e.0.1 ≡ t → ⊥) → filter is_early walk ≡ []
-  none-beside p walk rest e first h after beside = none-early_at p walk rest e first h after (inl beside)
-
-  pub none-past_stop : (p : ℕ) (walk rest : Entries) (e : Key × Kept) → walk ≡ e ∷ rest → Ascends walk → ((f : Key × Kept) → Mem f walk → is_le (key_cmp (s, t, p) f.0) ≡ true)
-      → (x : ℕ) → e.0 ≡ (s, t, x) → stop ≤ x → filter is_early walk ≡ []
-  none-past_stop p walk rest e first h after x is high =
-      none-early_at p walk rest e first h after (inr (at-start x e is, omega (arith, ap (λ (k : Key). k.2) is, high)))
-
-  -- the first entry and the others
-  early-next : (walk rest : Entries) (e : Key × Kept) → walk ≡ e ∷ rest → (x : ℕ) → e.0 ≡ (s, t, x) → x < stop → filter is_early walk ≡ e ∷ filter is_early rest
-  early-next walk rest e first x is low =
-      ap (filter is_early) first
-      ∙ cond-true (is_early e) _ _ (and_from _ _ (of-is s t e (at-start x e is)) (lt-ltb _ _ (omega (arith, ap (λ (k : Key). k.2) is, low))))
-
-  -- its row and theirs
-  pub rows-next : (g : Sequences) (name : List ℕ) (walk rest : Entries) (e : Key × Kept) → walk ≡ e ∷ rest → (x : ℕ) → e.0 ≡ (s, t, x) → x < stop → name ≡ sequence_name g s
-      → flat_map (entry_row g) (filter is_early walk) ≡ (name ++ codes "\t" ++ decimal x ++ codes "\t" ++ decimal e.1.stop ++ e.1.results ++ codes "\n") ++ flat_map (entry_row g) (filter is_early rest)
-  rows-next g name walk rest e first x is low named =
-      ap (flat_map (entry_row g)) (early-next walk rest e first x is low)
-      ∙ ap₂ (λ (n : List ℕ) (y : ℕ). (n ++ codes "\t" ++ decimal y ++ codes "\t" ++ decimal e.1.stop ++ e.1.results ++ codes "\n") ++ flat_map (entry_row g) (filter is_early rest))
-      (ap (λ (k : Key). sequence_name g k.0) is ∙ sym named) (ap (λ (k : Key). k.2) is)
-
-  -- and one less is left
-  pub count-next : (walk rest : Entries) (e : Key × Kept) → walk ≡ e ∷ rest → (x : ℕ) → e.0 ≡ (s, t, x) → x < stop → length (filter is_early walk) ≡ length (filter is_early rest) + 1
-  count-next walk rest e first x is low = omega (arith, ap (λ (l : Entries). length l) (early-next walk rest e first x is low))
+  -- so a walk in order that stops at the first other entry has all of these
+  pub take-early : (p : ℕ) (walk : Entries) → Ascends walk → ((f : Key × Kept) → Mem f walk → is_le (key_cmp (s, t, p) f.0) ≡ true) → take_while is_early walk ≡ filter is_early walk
+  take-early p [] h after = refl
+  take-early p (e ∷ rest) h after = elim (cases_Bool (is_early e)) [
+    | inl goes ↦
+        take-first is_early (e ∷ rest) rest e refl goes
+        ∙ ap (λ (l : Entries). e ∷ l) (take-early p rest h.1 (λ f m. after f (inr m)))
+        ∙ sym (cond-true (is_early e) (e ∷ filter is_early rest) (filter is_early rest) goes)
+    | inr fails ↦
+        take-none is_early (e ∷ rest) fails
+        ∙ sym (filter-none is_early (e ∷ rest) (λ f m. false_from_ne_true _ (past-all p e rest h (after e (inl refl)) (is-past e fails) f m)))
+  ]
 
 module _ (s : ℕ) (t : Bool) (start stop : ℕ) where
   -- the entry is of this side, and shares a position with the region

@@ -89,7 +89,7 @@ impl<A: Allocator + Copy> Blocks<A> {
 }
 
 /// Goes past the blocks that start at this position of the sequence of this rank, or before it, and counts them.
-pub(crate) fn count_until<A: Allocator + Copy>(
+fn count_until<A: Allocator + Copy>(
     ahead: &mut BlockCursor<'_, A>,
     seq: u32,
     position: u64,

@@ -24,7 +24,7 @@ use iv_bytes::{Sink, WriteFault};
 use iv_ledger::Meter;
 use iv_lines::{Genome, put_interval};
 use iv_places::PlacedRecords;
-use iv_track::Track;
+use iv_track::{Region, Track};
 use std::alloc::Allocator;
 
 impl<A: Allocator + Copy> Blocks<A> {
@@ -51,43 +51,39 @@ impl<A: Allocator + Copy> Blocks<A> {
         put_gaps(limited, genome, &mut ahead, meter, sink)
     }
 
-    /// Prints the rows of a `complement` whose interval shares a position with the region from `start` to `stop`, which is not
-    /// included, of the sequence of this rank. If `limited`, there is none on a sequence without a block.
+    /// Prints the rows of a `complement` whose interval shares a position with the region. If `limited`, there is none on a sequence
+    /// without a block.
     ///
     /// At most 2 steps more than there are rows, however many blocks there are elsewhere. Lengths are those of this genome. On a
     /// fault the sink has taken a prefix of the rows.
     pub fn print_complement_in<S: Sink>(
         &self,
         limited: bool,
-        seq: u32,
-        start: u64,
-        stop: u64,
+        region: Region,
         track: &Track<A>,
         genome: &Genome<A>,
         meter: &mut Meter,
         sink: &mut S,
     ) -> Result<(), WriteFault>
-        requires region { start < stop }
+        requires region { region.start < region.stop }
         requires joined { self.now.options ≡ plain_options 0 }
         requires right { AreBlocksOf self.now.options (names_of genome.now) track.now.records self.now.entries }
         requires fit { All (Fits genome.now track.now.width) track.now.records }
-        ensures text { Puts (S.state sink.old) (S.state sink.new) result (complement_text_in limited genome.now track.now.records seq start stop) }
-        ensures steps { TakesUpTo meter.old meter.new (2 + length (gaps_in limited genome.now track.now.records seq start stop)) }
+        ensures text { Puts (S.state sink.old) (S.state sink.new) result (complement_text_in limited genome.now track.now.records region.seq region.start region.stop) }
+        ensures steps { TakesUpTo meter.old meter.new (2 + length (gaps_in limited genome.now track.now.records region.seq region.start region.stop)) }
     {
         let group = Group {
-            seq,
+            seq: region.seq,
             side: Side::Both,
         };
         // No block starts past the end of its sequence.
-        let end = genome.length_u32(seq).unwrap_or(0);
-        let last = u64::from(end).min(start) as u32;
+        let end = genome.length_u32(region.seq).unwrap_or(0);
+        let last = u64::from(end).min(region.start) as u32;
         match self.before(group, last, meter) {
             Some((_, low)) => {
-                self.print_gaps_from(low, limited, seq, start, stop, track, genome, meter, sink)
+                self.print_gaps_from(low, limited, region, track, genome, meter, sink)
             }
-            None => {
-                self.print_gaps_from(0, limited, seq, start, stop, track, genome, meter, sink)
-            }
+            None => { self.print_gaps_from(0, limited, region, track, genome, meter, sink) }
         }
     }
 
@@ -99,9 +95,7 @@ impl<A: Allocator + Copy> Blocks<A> {
         &self,
         low: u32,
         limited: bool,
-        seq: u32,
-        start: u64,
-        stop: u64,
+        region: Region,
         track: &Track<A>,
         genome: &Genome<A>,
         meter: &mut Meter,
@@ -110,21 +104,21 @@ impl<A: Allocator + Copy> Blocks<A> {
         requires joined { self.now.options ≡ plain_options 0 }
         requires right { AreBlocksOf self.now.options (names_of genome.now) track.now.records self.now.entries }
         requires fit { All (Fits genome.now track.now.width) track.now.records }
-        requires begins { BeginsGap (kept_on self.now.entries seq) low }
-        requires past { (x : ℕ) (b : Kept) → low ≤ x → kept_on self.now.entries seq x ≡ Some b → start < x }
-        ensures text { Puts (S.state sink.old) (S.state sink.new) result (flat_map (gap_row (sequence_name genome.now seq)) (gaps_from limited genome.now track.now.records seq start stop low)) }
-        ensures steps { TakesUpTo meter.old meter.new (1 + length (gaps_from limited genome.now track.now.records seq start stop low)) }
+        requires begins { BeginsGap (kept_on self.now.entries region.seq) low }
+        requires past { (x : ℕ) (b : Kept) → low ≤ x → kept_on self.now.entries region.seq x ≡ Some b → region.start < x }
+        ensures text { Puts (S.state sink.old) (S.state sink.new) result (flat_map (gap_row (sequence_name genome.now region.seq)) (gaps_from limited genome.now track.now.records region.seq region.start region.stop low)) }
+        ensures steps { TakesUpTo meter.old meter.new (1 + length (gaps_from limited genome.now track.now.records region.seq region.start region.stop low)) }
     {
         let group = Group {
-            seq,
+            seq: region.seq,
             side: Side::Both,
         };
-        let name = genome.name_or_empty(seq);
+        let name = genome.name_or_empty(region.seq);
         let mut low = low;
-        'gaps: while u64::from(low) < stop {
+        'gaps: while u64::from(low) < region.stop {
             let Some((next, high)) = self.from(group, low, meter) else {
-                let end = genome.length_or_zero(seq);
-                return put_last_gap(limited, name, low as u64, end, start, sink);
+                let end = genome.length_or_zero(region.seq);
+                return put_last_gap(limited, name, low as u64, end, region.start, sink);
             };
             put_gap(name, low as u64, next as u64, sink)?;
             low = high;
@@ -134,7 +128,7 @@ impl<A: Allocator + Copy> Blocks<A> {
 }
 
 /// Puts the gaps between blocks, of all sequences, or if `limited`, of those with a block, and goes past the blocks.
-pub(crate) fn put_gaps<B: BlocksAhead, A: Allocator + Copy, S: Sink>(
+fn put_gaps<B: BlocksAhead, A: Allocator + Copy, S: Sink>(
     limited: bool,
     genome: &Genome<A>,
     blocks: &mut B,
@@ -180,12 +174,7 @@ fn put_sequence<B: BlocksAhead, S: Sink>(
 }
 
 /// Puts the row of a gap, as [`put_interval`] does, if it has a position.
-pub(crate) fn put_gap<S: Sink>(
-    name: &[u8],
-    start: u64,
-    stop: u64,
-    sink: &mut S,
-) -> Result<(), WriteFault>
+fn put_gap<S: Sink>(name: &[u8], start: u64, stop: u64, sink: &mut S) -> Result<(), WriteFault>
     ensures { Puts (S.state sink.old) (S.state sink.new) result (flat_map (gap_row name.now) (gap_between start stop)) }
 {
     if start >= stop {

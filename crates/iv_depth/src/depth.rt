@@ -18,7 +18,7 @@ use iv_bytes::{Sink, WriteFault};
 use iv_cover::Kept;
 use iv_ledger::{LedgerBuilder, Meter, Natural};
 use iv_lines::{Genome, RecordRef};
-use iv_track::Track;
+use iv_track::{Region, Track};
 use std::alloc::{AllocError, Allocator, Global};
 use std::marker::Model;
 
@@ -119,9 +119,7 @@ impl<A: Allocator + Copy> Depth<A> {
     pub fn print_depth_in<S: Sink>(
         &self,
         output: DepthOutput,
-        seq: u32,
-        start: u64,
-        stop: u64,
+        region: Region,
         at: u64,
         track: &Track<A>,
         genome: &Genome<A>,
@@ -130,22 +128,22 @@ impl<A: Allocator + Copy> Depth<A> {
     ) -> Result<(), WriteFault>
         requires right { AreChangesOf track.now.records self.now }
         requires fit { All (Fits genome.now track.now.width) track.now.records }
-        requires some { start < stop }
-        requires within { stop ≤ sequence_length genome.now seq }
-        requires at { at ≡ depth track.now.records seq start }
-        ensures text { Puts (S.state sink.old) (S.state sink.new) result (depth_text_in output genome.now track.now.records seq start stop) }
-        ensures steps { TakesUpTo meter.old meter.new (3 + 2 * length (covered_runs_in (depth track.now.records seq) (sequence_length genome.now seq) start stop)) }
+        requires some { region.start < region.stop }
+        requires within { region.stop ≤ sequence_length genome.now region.seq }
+        requires at { at ≡ depth track.now.records region.seq region.start }
+        ensures text { Puts (S.state sink.old) (S.state sink.new) result (depth_text_in output genome.now track.now.records region.seq region.start region.stop) }
+        ensures steps { TakesUpTo meter.old meter.new (3 + 2 * length (covered_runs_in (depth track.now.records region.seq) (sequence_length genome.now region.seq) region.start region.stop)) }
     {
         // A track holds so few records that a depth fits, and so does a position of a sequence.
         let _few = track.len();
-        let _length = length_of(genome, seq);
+        let _length = length_of(genome, region.seq);
         put_region(
             output,
             &self.changes,
             genome,
-            seq,
-            start as u32,
-            stop as u32,
+            region.seq,
+            region.start as u32,
+            region.stop as u32,
             at as i64,
             meter,
             sink,

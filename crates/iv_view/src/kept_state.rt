@@ -114,15 +114,14 @@ impl KeptView {
     {
         match (self, state) {
             (KeptView::Merge(_), KeptState::Blocks(blocks)) => {
-                blocks.print_merge_in(at.seq, at.start, at.stop, track, genome, meter, sink)
+                blocks.print_merge_in(at, track, genome, meter, sink)
             }
             (KeptView::Cluster(_), KeptState::Blocks(blocks)) => {
                 blocks.print_cluster_in(at, track, genome, meter, sink)
             }
-            (KeptView::Complement { limited }, KeptState::Blocks(blocks)) =>
-                blocks.print_complement_in(
-                    limited, at.seq, at.start, at.stop, track, genome, meter, sink,
-                ),
+            (KeptView::Complement { limited }, KeptState::Blocks(blocks)) => {
+                blocks.print_complement_in(limited, at, track, genome, meter, sink)
+            }
             (KeptView::Genomecov(shown), KeptState::Depth(depth)) => {
                 print_depth_in(shown, at, depth, track, genome, meter, sink)
             }
@@ -148,9 +147,7 @@ fn print_depth_in<A: Allocator + Copy, S: Sink>(
     ensures steps { TakesUpTo meter.old meter.new (5 + length (near at track.now.records) + 2 * length (covered_runs_in (depth_of track.now.records at.seq) (sequence_length genome.now at.seq) at.start at.stop)) }
 {
     let first = track.depth_at(at.seq, at.start, meter);
-    depth.print_depth_in(
-        shown, at.seq, at.start, at.stop, first, track, genome, meter, sink,
-    )
+    depth.print_depth_in(shown, at, first, track, genome, meter, sink)
 }
 
 impl View {

@@ -159,7 +159,7 @@ impl WrittenView {
 ///
 /// One walk over the different records: at most two steps, and one for each. It takes no memory. On a fault the sink has taken a
 /// prefix of the rows.
-pub(crate) fn print_records<A: Allocator + Copy, S: Sink>(
+fn print_records<A: Allocator + Copy, S: Sink>(
     track: &Track<A>,
     genome: &Genome<A>,
     meter: &mut Meter,

@@ -16,7 +16,7 @@ abbrev pub starts_until : ℕ → ℕ → Interval → Bool
 starts_until seq position b = nat_lt b.seq seq || ((b.seq == seq) && nat_le b.start position)
 
 -- the first block, if there is one, doesn't pass the test
-abbrev pub BeginsElse : (Interval → Bool) → List Interval → Type 0
+abbrev pub BeginsElse : {X : Type 0} → (X → Bool) → List X → Type 0
 BeginsElse test [] = Unit {0}
 BeginsElse test (b ∷ blocks) = test b ≡ false
 

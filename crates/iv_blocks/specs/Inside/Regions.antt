@@ -1,18 +1,26 @@
 -- The blocks of one group that may share a position with a region. This is the state of a print, as seen by its proof.
-use Rattle.std.specs.Prelude.{◌≡◌, ◌⊎◌, ℕ, ◌<◌, ◌≤◌, Bool, false, List, [], filter, Option, None, Some, if◌then◌else◌}
+use Rattle.std.specs.Prelude.{◌≡◌, ◌⊎◌, ℕ, ◌<◌, ◌≤◌, ◌&&◌, nat_lt, Bool, true, false, List, [], filter, Option, None, Some, if◌then◌else◌}
+use Rattle.std.specs.BTreeMap.{is_at}
 use Rattle.iv_lines.specs.Genome.{Sequences, sequence_length}
 use Rattle.iv_lines.specs.RecordValue.{RecordValue}
 use Rattle.iv_ledger.specs.Entries.{value_at}
 use Rattle.iv_cover.specs.Depth.{depth}
 use Rattle.iv_cover.specs.Runs.{Run, empty_runs}
+use Rattle.iv_blocks.specs.Inside.Insertion.{key_of}
 use Rattle.iv_blocks.specs.Inside.Texts.{is_shown}
-use Rattle.iv_blocks.specs.KeptBlocks.{Entries, Kept, key_cmp}
+use Rattle.iv_blocks.specs.KeptBlocks.{Entries, Key, Kept, key_cmp}
+use Rattle.iv_blocks.specs.declared.group.Group.{Group}
 use Rattle.iv_blocks.specs.RegionRows.{shares}
 
 -- the blocks before `low` stop at the position or before it, and those from `low` on stop past it
 pub record ReachesFrom (look : ℕ → Option Kept) (position low : ℕ) : Type 0 where
   pub before : (x : ℕ) (b : Kept) → x < low → look x ≡ Some b → b.stop ≤ position
   pub after : (x : ℕ) (b : Kept) → low ≤ x → look x ≡ Some b → position < b.stop
+
+-- a print goes on at this block: it has no end, or the block is of the group and starts before the position
+abbrev pub goes_on : Option (Group × ℕ) → Key × Kept → Bool
+goes_on None e = true
+goes_on (Some until) e = is_at (key_cmp (key_of until.0 e.0.2)) e.0 && nat_lt e.0.2 until.1
 
 -- what is kept of the block of a sequence that starts at x, if there is one and strands are together
 abbrev pub kept_on : Entries → ℕ → ℕ → Option Kept

@@ -1,5 +1,5 @@
 -- The texts of views over blocks, of all sequences and of a region, as each print has them.
-use Rattle.std.specs.Prelude.{ℕ, ◌+◌, ◌==◌, Bool, ◌||◌, not, List, None}
+use Rattle.std.specs.Prelude.{ℕ, ◌+◌, ◌++◌, ◌==◌, Bool, ◌||◌, not, List, None, codes, decimal}
 use Rattle.std.specs.List.{flat_map, list_any, range_with_len}
 use Rattle.iv_lines.specs.Genome.{Sequences, seq_count, sequence_name}
 use Rattle.iv_lines.specs.RecordValue.{RecordValue}
@@ -7,6 +7,7 @@ use Rattle.iv_track.specs.Regions.{hits}
 use Rattle.iv_blocks.specs.ClusterRows.{blocks_until, cluster_row}
 use Rattle.iv_blocks.specs.ComplementRows.{gap_row, gap_rows}
 use Rattle.iv_blocks.specs.Groups.{sides, listed}
+use Rattle.iv_blocks.specs.KeptBlocks.{Key, Kept}
 use Rattle.iv_blocks.specs.MergeRows.{block_row, side_blocks}
 use Rattle.iv_blocks.specs.RegionRows.{gaps_in, side_blocks_in}
 use Rattle.iv_blocks.specs.declared.options.BlockOptions.{BlockOptions}
@@ -14,6 +15,10 @@ use Rattle.iv_blocks.specs.declared.options.BlockOptions.{BlockOptions}
 -- the rows of the blocks of one side of a sequence
 abbrev pub side_rows : BlockOptions → Sequences → List RecordValue → ℕ → Bool → List ℕ
 side_rows o g records seq minus = flat_map (block_row (sequence_name g seq) (listed o.summaries)) (side_blocks o g records seq minus)
+
+-- the row of a block as it is kept
+abbrev pub entry_row : Sequences → Key × Kept → List ℕ
+entry_row g e = sequence_name g e.0.0 ++ codes "\t" ++ decimal e.0.2 ++ codes "\t" ++ decimal e.1.stop ++ e.1.results ++ codes "\n"
 
 -- all rows of a merge: those of each sequence by rank, and within it of each side
 abbrev pub merge_text : BlockOptions → Sequences → List RecordValue → List ℕ
