@@ -133,6 +133,23 @@ impl<N: SecondRecords<W>, W: RecordWalk, A: Allocator> HitFinder<N, W, A> {
         self.walk = walk;
     }
 
+    /// Whether it is plain that no record shares a position with the interval that was sought last: none is carried, and the next one
+    /// starts at its end or later.
+    #[inline(always)]
+    pub(crate) fn has_none(&mut self) -> bool
+        ensures none { result ≡ true → self.old.found ≡ [] }
+        ensures ordered { AreInOrder self.old.records }
+        ensures same { self.new ≡ self.old }
+    {
+        if !self.carried.as_slice().is_empty() {
+            return false;
+        }
+        match self.walk.next_interval(&mut self.meter) {
+            Some(next) => is_from(next, self.seq, self.stop),
+            None => true,
+        }
+    }
+
     /// The records that share a position with the interval that was sought last, in the order of a track.
     #[inline(always)]
     pub(crate) fn hits(&self) -> Hits<'_, W>

@@ -23,6 +23,7 @@ use iv_lines::{BedRecord, Genome, RecordRef};
 use iv_places::Places;
 use iv_track::{Track, TrackRecords};
 use std::alloc::{AllocError, Allocator};
+use std::iter::empty;
 use std::marker::Model;
 
 /// Which rows are put of a record and its hits.
@@ -212,6 +213,9 @@ fn put_beside<A: Allocator + Copy, R: BedRecord, N: SecondRecords<V>, V: RecordW
     ensures base { (R.as_record feature.now).start < (R.as_record feature.now).stop }
 {
     finder.seek(feature.seq(), feature.start(), feature.stop());
+    if finder.has_none() {
+        return put_pair_rows(output, genome, feature, empty::<V::Record>(), sink);
+    }
     let hits = finder.hits();
     hits.lemma_of_few();
     if !counts {
