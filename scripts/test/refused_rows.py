@@ -27,7 +27,6 @@ WITHOUT = {
     "View::asked": "the options of a view are held without an allocation",
     "View::narrowed": "the options of a view are held without an allocation",
     "Plan::view": "the options of a view are held without an allocation",
-    "Plan::view_beside": "the options of a view are held without an allocation",
     "NameMap::rehash": "`Genome::parse` calls it",
     "NameMap::push": "`Genome::parse` calls it",
     "BedLines::take_lines": "`BedReader::take_piece` calls it",

@@ -8,7 +8,7 @@ ghost use Rattle.iv_lines.specs.Widths.{IsWidth};
 
 use crate::subcommand::{RunOption, Subcommand};
 use iv_lines::{Fault, read_number};
-use iv_view::{Available, View, ViewFault};
+use iv_view::{View, ViewFault};
 use std::alloc::{AllocError, Allocator, Global};
 use std::marker::Model;
 
@@ -413,17 +413,5 @@ impl<'a, A: Allocator + Copy> Plan<'a, A> {
         ensures { result ≡ read_arguments 6 true true self.now.view }
     {
         self.view
-    }
-
-    /// The view that is to be printed, of these records beside these files. A session has none.
-    ///
-    /// # Errors
-    ///
-    /// `Column`, then `NoStrand`, then `NoSecond` or `NoFasta`, and `Words` in a session.
-    pub fn view_beside(&self, available: Available) -> Result<View, ViewFault>
-        ensures { result ≡ read_arguments available.width available.second available.fasta self.now.view }
-    {
-        let view = self.view()?;
-        view.narrowed(available)
     }
 }

@@ -1,7 +1,7 @@
 //! Files that are opened by their names, and reading those of a plan.
 ghost use Rattle.std.specs.Prelude.{◌≡◌, List, ℕ, Option, Some, IfOk, IfErr, OnOk, OnErr, true};
 ghost use Rattle.iv_fasta.specs.FastaReading.{Wanted};
-ghost use Rattle.iv_run.specs.RunFiles.{AreAskedFor, TakesFasta, TakesFirst, TakesSecond};
+ghost use Rattle.iv_run.specs.RunFiles.{AreAskedFor, HasBegun, TakesFasta, TakesFirst, TakesSecond};
 ghost use Rattle.iv_program.specs.Files.{FilesState, opened, after_opening, after_closing, after_one, after_reading};
 ghost use Rattle.iv_program.specs.Inside.Files.{ReadsNamed, StopsAt, StopsFile, names_of};
 ghost use Rattle.iv_program.specs.Inside.Runs.{HasFiles};
@@ -10,7 +10,7 @@ ghost use Rattle.iv_program.specs.Texts.{Texts, AreTexts};
 use iv_args::{Plan, Slot};
 use iv_bytes::{ReadFault, Source};
 use iv_places::HeldColumns;
-use iv_run::{CliFault, FileFault, FilesReader, RunFiles, read_all};
+use iv_run::{CliFault, FileFault, FilesReader, RunFiles};
 use std::alloc::Allocator;
 
 /// How many bytes a file may have.
@@ -50,17 +50,19 @@ fn in_slot<T: Drop>(slot: Slot, read: Result<T, FileFault>) -> Result<T, SlotFau
     }
 }
 
-/// The bytes of the file of this name.
-fn read_file<A: Allocator + Copy, F: InputFiles>(
+/// Reads the genome file of a plan, and begins with it.
+fn read_sizes<A: Allocator + Copy, F: InputFiles>(
     alloc: A,
     files: &mut F,
     name: &[u8],
-) -> Result<Vec<u8, A>, FileFault>
-    ensures ok { IfOk result (λ bytes. ReadsNamed (F.state files.old) (Some name.now) (Some bytes.items) (F.state files.new)) }
+    plan: &Plan<'_, A>,
+    columns: HeldColumns,
+) -> Result<FilesReader<A>, FileFault>
+    ensures ok { IfOk result (λ reader. (text : List ℕ) × ReadsNamed (F.state files.old) (Some name.now) (Some text) (F.state files.new) × HasBegun plan.now.width plan.now.limit columns text reader) }
     ensures err { IfErr result (λ fault. StopsFile (F.state files.old) name.now fault (F.state files.new)) }
 {
     let mut file = files.open(name)?;
-    let read = read_all(alloc, &mut file, MOST_FILE_BYTES);
+    let read = FilesReader::begin(alloc, plan, columns, &mut file, MOST_FILE_BYTES);
     files.close(file);
     read
 }
@@ -158,8 +160,8 @@ pub(crate) fn read_files<A: Allocator + Copy, F: InputFiles>(
     ensures after { OnOk result (F.state files.new ≡ after_reading (names_of plan.now) (F.state files.old)) }
     ensures err { IfErr result (λ why. StopsAt plan.now (F.state files.old) (F.state files.new) why.0 why.1) }
 {
-    let sizes = in_slot(Slot::Sizes, read_file(alloc, files, plan.sizes_file()))?;
-    let mut reader = FilesReader::begin(alloc, plan, sizes.as_slice(), plan.limit(), columns);
+    let begun = read_sizes(alloc, files, plan.sizes_file(), plan, columns);
+    let mut reader = in_slot(Slot::Sizes, begun)?;
     in_slot(
         Slot::First,
         read_first(files, plan.first_file(), &mut reader),

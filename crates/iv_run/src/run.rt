@@ -68,7 +68,8 @@ impl<A: Allocator + Copy> RunFiles<A> {
     fn view(&self, plan: &Plan<'_, A>) -> Result<View, ViewFault>
         ensures { result ≡ view_beside self.now plan.now.view }
     {
-        plan.view_beside(Available {
+        let view = plan.view()?;
+        view.narrowed(Available {
             width: self.first.width(),
             second: self.second.is_some(),
             fasta: self.fasta.is_some(),

@@ -5,7 +5,7 @@ ghost use Rattle.iv_fasta.specs.FastaReading.{Wanted};
 ghost use Rattle.iv_run.specs.Files.{ReadsWhole, StopsReading};
 ghost use Rattle.iv_run.specs.Loading.{parsed};
 ghost use Rattle.iv_lines.specs.Widths.{IsWidth};
-ghost use Rattle.iv_run.specs.RunFiles.{AreAskedFor, AreOf, IsParsed, Reports, TakesFasta, TakesFirst, TakesSecond, report_by};
+ghost use Rattle.iv_run.specs.RunFiles.{AreAskedFor, HasBegun, IsParsed, Reports, TakesFasta, TakesFirst, TakesSecond, report_by};
 ghost use Rattle.iv_run.specs.Inside.FilesReading.{IsOn, damage_after, none_read, with_bases, with_first, with_second, with_sizes};
 ghost use Rattle.iv_bytes.specs.Sources.{SourceState};
 ghost use Rattle.iv_text.specs.BedReading.{AreSoundLines, size_of};
@@ -262,7 +262,7 @@ impl<A: Allocator + Copy> RunFiles<A> {
             (parsed plan.now.width inputs.now.sizes.now inputs.now.first.now (option_copied inputs.now.other) (option_map (λ text. text.items) fasta_text) limit) }
         ensures limit { IfOk result (λ files. files.limit ≡ limit) }
     {
-        let mut reader = FilesReader::begin(alloc, plan, inputs.sizes, limit, columns);
+        let mut reader = FilesReader::of_sizes(alloc, plan, inputs.sizes, limit, columns);
         reader.parse_first(inputs.first);
         reader.parse_second(inputs.other);
         reader.parse_fasta(fasta_text);
@@ -294,19 +294,35 @@ impl<A: Allocator + Copy> Model for FilesReader<A> {
 }
 
 impl<A: Allocator + Copy> FilesReader<A> {
-    /// Begins with the bytes of a genome file. A BED file of the run without a record has the width that the plan gives, and each may
-    /// have at most `limit` records, of which these columns are held.
-    pub fn begin(
+    /// Begins with the genome file, which is read from a source to its end, at most `most` bytes. A BED file of the run without a record
+    /// has the width that the plan gives, and each may have as many records as the plan says, of which these columns are held.
+    ///
+    /// # Errors
+    ///
+    /// A fault of the source, or an allocation failed. That the file is damaged is no error here.
+    pub fn begin<R: Source>(
+        alloc: A,
+        plan: &Plan<'_, A>,
+        columns: HeldColumns,
+        source: &mut R,
+        most: u64,
+    ) -> Result<Self, FileFault>
+        ensures ok { IfOk result (λ reader. (text : List ℕ) × ReadsWhole (R.state source.old) (R.state source.new) most text × HasBegun plan.now.width plan.now.limit columns text reader) }
+        ensures err { IfErr result (λ fault. StopsReading (R.state source.old) (R.state source.new) most fault) }
+    {
+        let sizes = read_all(alloc, source, most)?;
+        Ok(FilesReader::of_sizes(alloc, plan, sizes.as_slice(), plan.limit(), columns))
+    }
+
+    /// Begins with the bytes of a genome file. A BED file of the run may have at most `limit` records.
+    fn of_sizes(
         alloc: A,
         plan: &Plan<'_, A>,
         sizes: &[u8],
         limit: u32,
         columns: HeldColumns,
     ) -> Self
-        ensures says { AreOf None sizes.now [] None None result }
-        ensures width { result.width ≡ plan.now.width }
-        ensures limit { result.files.limit ≡ limit }
-        ensures columns { result.columns ≡ columns }
+        ensures { HasBegun plan.now.width limit columns sizes.now result }
     {
         let mut reader = FilesReader::empty(alloc, plan.width(), limit, columns);
         reader.take_sizes(Genome::parse(alloc, sizes));

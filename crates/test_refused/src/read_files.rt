@@ -2,8 +2,7 @@
 use crate::session_files::Refusing;
 use crate::wrong_devices::{Place, manner};
 use iv_args::{Plan, Slot};
-use iv_bytes::StdSource;
-use iv_cli::begin_session;
+use iv_bytes::{MemSource, StdSource};
 use iv_run::{ExitReason, FilesReader};
 use iv_text::HeldColumns;
 use std::alloc::Allocator;
@@ -16,22 +15,30 @@ const TEXT: &[u8] = b"chr1\t1\t2\nchr1\t3\t4\n";
 /// The arguments of a session of two files.
 const ARGUMENTS: [&[u8]; 7] = [b"session", b"-g", b"g", b"-i", b"a", b"-b", b"b"];
 
-/// How many records the session of a plan begins with, whose files come from these streams and may have so many bytes each.
+/// The reader of a plan's files, which has read a genome file of one sequence.
+fn begun<A: Allocator + Copy>(alloc: A, plan: &Plan<'_, A>) -> Result<FilesReader<A>, ExitReason> {
+    let mut sizes = MemSource::new(b"chr1\t100\n", usize::MAX, 4);
+    FilesReader::begin(alloc, plan, HeldColumns::All, &mut sizes, 100).map_err(
+        |fault| ExitReason::from((Slot::Sizes, fault)),
+    )
+}
+
+/// How many records the first file of a session has, if its files come from these streams and may have so many bytes each.
 fn read_in<A: Allocator + Copy>(
-    alloc: A,
-    plan: &Plan<'_, A>,
+    begun: FilesReader<A>,
     first: &mut Stream<'_>,
     second: &mut Stream<'_>,
     most: u32,
-) -> Result<u32, ExitReason> {
-    let mut reader = FilesReader::begin(alloc, plan, b"chr1\t100\n", 100, HeldColumns::All);
+) -> Result<usize, ExitReason> {
+    let mut reader = begun;
     if let Err(fault) = reader.read_first(&mut StdSource::new(first), u64::from(most)) {
         return Err(ExitReason::from((Slot::First, fault)));
     }
     if let Err(fault) = reader.read_second(&mut StdSource::new(second), u64::from(most)) {
         return Err(ExitReason::from((Slot::Other, fault)));
     }
-    Ok(begin_session(reader.finish()?)?.len())
+    let files = reader.finish()?;
+    Ok(files.first.records().len())
 }
 
 /// The same with all memory.
@@ -40,9 +47,9 @@ fn read(
     first: &mut Stream<'_>,
     second: &mut Stream<'_>,
     most: u32,
-) -> Result<Result<u32, ExitReason>, Fail> {
+) -> Result<Result<usize, ExitReason>, Fail> {
     let plan = Plan::read(rt.alloc(), &ARGUMENTS)?;
-    Ok(read_in(rt.alloc(), &plan, first, second, most))
+    Ok(begun(rt.alloc(), &plan).and_then(|reader| read_in(reader, first, second, most)))
 }
 
 /// Whether a file of a session that goes wrong at a place ends it, and is not read again. `None` if it doesn't go wrong, and all is read.
@@ -88,7 +95,7 @@ fn files_that_go_wrong(rt: HostRuntime) -> Result<(), Fail> {
 }
 
 /// The end of a session whose files may have so many bytes each.
-fn within(rt: &HostRuntime, most: u32) -> Result<Result<u32, ExitReason>, Fail> {
+fn within(rt: &HostRuntime, most: u32) -> Result<Result<usize, ExitReason>, Fail> {
     let mut first = Stream::new(rt.alloc(), TEXT, Manner::sound(3));
     let mut second = Stream::new(rt.alloc(), TEXT, Manner::sound(3));
     read(rt, &mut first, &mut second, most)
@@ -103,17 +110,19 @@ fn files_of_more_bytes_than_they_may_have(rt: HostRuntime) -> Result<(), Fail> {
     Ok(())
 }
 
-/// How a session ends whose first file fails at its end, with the allocation of this number refused, after those for its arguments.
+/// How a session ends whose first file fails at its end, with the allocation of this number refused, after those for its arguments and
+/// the genome file.
 fn end_without(
     rt: &HostRuntime,
     alloc: Refusing<'_>,
     number: u64,
-) -> Result<Result<u32, ExitReason>, Fail> {
+) -> Result<Result<usize, ExitReason>, Fail> {
     let plan = Plan::read(alloc, &ARGUMENTS)?;
     let mut first = Stream::new(rt.alloc(), TEXT, manner(Place::Bytes(3), 18));
     let mut second = Stream::new(rt.alloc(), TEXT, Manner::sound(3));
+    let reader = begun(alloc, &plan)?;
     alloc.again(number.max(1));
-    let ended = read_in(alloc, &plan, &mut first, &mut second, 18);
+    let ended = read_in(reader, &mut first, &mut second, 18);
     alloc.grant();
     Ok(ended)
 }
@@ -125,6 +134,6 @@ fn files_that_go_wrong_without_memory(rt: HostRuntime) -> Result<(), Fail> {
     for number in 1..20 {
         assert!(rt; end_without(&rt, &alloc, number)? == Err(ExitReason::Unreadable(Slot::First)));
     }
-    assert!(rt; 3 < alloc.refusals());
+    assert!(rt; 0 < alloc.refusals());
     Ok(())
 }
