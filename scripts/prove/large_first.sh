@@ -1,9 +1,10 @@
 #!/usr/bin/env bash
-# Proves the library crates below the program, before `rt ci` proves all.
+# Proves the library crates below the program, and the crates of tests, before `rt ci` proves all.
 #
 # `rt ci` gives a crate the processors that are idle when it starts. A large one that starts beside others gets one, and holds up all
-# crates above it long after the others have ended. Here two runs go on side by side, each with half of the processors: one proves
-# the crates that hold up most, and the other those that don't wait for them. `rt ci` then takes what was proved.
+# crates above it long after the others have ended; and among many each gets one, so that at last the two crates of tests have one
+# each, and the others are idle. Here two runs go on side by side, each with half of the processors: one proves the crates that hold up
+# most, and the other those that don't wait for them. `rt ci` then takes what was proved, and tries the edits of must-fail.
 #
 # Nothing is done if the toolchain keeps no proofs for another run, or if a processor has less than 5 GB: a check takes up to 4.2.
 #
@@ -62,4 +63,7 @@ prove_beside iv_hints
 prove iv_workspace
 prove iv_session
 prove iv_program
+await
+prove_beside test_refused
+prove test_calls
 await
