@@ -20,9 +20,9 @@ def rows(text):
     found = []
     for line in text.splitlines():
         cells = [cell.strip().replace("`", "") for cell in line.strip("|").split("|")]
-        if len(cells) in (5, 6) and re.fullmatch(r"\d+\.\d+", cells[4]):
+        if len(cells) == 7 and re.fullmatch(r"\d+\.\d+", cells[4]):
             what = re.sub(r", (4,000,000 records|70,000 records over 200 million bases, beside bedtools with its index)", "", cells[0])
-            found.append((what, int(cells[1]), float(cells[4]), float(cells[5]) if cells[5:] and cells[5] else None))
+            found.append((what, int(cells[1]), float(cells[4]), float(cells[5]) if cells[5] else None))
     return found
 
 
