@@ -1,10 +1,10 @@
 #!/usr/bin/env bash
 # Proves the library crates below the program, and the crates of tests, before `rt ci` proves all.
 #
-# `rt ci` gives a crate the processors that are idle when it starts. A large one that starts beside others gets one, and holds up all
-# crates above it long after the others have ended; and among many each gets one, so that at last the two crates of tests have one
-# each, and the others are idle. Here two runs go on side by side, each with half of the processors: one proves the crates that hold up
-# most, and the other those that don't wait for them. `rt ci` then takes what was proved, and tries the edits of must-fail.
+# `rt ci` gives a crate the processors that are idle when it starts, or just one if check.sh says how many checks there are at a time. A
+# large one that starts beside others gets one, and holds up all crates above it long after the others have ended; and the two crates
+# of tests go on long after all edits of must-fail were tried. Here two runs go on side by side, each over few crates: one proves those
+# that hold up most, and the other those that don't wait for them. `rt ci` then takes what was proved.
 #
 # Nothing is done if the toolchain keeps no proofs for another run, or if a processor has less than 5 GB: a check takes up to 4.2.
 #

@@ -58,7 +58,7 @@ abbrev pub AreOf : Wanted → List ℕ → List ℕ → Option (List ℕ) → Op
 AreOf wanted sizes first second fasta_text read =
     Reports read.columns wanted (report_by read.files read.damage) (parsed read.width sizes first second fasta_text read.files.limit)
 
--- the genome file was read, and has these bytes; no other file is read yet
+-- the genome file was read, and has these bytes, for a plan of this width and this limit, with these columns held; no other file is read yet
 pub record HasBegun (wide most : ℕ) (which : HeldColumns) (sizes : List ℕ) (read : FilesRead) : Type 0 where
   pub are : AreOf None sizes [] None None read
   pub width : read.width ≡ wide

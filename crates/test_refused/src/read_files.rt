@@ -134,6 +134,6 @@ fn files_that_go_wrong_without_memory(rt: HostRuntime) -> Result<(), Fail> {
     for number in 1..20 {
         assert!(rt; end_without(&rt, &alloc, number)? == Err(ExitReason::Unreadable(Slot::First)));
     }
-    assert!(rt; 0 < alloc.refusals());
+    assert!(rt; 2 < alloc.refusals());
     Ok(())
 }

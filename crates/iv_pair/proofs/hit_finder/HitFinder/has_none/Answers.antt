@@ -1,4 +1,5 @@
-use Rattle.std.proofs.Common.{◌≡◌, ◌++◌, ◌∷◌, [], List, map, length, true, refl, sym, ap, ◌∙◌, subst, arith, eqb-true}
+use Rattle.std.proofs.Common.{◌≡◌, ◌++◌, [], List, map, length, true, sym, ap, ◌∙◌, subst, eqb-true}
+use Rattle.std.proofs.lemmas.List.{nil_from_length}
 use Rattle.iv_lines.specs.Ordered.{AreInOrder}
 use Rattle.iv_lines.specs.RecordValue.{RecordValue}
 use Rattle.iv_track.specs.Tracked.{is_from}
@@ -8,16 +9,12 @@ use Rattle.iv_pair.specs.Inside.HitFinder.{Finding}
 use Rattle.iv_pair.proofs.hit_finder.HitFinder.has_none.Goals.{in-Some, in-None}
 use Rattle.iv_pair.proofs.hit_finder.HitFinder.has_none.Goals as goal
 
-none-of : {X : Type 0} (xs : List X) → length xs ≡ 0 → xs ≡ []
-none-of [] e = refl
-none-of (x ∷ xs) e = absurd (omega (arith, e))
-
 pub returns-clause-none : goal.returns-clause-none
 returns-clause-none g c = λ plain.
     let i = c.self.inside in
     let value = g.W.Record.BedRecord.as_record in
     let left = g.W.RecordWalk.left i.walk in
-    let carried : i.carried.items ≡ [] = none-of i.carried.items (ap (λ (l : List _). length l) (sym c.as_slice.ensures.value) ∙ eqb-true _ _ (sym c.is_empty.ensures ∙ c.if-not-is_empty.false)) in
+    let carried : i.carried.items ≡ [] = nil_from_length i.carried.items (ap (λ (l : List _). length l) (sym c.as_slice.ensures.value) ∙ eqb-true _ _ (sym c.is_empty.ensures ∙ c.if-not-is_empty.false)) in
     let found : c.args.self.now.found ≡ hits left i.seq i.start i.stop
     = sym (ap (λ (f : Finding). f.found) c.self.view_is) ∙ ap (λ (l : List _). map value l ++ hits left i.seq i.start i.stop) carried in
     found ∙ elim c.match-next_interval.branch [
