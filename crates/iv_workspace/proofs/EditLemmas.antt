@@ -7,11 +7,13 @@ use Rattle.iv_lines.specs.Read.{Fits}
 use Rattle.iv_lines.specs.RecordValue.{RecordValue, record_cmp, records_total}
 use Rattle.iv_lines.proofs.OrderedLemmas.{copies-added, length-added}
 use Rattle.iv_lines.proofs.RecordLemmas.{rows_exact}
-use Rattle.iv_track.specs.Edits.{with_record, without_record, with_replaced}
+use Rattle.iv_lines.specs.declared.fault.Fault.{Fault}
+use Rattle.iv_lines.specs.declared.fault.Fault.TheVariants as fault
+use Rattle.iv_track.specs.Edits.{RefusesAdd, RefusesRemove, RefusesReplace, with_record, without_record, with_replaced}
 use Rattle.iv_track.specs.Tracked.{Tracked}
 use Rattle.iv_track.proofs.Counts.{length-removed, removed-added}
 use Rattle.iv_track.proofs.Edits.{All-added, All-removed, added-removed}
-use Rattle.iv_workspace.specs.Edits.{Allows, EditFits, FitsIn, edited}
+use Rattle.iv_workspace.specs.Edits.{Allows, EditFits, FitsIn, RefusesEdit, edited}
 use Rattle.iv_workspace.specs.OpenViews.{Shown}
 use Rattle.iv_workspace.specs.States.{State}
 use Rattle.iv_workspace.specs.Inside.States.{IsTrackOn, AreServed, IsSession}
@@ -73,6 +75,22 @@ pub replaced-is : (old mid new : Tracked) (r q : RecordValue) → AreInOrder old
 replaced-is old mid new r q order there staged taken =
     taken ∙ ap (without_record r) staged
     ∙ ap (λ (l : List RecordValue). record old { records = l }) (removed-added record_cmp records_total rows_exact old.records q r order there)
+
+-- ---- why an edit is refused: what each call says is what the definition says
+
+pub refuses-added : (t : Tracked) (r : RecordValue) (f : Fault) → RefusesAdd t r f → RefusesEdit (edit.Add r) t f
+refuses-added t r fault.Full h = h
+refuses-added t r fault.NoMemory h = h
+refuses-added t r other h = absurd h
+
+pub refuses-removed : (t : Tracked) (r : RecordValue) (f : Fault) → RefusesRemove t r f → RefusesEdit (edit.Remove r) t f
+refuses-removed t r fault.Absent h = h
+refuses-removed t r other h = absurd h
+
+pub refuses-replaced : (t : Tracked) (r q : RecordValue) (f : Fault) → RefusesReplace t r q f → RefusesEdit (edit.Replace r q) t f
+refuses-replaced t r q fault.Absent h = h
+refuses-replaced t r q fault.NoMemory h = h
+refuses-replaced t r q other h = absurd h
 
 -- ---- the second file
 

@@ -1,13 +1,13 @@
 -- Edits of the two tracks of a session: what an edit leaves, how many steps it takes, and why it is refused; and the records of the second file.
-use Rattle.std.specs.Prelude.{ℕ, ◌≡◌, ◌≤◌, ◌<◌, ◌+◌, List, Option, None, Some, Result, Ok, Err, IsSomeAnd, length}
-use Rattle.std.specs.Option.{ok_or, option_map}
+use Rattle.std.specs.Prelude.{ℕ, ◌≡◌, ◌≤◌, ◌<◌, ◌+◌, List, Option, None, Some, MatchOption, Result, Ok, Err, IsSomeAnd, length}
+use Rattle.std.specs.Option.{ok_or, option_map, unwrap_or}
 use Rattle.iv_lines.specs.Genome.{Sequences}
-use Rattle.iv_lines.specs.Ordered.{added, copies}
+use Rattle.iv_lines.specs.Ordered.{added, added_by, copies}
 use Rattle.iv_lines.specs.Read.{Fits, read}
-use Rattle.iv_lines.specs.RecordValue.{RecordValue}
+use Rattle.iv_lines.specs.RecordValue.{RecordValue, record_cmp}
 use Rattle.iv_lines.specs.declared.fault.Fault.{Fault}
 use Rattle.iv_lines.specs.declared.fault.Fault.TheVariants as fault
-use Rattle.iv_track.specs.Edits.{RefusesAdd, RefusesRemove, RefusesReplace, with_record, without_record, with_replaced}
+use Rattle.iv_track.specs.Copies.{removed_by}
 use Rattle.iv_track.specs.Tracked.{Tracked}
 use Rattle.iv_workspace.specs.OpenViews.{Stales, all_steps, stale_count}
 use Rattle.iv_workspace.specs.States.{State, FitsSecond}
@@ -42,23 +42,34 @@ EditFits Fit (edit.Add r) = Fit r
 EditFits Fit (edit.Remove r) = Fit r
 EditFits Fit (edit.Replace r q) = Fit r × Fit q
 
--- what an edit needs of its track: room for one more record, or a copy of the one that is taken out
+-- the record of which an edit takes a copy out of its track, and the one that it puts in, if it does
+abbrev pub taken_out : Edit → Option RecordValue
+taken_out (edit.Add r) = None
+taken_out (edit.Remove r) = Some r
+taken_out (edit.Replace r q) = Some r
+
+abbrev pub put_in : Edit → Option RecordValue
+put_in (edit.Add r) = Some r
+put_in (edit.Remove r) = None
+put_in (edit.Replace r q) = Some q
+
+-- what an edit needs of its track: a copy of the record that it takes out; or room for one more record, if it takes none out
 abbrev pub Allows : Edit → Tracked → Type 0
-Allows (edit.Add r) t = length t.records < t.limit
-Allows (edit.Remove r) t = 0 < copies t.records r
-Allows (edit.Replace r q) t = 0 < copies t.records r
+Allows e t = MatchOption (taken_out e) (length t.records < t.limit) (λ r. 0 < copies t.records r)
 
--- the track after an edit
+-- the track after an edit: without one copy of the record that is taken out, and with the one that is put in, in its place in the order
 abbrev pub edited : Edit → Tracked → Tracked
-edited (edit.Add r) = with_record r
-edited (edit.Remove r) = without_record r
-edited (edit.Replace r q) = with_replaced r q
+edited e t =
+    let left = unwrap_or (option_map (removed_by record_cmp t.records) (taken_out e)) t.records in
+    record t { records = unwrap_or (option_map (added_by record_cmp left) (put_in e)) left }
 
--- why an edit of a track is refused
+-- why an edit of a track is refused: the record that it takes out isn't there; it takes none out, and the track holds its limit; or
+-- memory ran out, for a track grows only if it allows the edit, and only for a record that isn't there
 abbrev pub RefusesEdit : Edit → Tracked → Fault → Type 0
-RefusesEdit (edit.Add r) t = RefusesAdd t r
-RefusesEdit (edit.Remove r) t = RefusesRemove t r
-RefusesEdit (edit.Replace r q) t = RefusesReplace t r q
+RefusesEdit e t fault.Absent = IsSomeAnd (taken_out e) (λ r. copies t.records r ≡ 0)
+RefusesEdit e t fault.Full = MatchOption (taken_out e) (t.limit ≤ length t.records) (λ r. ⊥)
+RefusesEdit e t fault.NoMemory = Allows e t × IsSomeAnd (put_in e) (λ r. copies t.records r ≡ 0)
+RefusesEdit e t other = ⊥
 
 -- the edit is done of a track that has what it needs: that track is edited, and all else stays; but an edit of the session's own
 -- track may leave views stale
