@@ -5,7 +5,7 @@ use Rattle.std.specs.Option.{is_some, option_and_then, option_map, option_to_lis
 use Rattle.std.specs.Str.{bytes_eq}
 use Rattle.iv_lines.specs.declared.fault.Fault.TheVariants as fault
 use Rattle.iv_lines.specs.Number.{number}
-use Rattle.iv_view.specs.Views.{read_arguments}
+use Rattle.iv_view.specs.Arguments.{read_arguments}
 use Rattle.iv_args.specs.declared.subcommand.Subcommand.{Subcommand}
 use Rattle.iv_args.specs.declared.subcommand.Subcommand.TheVariants as kind
 use Rattle.iv_args.specs.declared.subcommand.RunOption.{RunOption}

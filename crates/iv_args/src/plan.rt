@@ -1,7 +1,7 @@
 //! The arguments of a run: what is read of them so far, and what all of them ask for.
 ghost use Rattle.std.specs.Prelude.{◌≡◌, ◌≤◌, ◌⊎◌, ◌∷◌, [], true, Some, None, IsSome, IfOk, IfErr, OnOk, map, length, drop};
 ghost use Rattle.std.specs.Option.{option_copied, option_to_list};
-ghost use Rattle.iv_view.specs.Views.{read_arguments};
+ghost use Rattle.iv_view.specs.Arguments.{read_arguments};
 ghost use Rattle.iv_args.specs.Arguments.{RunPlan, IsPlan, file_of, is_session, most_limit};
 ghost use Rattle.iv_args.specs.Inside.Drafts.{Makes, are_view_arguments, begun_by, drafted, has_needed_files, limit_said, viewed, width_said, with_value};
 ghost use Rattle.iv_lines.specs.Widths.{IsWidth};
@@ -269,7 +269,7 @@ pub struct Plan<'a, A: Allocator + Copy = Global> {
 impl<'a, A: Allocator + Copy> Model for Plan<'a, A> {
     ghost use Rattle.std.specs.Prelude.{◌≡◌, ◌≤◌, true, map};
     ghost use Rattle.std.specs.Option.{option_copied};
-    ghost use Rattle.iv_view.specs.Views.{read_arguments};
+    ghost use Rattle.iv_view.specs.Arguments.{read_arguments};
     ghost use Rattle.iv_args.specs.Arguments.{RunPlan, most_limit};
 
     ghost Value = { RunPlan };

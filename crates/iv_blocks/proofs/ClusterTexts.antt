@@ -20,8 +20,8 @@ use Rattle.iv_cover.proofs.Cover.{home}
 use Rattle.iv_cover.proofs.WalkLemmas.{gathered, gathered-more, merge-all, on-in}
 use Rattle.iv_cover.proofs.Positions.{values, values-none, values-some}
 use Rattle.iv_lines.proofs.ListLemmas.{Mem, mem-filter, mem-contains}
-use Rattle.iv_blocks.specs.ClusterRows.{blocks_before, cluster_row}
-use Rattle.iv_blocks.specs.Inside.Texts.{block_number, cluster_text}
+use Rattle.iv_blocks.specs.ClusterRows.{blocks_before, cluster_row, cluster_text}
+use Rattle.iv_blocks.specs.Inside.Texts.{block_number}
 use Rattle.iv_blocks.proofs.KeptLemmas.{flat_map-flat_map}
 use Rattle.iv_blocks.proofs.NumberLemmas.{at, own, own-number, same-home}
 use Rattle.iv_blocks.specs.Inside.BlockSweeps.{numbered_row, numbered_rows}

@@ -19,8 +19,8 @@ use Rattle.iv_cover.proofs.Groups.{mem-left, mem-right, mem-append}
 use Rattle.iv_cover.proofs.Positions.{values, values-none, values-some, values-agree, values-none_from}
 use Rattle.iv_lines.proofs.ListLemmas.{Mem, mem-filter_from, all-mem, filter-none, any-found, any-none, mem-place}
 use Rattle.iv_blocks.specs.Inside.BlockCursor.{interval_of, gap_between, gaps_between, starts_until, drop_while, BeginsElse, sequence_text, texts}
-use Rattle.iv_blocks.specs.ComplementRows.{gap_row, gap_rows}
-use Rattle.iv_blocks.specs.Inside.Texts.{complement_text, is_shown}
+use Rattle.iv_blocks.specs.ComplementRows.{gap_row, gap_rows, complement_text}
+use Rattle.iv_blocks.specs.Inside.Texts.{is_shown}
 use Rattle.iv_blocks.specs.Inside.Groups.{is_in_group}
 use Rattle.iv_blocks.specs.Groups.{group, sides}
 use Rattle.iv_blocks.specs.KeptBlocks.{Entries, AreBlocksOf}
@@ -208,11 +208,11 @@ module _ (g : Sequences) (records : List RecordValue) (lie : All (IsOnGenome g) 
       values-none_from (interval_at records s) (sequence_length g s) 0 (omega arith)
       (λ x from below. ap (λ (l : List RecordValue). place_of s x (block_at start_of stop_of 0 l x)) empty)
 
-  sequence-is : (limited : Bool) (s : ℕ) → sequence_text (not limited) g s (intervals_on g records s) ≡ gap_rows None limited g records s
+  sequence-is : (limited : Bool) (s : ℕ) → sequence_text (not limited) g s (intervals_on g records s) ≡ gap_rows limited g records s
   sequence-is false s = ap (flat_map (gap_row (sequence_name g s))) (runs-are s)
   sequence-is true s = go (list_any (λ r. r.seq == s) records) refl
     where
-      go : (b : Bool) → list_any (λ r. r.seq == s) records ≡ b → sequence_text false g s (intervals_on g records s) ≡ gap_rows None true g records s
+      go : (b : Bool) → list_any (λ r. r.seq == s) records ≡ b → sequence_text false g s (intervals_on g records s) ≡ gap_rows true g records s
       go true e = ap (flat_map (gap_row (sequence_name g s))) (shown-some 0 (sequence_length g s) (intervals_on g records s) (own-some s e) ∙ runs-are s)
           ∙ sym (ap (flat_map (gap_row (sequence_name g s))) (cond-true (is_shown true records s) (empty_runs (depth records s) 0 (sequence_length g s)) [] e))
       go false e = ap (sequence_text false g s) (own-none s e)
@@ -222,7 +222,7 @@ module _ (g : Sequences) (records : List RecordValue) (lie : All (IsOnGenome g) 
   pub gaps-of_blocks : (limited : Bool) → texts (not limited) g 0 (seq_count g) (flat_map (intervals_on g records) (range_with_len 0 (seq_count g))) ≡ complement_text limited g records
   gaps-of_blocks limited =
       texts-are (not limited) g (intervals_on g records) are-own (seq_count g) 0
-      ∙ flat_map-agree (λ s. sequence_text (not limited) g s (intervals_on g records s)) (gap_rows None limited g records) (range_with_len 0 (seq_count g)) (sequence-is limited)
+      ∙ flat_map-agree (λ s. sequence_text (not limited) g s (intervals_on g records s)) (gap_rows limited g records) (range_with_len 0 (seq_count g)) (sequence-is limited)
 
 module _ (o : BlockOptions) (g : Sequences) (width : ℕ) (records : List RecordValue) (entries : Entries) (right : AreBlocksOf o (names_of g) records entries) (fit : All (Fits g width) records)
     (distance : o.distance ≡ 0) (together : o.stranded ≡ false) where

@@ -8,7 +8,7 @@ use Rattle.iv_lines.specs.RecordValue.{RecordValue}
 use Rattle.iv_cover.specs.Blocks.{block_at, blocks_below, start_of, stop_of}
 use Rattle.iv_cover.specs.Inside.TrackBlocks.{block_on, blocks_on, blocks_of}
 use Rattle.iv_cover.proofs.Positions.{values-agree}
-use Rattle.iv_blocks.specs.Inside.Texts.{complement_text}
+use Rattle.iv_blocks.specs.ComplementRows.{complement_text}
 use Rattle.iv_blocks.specs.Groups.{group}
 use Rattle.iv_blocks.proofs.ClusterLemmas.{on-is}
 use Rattle.iv_blocks.proofs.ComplementLemmas.{place_of, interval_at, intervals_on, gaps-of_blocks}

@@ -23,7 +23,8 @@ use Rattle.iv_blocks.specs.Inside.BlockCursor.{gap_between}
 use Rattle.iv_blocks.specs.Inside.Lookups.{IsFirstBlock, IsLastBlock}
 use Rattle.iv_blocks.specs.Inside.Regions.{BeginsGap, gaps_from, kept_on}
 use Rattle.iv_blocks.specs.KeptBlocks.{Kept, Entries, AreBlocksOf, name_of}
-use Rattle.iv_blocks.specs.RegionRows.{shares, gaps_in}
+use Rattle.iv_track.specs.Regions.{shares}
+use Rattle.iv_blocks.specs.RegionRows.{gaps_in}
 use Rattle.iv_blocks.proofs.ComplementLemmas.{depth-some, depth-none, in-group, within}
 use Rattle.iv_blocks.proofs.GapLemmas.{runs-gap}
 use Rattle.iv_blocks.proofs.KeptLemmas.{group-in}

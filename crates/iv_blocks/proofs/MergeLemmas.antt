@@ -9,9 +9,9 @@ use Rattle.iv_lines.specs.Read.{Fits}
 use Rattle.iv_lines.specs.RecordValue.{RecordValue}
 use Rattle.iv_blocks.specs.Groups.{sides}
 use Rattle.iv_blocks.specs.KeptBlocks.{Entries, AreBlocksOf}
-use Rattle.iv_blocks.specs.MergeRows.{side_blocks, all_blocks}
+use Rattle.iv_blocks.specs.MergeRows.{side_blocks, all_blocks, side_rows, merge_text}
 use Rattle.iv_blocks.specs.Inside.Regions.{goes_on}
-use Rattle.iv_blocks.specs.Inside.Texts.{entry_row, side_rows, merge_text}
+use Rattle.iv_blocks.specs.Inside.Texts.{entry_row}
 use Rattle.iv_blocks.specs.declared.options.BlockOptions.{BlockOptions}
 use Rattle.iv_blocks.proofs.BlockCursorLemmas.{take-first}
 use Rattle.iv_blocks.proofs.KeptLemmas.{entries-are, entry_of, flat_map-agree, flat_map-flat_map}

@@ -10,8 +10,7 @@ use Rattle.iv_cover.specs.Inside.TrackBlocks.{block_on, blocks_on, blocks_of}
 use Rattle.iv_lines.specs.CoveredPositions.{on}
 use Rattle.iv_cover.specs.declared.column.ColumnSummary.{ColumnSummary}
 use Rattle.iv_blocks.specs.Groups.{group, sides, listed}
-use Rattle.iv_blocks.specs.MergeRows.{block_row}
-use Rattle.iv_blocks.specs.Inside.Texts.{side_rows, merge_text}
+use Rattle.iv_blocks.specs.MergeRows.{block_row, side_rows, merge_text}
 use Rattle.iv_blocks.specs.declared.options.BlockOptions.{BlockOptions}
 use Rattle.iv_blocks.proofs.ClusterLemmas.{on-is}
 use Rattle.iv_blocks.proofs.KeptLemmas.{flat_map-agree, flat_map-flat_map}

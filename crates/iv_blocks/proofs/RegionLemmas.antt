@@ -27,8 +27,9 @@ use Rattle.iv_blocks.specs.Inside.Lookups.{IsLastBlock}
 use Rattle.iv_blocks.specs.Inside.Regions.{ReachesFrom}
 use Rattle.iv_blocks.specs.KeptBlocks.{Key, Kept, Entries, AreBlocksOf, key_cmp, kept_at, name_of}
 use Rattle.iv_blocks.specs.MergeRows.{block_row, side_blocks}
-use Rattle.iv_blocks.specs.RegionRows.{shares, side_blocks_in, blocks_in}
-use Rattle.iv_blocks.specs.Inside.Texts.{entry_row, merge_text_in}
+use Rattle.iv_track.specs.Regions.{shares}
+use Rattle.iv_blocks.specs.RegionRows.{side_blocks_in, blocks_in, merge_text_in}
+use Rattle.iv_blocks.specs.Inside.Texts.{entry_row}
 use Rattle.iv_blocks.specs.declared.options.BlockOptions.{BlockOptions}
 use Rattle.iv_blocks.proofs.BlockCursorLemmas.{take-first, take-none}
 use Rattle.iv_blocks.proofs.ComplementLemmas.{mem-values}

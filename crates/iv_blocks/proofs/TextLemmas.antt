@@ -15,7 +15,7 @@ use Rattle.iv_cover.proofs.WalkLemmas.{gathered-more, gathered-none_from, merge-
 use Rattle.iv_lines.proofs.ListLemmas.{all-mem, mem-all, filter-filter, filter-all}
 use Rattle.iv_blocks.specs.Groups.{group, is_on_side, listed, sides}
 use Rattle.iv_blocks.specs.Inside.Groups.{is_in_group, is_on}
-use Rattle.iv_blocks.specs.Inside.Texts.{side_rows}
+use Rattle.iv_blocks.specs.MergeRows.{side_rows}
 use Rattle.iv_blocks.specs.declared.options.BlockOptions.{BlockOptions}
 use Rattle.iv_blocks.proofs.KeptLemmas.{flat_map-agree, group-in}
 use Rattle.iv_blocks.specs.Inside.MergeSweeps.{group_row, group_rows, sequence_rows}

@@ -1,6 +1,6 @@
 -- The rows of a cluster.
 use Rattle.std.specs.Prelude.{ℕ, ◌+◌, ◌++◌, List, length, map, sum, codes, decimal}
-use Rattle.std.specs.List.{range_with_len}
+use Rattle.std.specs.List.{flat_map, range_with_len}
 use Rattle.iv_lines.specs.Genome.{Sequences, sequence_length}
 use Rattle.iv_lines.specs.RecordText.{record_text}
 use Rattle.iv_lines.specs.RecordValue.{RecordValue}
@@ -19,3 +19,7 @@ blocks_until d g records seq position =
 -- the row of a record: its columns, the number of its block from 1, which is how many blocks there are up to its own, and a line feed
 abbrev pub cluster_row : ℕ → Sequences → List RecordValue → RecordValue → List ℕ
 cluster_row d g records r = record_text g r ++ codes "\t" ++ decimal (blocks_until d g records r.seq (r.start + 1)) ++ codes "\n"
+
+-- all rows of a cluster: one for each record, in the order of the track
+abbrev pub cluster_text : ℕ → Sequences → List RecordValue → List ℕ
+cluster_text d g records = flat_map (cluster_row d g records) records

@@ -1,10 +1,8 @@
 -- The rows of a complement.
-use Rattle.std.specs.Prelude.{ℕ, ◌++◌, ◌==◌, Bool, ◌||◌, not, List, [], Option, codes, decimal, if◌then◌else◌}
-use Rattle.std.specs.List.{flat_map, list_any}
-use Rattle.iv_lines.specs.Genome.{Sequences, sequence_name, sequence_length}
+use Rattle.std.specs.Prelude.{ℕ, ◌++◌, ◌==◌, Bool, ◌||◌, not, List, [], codes, decimal, if◌then◌else◌}
+use Rattle.std.specs.List.{flat_map, list_any, range_with_len}
+use Rattle.iv_lines.specs.Genome.{Sequences, seq_count, sequence_name, sequence_length}
 use Rattle.iv_lines.specs.RecordValue.{RecordValue}
-use Rattle.iv_track.specs.Parts.{intervals_in}
-use Rattle.iv_track.specs.declared.region.Region.{Region}
 use Rattle.iv_cover.specs.Depth.{depth}
 use Rattle.iv_cover.specs.Runs.{Run, empty_runs}
 
@@ -18,6 +16,9 @@ gaps limited g records seq =
     if not limited || list_any (λ r. r.seq == seq) records then empty_runs (depth records seq) 0 (sequence_length g seq) else []
 
 -- the rows of a complement on the sequence of this rank: one for each gap
-abbrev pub gap_rows : Option Region → Bool → Sequences → List RecordValue → ℕ → List ℕ
-gap_rows part limited g records seq =
-    flat_map (gap_row (sequence_name g seq)) (intervals_in (λ gap. gap.start) (λ gap. gap.stop) part (gaps limited g records seq))
+abbrev pub gap_rows : Bool → Sequences → List RecordValue → ℕ → List ℕ
+gap_rows limited g records seq = flat_map (gap_row (sequence_name g seq)) (gaps limited g records seq)
+
+-- all rows of a complement: those of each sequence, by rank
+abbrev pub complement_text : Bool → Sequences → List RecordValue → List ℕ
+complement_text limited g records = flat_map (gap_rows limited g records) (range_with_len 0 (seq_count g))

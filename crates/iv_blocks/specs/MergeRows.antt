@@ -1,10 +1,8 @@
 -- The rows of a merge.
-use Rattle.std.specs.Prelude.{ℕ, ◌++◌, Bool, List, Option, codes, decimal}
+use Rattle.std.specs.Prelude.{ℕ, ◌++◌, Bool, List, codes, decimal}
 use Rattle.std.specs.List.{flat_map, range_with_len}
 use Rattle.iv_lines.specs.Genome.{Sequences, seq_count, sequence_name, sequence_length}
 use Rattle.iv_lines.specs.RecordValue.{RecordValue}
-use Rattle.iv_track.specs.Parts.{intervals_in}
-use Rattle.iv_track.specs.declared.region.Region.{Region}
 use Rattle.iv_cover.specs.Blocks.{blocks_below, start_of, stop_of}
 use Rattle.iv_cover.specs.Columns.{results_over}
 use Rattle.iv_cover.specs.declared.column.ColumnSummary.{ColumnSummary}
@@ -21,11 +19,13 @@ block_row name summaries b =
 abbrev pub side_blocks : BlockOptions → Sequences → List RecordValue → ℕ → Bool → List (ℕ × (ℕ × List RecordValue))
 side_blocks o g records seq minus = blocks_below start_of stop_of o.distance (group o.stranded seq minus records) (sequence_length g seq)
 
--- the rows of a merge on the sequence of this rank: one for each block, those of each side together
-abbrev pub merge_rows : Option Region → BlockOptions → Sequences → List RecordValue → ℕ → List ℕ
-merge_rows part o g records seq =
-    flat_map (λ minus. flat_map (block_row (sequence_name g seq) (listed o.summaries))
-    (intervals_in (λ b. b.0) (λ b. b.1.0) part (side_blocks o g records seq minus))) (sides o.stranded)
+-- the rows of the blocks of one side of a sequence
+abbrev pub side_rows : BlockOptions → Sequences → List RecordValue → ℕ → Bool → List ℕ
+side_rows o g records seq minus = flat_map (block_row (sequence_name g seq) (listed o.summaries)) (side_blocks o g records seq minus)
+
+-- all rows of a merge: those of each sequence by rank, and within it of each side
+abbrev pub merge_text : BlockOptions → Sequences → List RecordValue → List ℕ
+merge_text o g records = flat_map (λ seq. flat_map (side_rows o g records seq) (sides o.stranded)) (range_with_len 0 (seq_count g))
 
 -- all blocks: those of each sequence by rank, and within it of each side
 abbrev pub all_blocks : BlockOptions → Sequences → List RecordValue → List (ℕ × (ℕ × List RecordValue))

@@ -9,11 +9,11 @@ ghost use Rattle.iv_ledger.specs.Steps.{TakesUpTo};
 ghost use Rattle.iv_track.specs.Regions.{near};
 ghost use Rattle.iv_blocks.specs.Inside.BlockSweeps.{numbered_row};
 ghost use Rattle.iv_blocks.specs.Inside.BlockCursor.{starts_until, drop_while, TakesForEach};
-ghost use Rattle.iv_blocks.specs.Inside.Texts.{cluster_text, cluster_text_in};
+ghost use Rattle.iv_blocks.specs.RegionRows.{cluster_text_in};
 ghost use Rattle.iv_blocks.specs.Groups.{plain_options};
 ghost use Rattle.iv_blocks.specs.KeptBlocks.{AreBlocksOf};
 ghost use Rattle.iv_blocks.specs.MergeRows.{all_blocks};
-ghost use Rattle.iv_blocks.specs.ClusterRows.{blocks_until};
+ghost use Rattle.iv_blocks.specs.ClusterRows.{blocks_until, cluster_text};
 
 use crate::block_cursor::{BlockCursor, BlocksAhead};
 use crate::blocks::Blocks;

@@ -9,12 +9,11 @@ ghost use Rattle.iv_lines.specs.Named.{names_of};
 ghost use Rattle.iv_ledger.specs.Steps.{TakesUpTo};
 ghost use Rattle.iv_blocks.specs.Inside.BlockCursor.{gap_between, gaps_between, starts_until, drop_while, texts, TakesForEach};
 ghost use Rattle.iv_blocks.specs.KeptBlocks.{AreBlocksOf, Kept};
-ghost use Rattle.iv_blocks.specs.Inside.Texts.{complement_text, complement_text_in};
-ghost use Rattle.iv_blocks.specs.ComplementRows.{gap_row};
+ghost use Rattle.iv_blocks.specs.ComplementRows.{gap_row, complement_text};
 ghost use Rattle.iv_blocks.specs.Groups.{plain_options};
 ghost use Rattle.iv_blocks.specs.MergeRows.{all_blocks};
 ghost use Rattle.iv_blocks.specs.Inside.Regions.{BeginsGap, gaps_from, kept_on};
-ghost use Rattle.iv_blocks.specs.RegionRows.{gaps_in};
+ghost use Rattle.iv_blocks.specs.RegionRows.{gaps_in, complement_text_in};
 
 use crate::block_cursor::{BlockCursor, BlocksAhead};
 use crate::blocks::Blocks;

@@ -10,7 +10,7 @@ ghost use Rattle.iv_blocks.specs.IntervalOptions.{IsByIntervals};
 ghost use Rattle.iv_blocks.specs.declared.options.BlockOptions.{BlockOptions};
 ghost use Rattle.iv_blocks.specs.Groups.{listed};
 ghost use Rattle.iv_blocks.specs.Inside.Groups.{is_on};
-ghost use Rattle.iv_blocks.specs.Inside.Texts.{merge_text};
+ghost use Rattle.iv_blocks.specs.MergeRows.{merge_text};
 ghost use Rattle.iv_blocks.specs.Inside.MergeSweeps.{group_row, group_rows, sequence_rows};
 
 use crate::group::Side;

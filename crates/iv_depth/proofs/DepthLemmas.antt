@@ -18,9 +18,9 @@ use Rattle.iv_cover.specs.Depth.{depth}
 use Rattle.iv_depth.specs.Changes.{Entries, AreChangesOf}
 use Rattle.iv_depth.specs.Inside.Changes.{AreChanges}
 use Rattle.iv_depth.specs.Inside.Region.{AreChangesOn}
-use Rattle.iv_depth.specs.DepthRows.{covered_runs, all_covered_runs}
-use Rattle.iv_depth.specs.Inside.Texts.{text_by, depth_text, rows_in, depth_text_in}
-use Rattle.iv_depth.specs.RegionRows.{covered_runs_in}
+use Rattle.iv_depth.specs.DepthRows.{covered_runs, all_covered_runs, depth_text}
+use Rattle.iv_depth.specs.Inside.Texts.{text_by}
+use Rattle.iv_depth.specs.RegionRows.{covered_runs_in, rows_in, depth_text_in}
 use Rattle.iv_depth.specs.declared.depth_rows.DepthOutput.{DepthOutput}
 use Rattle.iv_depth.specs.Inside.Walks.{on, AreAhead, depth_by}
 use Rattle.iv_cover.proofs.RunsLemmas.{runs-none}

@@ -8,8 +8,7 @@ use Rattle.iv_cover.specs.Runs.{Run, runs, Tiles}
 use Rattle.iv_cover.proofs.RunsLemmas.{runs-run, runs-none, Tiles-runs, Tiles-only}
 use Rattle.iv_depth.specs.Changes.{Entries}
 use Rattle.iv_depth.specs.DepthRows.{run_row, position_row, covered_runs}
-use Rattle.iv_depth.specs.RegionRows.{run_shares, covered_runs_in}
-use Rattle.iv_depth.specs.Inside.Texts.{rows_in}
+use Rattle.iv_depth.specs.RegionRows.{run_shares, covered_runs_in, rows_in}
 use Rattle.iv_depth.specs.Inside.Region.{IsRunStart, AreLeft, EndsRun, IsWalking}
 use Rattle.iv_depth.specs.Inside.RunRows.{run_rows, rows_from, covered_from}
 use Rattle.iv_depth.specs.declared.depth_rows.DepthOutput.{DepthOutput}

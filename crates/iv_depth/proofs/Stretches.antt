@@ -8,8 +8,7 @@ use Rattle.iv_cover.specs.Runs.{Run, runs}
 use Rattle.iv_cover.proofs.RunsLemmas.{runs-run, runs-none}
 use Rattle.std.specs.Prelude.{ℤ}
 use Rattle.iv_depth.specs.Inside.DepthChanges.{IsChange}
-use Rattle.iv_depth.specs.DepthRows.{run_row, position_row, covered_runs}
-use Rattle.iv_depth.specs.Inside.Texts.{rows_between}
+use Rattle.iv_depth.specs.DepthRows.{run_row, position_row, covered_runs, rows_between}
 use Rattle.iv_depth.specs.declared.depth_rows.DepthOutput.{DepthOutput}
 use Rattle.iv_depth.specs.declared.depth_rows.DepthOutput.TheVariants.{Covered, All, EachPosition}
 

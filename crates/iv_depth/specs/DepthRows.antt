@@ -1,10 +1,8 @@
 -- The rows that say how many records cover each position.
-use Rattle.std.specs.Prelude.{ℕ, ◌+◌, ◌-◌, ◌++◌, nat_lt, filter, List, Option, Some, None, codes, decimal}
+use Rattle.std.specs.Prelude.{ℕ, ◌+◌, ◌-◌, ◌++◌, nat_lt, filter, List, codes, decimal}
 use Rattle.std.specs.List.{flat_map, range_with_len}
-use Rattle.iv_lines.specs.Genome.{Sequences, seq_count, sequence_length}
+use Rattle.iv_lines.specs.Genome.{Sequences, seq_count, sequence_name, sequence_length}
 use Rattle.iv_lines.specs.RecordValue.{RecordValue}
-use Rattle.iv_track.specs.Parts.{intervals_in}
-use Rattle.iv_track.specs.declared.region.Region.{Region}
 use Rattle.iv_cover.specs.Depth.{depth}
 use Rattle.iv_cover.specs.Runs.{Run, runs}
 use Rattle.iv_depth.specs.declared.depth_rows.DepthOutput.{DepthOutput}
@@ -23,16 +21,16 @@ position_row name p depth = name ++ codes "\t" ++ decimal (p + 1) ++ codes "\t" 
 abbrev pub covered_runs : (ℕ → ℕ) → ℕ → ℕ → List Run
 covered_runs f from to = filter (λ run. nat_lt 0 run.value) (runs f from to)
 
--- all positions of a sequence of this length, or those of the region
-abbrev pub positions_in : Option Region → ℕ → List ℕ
-positions_in None length = range_with_len 0 length
-positions_in (Some at) length = range_with_len at.start (at.stop - at.start)
+-- the rows of a depth f from one position to another, which is not included: of its maximal runs above 0, of all of them, or of positions
+abbrev pub rows_between : DepthOutput → List ℕ → (ℕ → ℕ) → ℕ → ℕ → List ℕ
+rows_between Covered name f from to = flat_map (run_row name) (covered_runs f from to)
+rows_between All name f from to = flat_map (run_row name) (runs f from to)
+rows_between EachPosition name f from to = flat_map (λ p. position_row name p (f p)) (range_with_len from (to - from))
 
--- the rows of a depth f on a sequence of this name and length: those of its maximal runs above 0, of all of them, or of positions
-abbrev pub depth_rows : Option Region → DepthOutput → List ℕ → (ℕ → ℕ) → ℕ → List ℕ
-depth_rows part Covered name f length = flat_map (run_row name) (intervals_in (λ run. run.start) (λ run. run.stop) part (covered_runs f 0 length))
-depth_rows part All name f length = flat_map (run_row name) (intervals_in (λ run. run.start) (λ run. run.stop) part (runs f 0 length))
-depth_rows part EachPosition name f length = flat_map (λ p. position_row name p (f p)) (positions_in part length)
+-- all rows of the records' depth: those of each sequence, by rank
+abbrev pub depth_text : DepthOutput → Sequences → List RecordValue → List ℕ
+depth_text output g records =
+    flat_map (λ seq. rows_between output (sequence_name g seq) (depth records seq) 0 (sequence_length g seq)) (range_with_len 0 (seq_count g))
 
 -- the maximal runs of a depth above 0 on all sequences
 abbrev pub all_covered_runs : Sequences → List RecordValue → List Run

@@ -6,9 +6,8 @@ ghost use Rattle.iv_lines.specs.Read.{Fits};
 ghost use Rattle.iv_cover.specs.Depth.{depth};
 ghost use Rattle.iv_ledger.specs.Steps.{TakesUpTo};
 ghost use Rattle.iv_depth.specs.Changes.{AreChangesOf};
-ghost use Rattle.iv_depth.specs.Inside.Texts.{depth_text, depth_text_in};
-ghost use Rattle.iv_depth.specs.DepthRows.{all_covered_runs};
-ghost use Rattle.iv_depth.specs.RegionRows.{covered_runs_in};
+ghost use Rattle.iv_depth.specs.DepthRows.{all_covered_runs, depth_text};
+ghost use Rattle.iv_depth.specs.RegionRows.{covered_runs_in, depth_text_in};
 
 use crate::changes::{Changes, add_record, push_changes, remove_record};
 use crate::depth_rows::{DepthOutput, put_genome};

@@ -2,8 +2,8 @@
 ghost use Rattle.std.specs.Prelude.{ℕ, ◌++◌, ◌+◌, ◌-◌, ◌<◌, length, codes, decimal, OnOk};
 ghost use Rattle.std.specs.List.{flat_map, range_with_len};
 ghost use Rattle.iv_bytes.specs.Sinks.{Puts};
-ghost use Rattle.iv_depth.specs.DepthRows.{run_row, position_row};
-ghost use Rattle.iv_depth.specs.Inside.Texts.{rows_between, sequence_text, text_by};
+ghost use Rattle.iv_depth.specs.DepthRows.{run_row, position_row, rows_between};
+ghost use Rattle.iv_depth.specs.Inside.Texts.{sequence_text, text_by};
 ghost use Rattle.iv_depth.specs.Inside.Walks.{AreAhead, depth_by};
 ghost use Rattle.iv_ledger.specs.Steps.{TakesUpTo};
 ghost use Rattle.iv_track.specs.Inside.Steps.{TakesForEach};

@@ -3,7 +3,7 @@ ghost use Rattle.std.specs.Prelude.{◌≡◌, All, IfOk};
 ghost use Rattle.iv_bytes.specs.Sinks.{Puts};
 ghost use Rattle.iv_lines.specs.Ordered.{AreInOrder};
 ghost use Rattle.iv_lines.specs.Read.{IsOnGenome};
-ghost use Rattle.iv_depth.specs.Inside.Texts.{depth_text};
+ghost use Rattle.iv_depth.specs.DepthRows.{depth_text};
 
 use crate::change_cursor::DepthChanges;
 use crate::depth_rows::{DepthOutput, put_sequence};

@@ -3,8 +3,7 @@ ghost use Rattle.std.specs.Prelude.{◌≡◌, ◌+◌, ◌*◌, ◌<◌, ◌≤
 ghost use Rattle.iv_bytes.specs.Sinks.{Puts};
 ghost use Rattle.iv_lines.specs.Genome.{sequence_name, sequence_length};
 ghost use Rattle.iv_ledger.specs.Steps.{TakesUpTo};
-ghost use Rattle.iv_depth.specs.Inside.Texts.{rows_in};
-ghost use Rattle.iv_depth.specs.RegionRows.{covered_runs_in};
+ghost use Rattle.iv_depth.specs.RegionRows.{covered_runs_in, rows_in};
 ghost use Rattle.iv_depth.specs.Inside.Region.{AreChangesOn, IsRunStart, AreLeft, EndsRun};
 ghost use Rattle.iv_depth.specs.Inside.RunRows.{run_rows};
 ghost use Rattle.iv_depth.specs.Inside.Walks.{depth_by};

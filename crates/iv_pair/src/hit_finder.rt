@@ -1,17 +1,25 @@
-//! The hits of one interval after another.
-ghost use Rattle.std.specs.Prelude.{◌≡◌, ◌+◌, ◌-◌, ◌<◌, ◌≤◌, ◌^◌, ◌++◌, [], filter, length, map, true};
+//! The hits of one interval after another, and the rows of records that come with them.
+ghost use Rattle.std.specs.Prelude.{◌≡◌, ◌+◌, ◌-◌, ◌<◌, ◌≤◌, ◌^◌, ◌++◌, [], List, None, OnOk, filter, length, map, true};
+ghost use Rattle.std.specs.Iterator.{YieldsFirstBy, item_count};
+ghost use Rattle.iv_bytes.specs.Sinks.{Puts};
 ghost use Rattle.iv_lines.specs.CoveredPositions.{covers};
 ghost use Rattle.iv_lines.specs.Intervals.{interval_of};
 ghost use Rattle.iv_lines.specs.Ordered.{AreInOrder};
 ghost use Rattle.iv_lines.specs.RecordValue.{RecordValue};
+ghost use Rattle.iv_pair.specs.CoverAlone.{GiveRowsAlike};
+ghost use Rattle.iv_pair.specs.PairRows.{pair_rows};
 ghost use Rattle.iv_pair.specs.Inside.HitFinder.{AllCover, HitAlike, IsOnward};
+ghost use Rattle.iv_pair.specs.Inside.PairTexts.{PutsSome};
 ghost use Rattle.iv_track.specs.Regions.{hits};
 
 use crate::hits::{Hits, is_from};
+use crate::pair_rows::{PairOutput, put_pair_rows};
 use crate::second_records::SecondRecords;
+use iv_bytes::{Sink, WriteFault};
 use iv_cover::RecordWalk;
-use iv_lines::Interval;
+use iv_lines::{BedRecord, Genome, Interval};
 use std::alloc::{Allocator, Global};
+use std::iter::empty;
 use std::marker::Model;
 
 /// How many records a search looks at one after another, before it skips those in between.
@@ -231,4 +239,99 @@ fn covers(next: Interval, seq: u32, position: u64) -> bool
     ensures { (r : RecordValue) → next ≡ interval_of r → result ≡ covers seq position r }
 {
     next.seq == seq && u64::from(next.start) <= position && position < u64::from(next.stop)
+}
+
+/// Puts the rows of the records that a walk has left, each beside its hits.
+///
+/// If `looks` says how many hits to look at, it stops after the record with which it has looked at so many. On a fault the sink has
+/// taken a prefix of the text.
+#[inline(always)]
+pub(crate) fn put_by_hits<
+    A: Allocator + Copy,
+    W: RecordWalk,
+    N: SecondRecords<V>,
+    V: RecordWalk,
+    S: Sink,
+>(
+    output: PairOutput,
+    records: &mut W,
+    finder: &mut HitFinder<N, V, A>,
+    looks: Option<u64>,
+    genome: &Genome<A>,
+    meter: &mut W::Meter,
+    sink: &mut S,
+) -> Result<(), WriteFault>
+    ensures text { (second : List RecordValue) → GiveRowsAlike output finder.old.records second → PutsSome output genome.now second (W.left records.old) (W.left records.new) (S.state sink.old) (S.state sink.new) result }
+    ensures same { finder.new.records ≡ finder.old.records }
+    ensures all { looks ≡ None → OnOk result (W.left records.new ≡ []) }
+{
+    let counts = looks.is_some();
+    let most = looks.unwrap_or(u64::MAX);
+    let mut looked = 0;
+    while let Some(feature) = records.next(meter) {
+        put_beside(output, finder, &feature, counts, &mut looked, genome, sink)?;
+        if counts && looked > most {
+            return Ok(());
+        }
+    }
+    Ok(())
+}
+
+/// Puts the rows of a record beside its hits, and counts how many were looked at, if that is wanted.
+#[inline(always)]
+fn put_beside<A: Allocator + Copy, R: BedRecord, N: SecondRecords<V>, V: RecordWalk, S: Sink>(
+    output: PairOutput,
+    finder: &mut HitFinder<N, V, A>,
+    feature: &R,
+    counts: bool,
+    looked: &mut u64,
+    genome: &Genome<A>,
+    sink: &mut S,
+) -> Result<(), WriteFault>
+    ensures text { Puts (S.state sink.old) (S.state sink.new) result (pair_rows output genome.now (R.as_record feature.now) finder.old.records) }
+    ensures same { finder.new.records ≡ finder.old.records }
+    ensures base { (R.as_record feature.now).start < (R.as_record feature.now).stop }
+{
+    finder.seek(feature.seq(), feature.start(), feature.stop());
+    if finder.has_none() {
+        return put_pair_rows(output, genome, feature, empty::<V::Record>(), sink);
+    }
+    let hits = finder.hits();
+    hits.lemma_of_few();
+    if !counts {
+        return put_pair_rows(output, genome, feature, hits, sink);
+    }
+    put_pair_rows(output, genome, feature, CountedHits { hits, looked }, sink)
+}
+
+/// Hits of which it is counted how many are looked at: an iterator. Its model is the list of those that are left.
+#[derive(Drop)]
+struct CountedHits<'a, W: RecordWalk> {
+    hits: Hits<'a, W>,
+    looked: &'a mut u64,
+}
+
+impl<'a, W: RecordWalk> Model for CountedHits<'a, W> {
+    ghost use Rattle.std.specs.Prelude.{List};
+    ghost use Rattle.iv_lines.specs.RecordValue.{RecordValue};
+
+    ghost Value = { List RecordValue };
+
+    ghost view = { λ h. h.hits };
+}
+
+impl<'a, W: RecordWalk> Iterator for CountedHits<'a, W> {
+    type Item = W::Record;
+
+    ghost next_gives = { YieldsFirstBy W.Record.as_record (λ h. h) };
+
+    ghost remaining = { item_count (λ h. h) };
+
+    fn next(&mut self) -> Option<W::Record> {
+        let before = self.hits.steps();
+        let next = self.hits.next();
+        let steps = self.hits.steps().saturating_sub(before);
+        *self.looked = self.looked.saturating_add(steps).saturating_add(1);
+        next
+    }
 }

@@ -18,9 +18,7 @@ pub use hits::Hits;
 pub use intersect::{Cross, IntersectOutput, put_intersect};
 pub use iv_fasta::{Fasta, FastaOutput, FastaReader, complement, put_fasta};
 pub use lemmas::{overlap_is_a_shared_position, uncovered_parts_are_maximal};
-pub use pair_rows::{
-    PairOutput, join_beside, needs_cover_alone, print_pairs, put_pair, put_pair_rows,
-};
-pub use pair_sweep::PairSweep;
+pub use pair_rows::{PairOutput, print_pairs, put_pair, put_pair_rows};
+pub use pair_sweep::{PairSweep, join_beside, needs_cover_alone, print_beside};
 pub use second::Second;
 pub use subtract::put_subtract;

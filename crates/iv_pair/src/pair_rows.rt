@@ -1,30 +1,26 @@
 //! The rows of an intersect or a subtract: those of one record and its hits, and those of all records of a track.
-ghost use Rattle.std.specs.Prelude.{◌≡◌, ◌<◌, [], IfOk, IsTrue, List, None, OnErr, OnOk};
-ghost use Rattle.std.specs.Iterator.{AlwaysYields, UpTo, YieldsFirstBy, item_count};
+ghost use Rattle.std.specs.Prelude.{◌≡◌, [], IfOk, IsTrue, List, OnErr};
+ghost use Rattle.std.specs.Iterator.{AlwaysYields, UpTo};
 ghost use Rattle.iv_bytes.specs.Sinks.{Puts};
 ghost use Rattle.iv_lines.specs.Ordered.{AreInOrder};
 ghost use Rattle.iv_lines.specs.RecordValue.{RecordValue};
-ghost use Rattle.iv_pair.specs.CoverAlone.{DependsOnCoverAlone, GiveRowsAlike, needs_cover_alone};
 ghost use Rattle.iv_pair.specs.Hits.{hits_of};
 ghost use Rattle.iv_pair.specs.PairRows.{pair_rows, pair_text};
-ghost use Rattle.iv_pair.specs.Inside.PairTexts.{NeedsIntervalsAlone, PutsSome};
+ghost use Rattle.iv_pair.specs.Inside.PairTexts.{NeedsIntervalsAlone};
 
-use crate::hit_finder::HitFinder;
+use crate::hit_finder::{HitFinder, put_by_hits};
 use crate::hits::Hits;
 use crate::intersect::{IntersectOutput, put_intersect};
-use crate::pair_sweep::PairSweep;
+use crate::pair_sweep::{PairSweep, join_beside};
 use crate::second::{Second, first_start};
-use crate::second_records::{KeptRecords, SecondRecords, intervals_of};
+use crate::second_records::{KeptRecords, intervals_of};
 use crate::subtract::put_subtract;
 use iv_bytes::{Sink, WriteFault};
 use iv_cover::RecordWalk;
 use iv_ledger::Meter;
 use iv_lines::{BedRecord, Genome, RecordRef};
-use iv_places::Places;
 use iv_track::{Track, TrackRecords};
 use std::alloc::{AllocError, Allocator};
-use std::iter::empty;
-use std::marker::Model;
 
 /// Which rows are put of a record and its hits.
 #[derive(Clone, Copy, Debug, PartialEq, Eq)]
@@ -33,36 +29,6 @@ pub enum PairOutput {
     Intersect(IntersectOutput),
     /// Those of a subtract; if `whole`, only whole records are taken away: `-A`.
     Subtract { whole: bool },
-}
-
-/// Whether these rows depend on the second list only by which positions its records cover. They do for each subtract, and
-/// for an intersect that only asks whether a record has a hit: `-u` and `-v`.
-///
-/// If it is true, another second list that covers the same positions gives the same text.
-pub fn needs_cover_alone(output: PairOutput) -> bool
-    ensures value { result ≡ needs_cover_alone output }
-    ensures alone { IsTrue result → DependsOnCoverAlone output }
-{
-    match output {
-        PairOutput::Intersect(IntersectOutput::IfHit | IntersectOutput::IfNoHit) => true,
-        PairOutput::Intersect(_) => false,
-        PairOutput::Subtract { .. } => true,
-    }
-}
-
-/// Joins the records of a second file that overlap or are book-ended, if these rows depend only on the positions that they cover:
-/// many records at one position are one then. It takes no memory.
-pub fn join_beside<A: Allocator + Copy>(output: PairOutput, second: &mut Places<A>)
-    requires { AreInOrder second.old.records }
-    ensures order { AreInOrder second.new.records }
-    ensures alike { GiveRowsAlike output second.new.records second.old.records }
-{
-    if !needs_cover_alone(output) {
-        return;
-    }
-    second.lemma_of_bases();
-    second.join();
-    second.lemma_of_bases();
 }
 
 /// How many hits are looked at for each record of the second file before a copy of it is made.
@@ -161,69 +127,6 @@ fn put_by_copy<A: Allocator + Copy, S: Sink>(
     Ok(sweep.print(records, genome, meter, sink))
 }
 
-/// Puts the rows of the records that a walk has left, each beside its hits.
-///
-/// If `looks` says how many hits to look at, it stops after the record with which it has looked at so many. On a fault the sink has
-/// taken a prefix of the text.
-#[inline(always)]
-pub(crate) fn put_by_hits<
-    A: Allocator + Copy,
-    W: RecordWalk,
-    N: SecondRecords<V>,
-    V: RecordWalk,
-    S: Sink,
->(
-    output: PairOutput,
-    records: &mut W,
-    finder: &mut HitFinder<N, V, A>,
-    looks: Option<u64>,
-    genome: &Genome<A>,
-    meter: &mut W::Meter,
-    sink: &mut S,
-) -> Result<(), WriteFault>
-    ensures text { (second : List RecordValue) → GiveRowsAlike output finder.old.records second → PutsSome output genome.now second (W.left records.old) (W.left records.new) (S.state sink.old) (S.state sink.new) result }
-    ensures same { finder.new.records ≡ finder.old.records }
-    ensures all { looks ≡ None → OnOk result (W.left records.new ≡ []) }
-{
-    let counts = looks.is_some();
-    let most = looks.unwrap_or(u64::MAX);
-    let mut looked = 0;
-    while let Some(feature) = records.next(meter) {
-        put_beside(output, finder, &feature, counts, &mut looked, genome, sink)?;
-        if counts && looked > most {
-            return Ok(());
-        }
-    }
-    Ok(())
-}
-
-/// Puts the rows of a record beside its hits, and counts how many were looked at, if that is wanted.
-#[inline(always)]
-fn put_beside<A: Allocator + Copy, R: BedRecord, N: SecondRecords<V>, V: RecordWalk, S: Sink>(
-    output: PairOutput,
-    finder: &mut HitFinder<N, V, A>,
-    feature: &R,
-    counts: bool,
-    looked: &mut u64,
-    genome: &Genome<A>,
-    sink: &mut S,
-) -> Result<(), WriteFault>
-    ensures text { Puts (S.state sink.old) (S.state sink.new) result (pair_rows output genome.now (R.as_record feature.now) finder.old.records) }
-    ensures same { finder.new.records ≡ finder.old.records }
-    ensures base { (R.as_record feature.now).start < (R.as_record feature.now).stop }
-{
-    finder.seek(feature.seq(), feature.start(), feature.stop());
-    if finder.has_none() {
-        return put_pair_rows(output, genome, feature, empty::<V::Record>(), sink);
-    }
-    let hits = finder.hits();
-    hits.lemma_of_few();
-    if !counts {
-        return put_pair_rows(output, genome, feature, hits, sink);
-    }
-    put_pair_rows(output, genome, feature, CountedHits { hits, looked }, sink)
-}
-
 /// Puts the rows of one record beside a second file. It takes no memory.
 ///
 /// On a fault the sink has taken a prefix of their text.
@@ -259,38 +162,6 @@ fn put_among<A: Allocator + Copy, W: RecordWalk, S: Sink>(
     let hits = Hits::of(&[], records, feature.seq(), feature.start(), feature.stop());
     hits.lemma_of_few();
     put_pair_rows(output, genome, feature, hits, sink)
-}
-
-/// Hits of which it is counted how many are looked at: an iterator. Its model is the list of those that are left.
-#[derive(Drop)]
-struct CountedHits<'a, W: RecordWalk> {
-    hits: Hits<'a, W>,
-    looked: &'a mut u64,
-}
-
-impl<'a, W: RecordWalk> Model for CountedHits<'a, W> {
-    ghost use Rattle.std.specs.Prelude.{List};
-    ghost use Rattle.iv_lines.specs.RecordValue.{RecordValue};
-
-    ghost Value = { List RecordValue };
-
-    ghost view = { λ h. h.hits };
-}
-
-impl<'a, W: RecordWalk> Iterator for CountedHits<'a, W> {
-    type Item = W::Record;
-
-    ghost next_gives = { YieldsFirstBy W.Record.as_record (λ h. h) };
-
-    ghost remaining = { item_count (λ h. h) };
-
-    fn next(&mut self) -> Option<W::Record> {
-        let before = self.hits.steps();
-        let next = self.hits.next();
-        let steps = self.hits.steps().saturating_sub(before);
-        *self.looked = self.looked.saturating_add(steps).saturating_add(1);
-        next
-    }
 }
 
 /// Puts the rows of one record and its hits, in the order of a track, which any iterator may give.

@@ -1,21 +1,76 @@
 //! The rows of records beside a second file in memory, as its places.
-ghost use Rattle.std.specs.Prelude.{◌≡◌, [], List, IfOk};
+ghost use Rattle.std.specs.Prelude.{◌≡◌, [], List, IfOk, IsTrue, OnErr};
 ghost use Rattle.iv_bytes.specs.Sinks.{Puts};
 ghost use Rattle.iv_lines.specs.Ordered.{AreInOrder};
 ghost use Rattle.iv_lines.specs.RecordValue.{RecordValue};
 ghost use Rattle.iv_pair.specs.PairRows.{pair_text};
-ghost use Rattle.iv_pair.specs.CoverAlone.{GiveRowsAlike};
+ghost use Rattle.iv_pair.specs.CoverAlone.{DependsOnCoverAlone, GiveRowsAlike, needs_cover_alone};
 
 use crate::count_sweep::{End, ends_of, put_counts};
-use crate::hit_finder::HitFinder;
+use crate::hit_finder::{HitFinder, put_by_hits};
 use crate::intersect::IntersectOutput;
-use crate::pair_rows::{PairOutput, put_by_hits};
+use crate::pair_rows::PairOutput;
 use iv_bytes::{Sink, WriteFault};
 use iv_cover::RecordWalk;
 use iv_lines::{Genome, RecordRef};
-use iv_places::PlacedRecords;
+use iv_places::{PlacedRecords, Places};
 use std::alloc::{AllocError, Allocator, Global};
 use std::marker::Model;
+
+/// Puts the rows of each record of a walk beside those of a second file, as bedtools intersect or subtract does.
+///
+/// # Errors
+///
+/// An allocation failed, and nothing was put. The fault of a sink is in the result: then a prefix of the text was put.
+pub fn print_beside<A: Allocator + Copy, W: RecordWalk, S: Sink>(
+    alloc: A,
+    output: PairOutput,
+    records: W,
+    second: Places<A>,
+    genome: &Genome<A>,
+    meter: &mut W::Meter,
+    sink: &mut S,
+) -> Result<Result<(), WriteFault>, AllocError>
+    requires order { AreInOrder (W.left records) }
+    requires second { AreInOrder second.records }
+    ensures text { IfOk result (λ put. Puts (S.state sink.old) (S.state sink.new) put (pair_text output genome.now (W.left records) second.records)) }
+    ensures alone { OnErr result (sink.new ≡ sink.old) }
+{
+    let mut second = second;
+    join_beside(output, &mut second);
+    let sweep = PairSweep::new(alloc, output, second.records())?;
+    Ok(sweep.print(records, genome, meter, sink))
+}
+
+/// Whether these rows depend on the second list only by which positions its records cover. They do for each subtract, and
+/// for an intersect that only asks whether a record has a hit: `-u` and `-v`.
+///
+/// If it is true, another second list that covers the same positions gives the same text.
+pub fn needs_cover_alone(output: PairOutput) -> bool
+    ensures value { result ≡ needs_cover_alone output }
+    ensures alone { IsTrue result → DependsOnCoverAlone output }
+{
+    match output {
+        PairOutput::Intersect(IntersectOutput::IfHit | IntersectOutput::IfNoHit) => true,
+        PairOutput::Intersect(_) => false,
+        PairOutput::Subtract { .. } => true,
+    }
+}
+
+/// Joins the records of a second file that overlap or are book-ended, if these rows depend only on the positions that they cover:
+/// many records at one position are one then. It takes no memory.
+pub fn join_beside<A: Allocator + Copy>(output: PairOutput, second: &mut Places<A>)
+    requires { AreInOrder second.old.records }
+    ensures order { AreInOrder second.new.records }
+    ensures alike { GiveRowsAlike output second.new.records second.old.records }
+{
+    if !needs_cover_alone(output) {
+        return;
+    }
+    second.lemma_of_bases();
+    second.join();
+    second.lemma_of_bases();
+}
 
 /// What a sweep needs beside the two lists.
 #[derive(Drop)]

@@ -1,3 +1,4 @@
+mod FileLemmas
 mod RunLemmas
 mod DoneLemmas
 mod SoundLemmas

@@ -37,6 +37,10 @@ abbrev pub after_reading : List (List ℕ) → FilesState → FilesState
 after_reading [] files = files
 after_reading (name ∷ names) files = after_reading names (after_one false name files)
 
+-- what happens to files when one of this name is read: it is opened, and closed
+abbrev pub once : List ℕ → List FileEvent
+once name = Opened name ∷ Closed false ∷ []
+
 -- the file of this name has this text, and it is not too long
 abbrev pub IsText : FilesState → List ℕ → List ℕ → Type 0
 IsText files name text = IfSome (files.contents name) (λ known. known ≡ text) × (length text ≤ most_file_bytes)

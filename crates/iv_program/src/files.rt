@@ -1,8 +1,9 @@
 //! Files that are opened by their names, and reading those of a plan.
-ghost use Rattle.std.specs.Prelude.{◌≡◌, List, ℕ, Option, Some, IfOk, IfErr, OnOk, OnErr, true};
+ghost use Rattle.std.specs.Prelude.{◌≡◌, ◌++◌, List, ℕ, Option, Some, IfOk, IfErr, OnOk, OnErr, true};
+ghost use Rattle.std.specs.List.{flat_map};
 ghost use Rattle.iv_fasta.specs.FastaReading.{Wanted};
 ghost use Rattle.iv_run.specs.RunFiles.{AreAskedFor, HasBegun, TakesFasta, TakesFirst, TakesSecond};
-ghost use Rattle.iv_program.specs.Files.{FilesState, opened, after_opening, after_closing, after_one, after_reading};
+ghost use Rattle.iv_program.specs.Files.{FileEvent, FilesState, opened, after_opening, after_closing, after_one, after_reading, once};
 ghost use Rattle.iv_program.specs.Inside.Files.{ReadsNamed, StopsAt, StopsFile, names_of};
 ghost use Rattle.iv_program.specs.Inside.Runs.{HasFiles};
 ghost use Rattle.iv_program.specs.Texts.{Texts, AreTexts};
@@ -170,3 +171,9 @@ pub(crate) fn read_files<A: Allocator + Copy, F: InputFiles>(
     read_fasta_if_named(files, plan, for_rows, &mut reader)?;
     Ok(reader.finish())
 }
+
+/// What happened to files, if that is known: to read those of some names is to open each once, in this order, and to close it before the
+/// next is opened.
+pub fn each_is_opened_once()
+    ensures { (names : List (List ℕ)) (files : FilesState) (events : List FileEvent) → files.events ≡ Some events → (after_reading names files).events ≡ Some (events ++ flat_map once names) }
+{}

@@ -6,7 +6,7 @@ mod memory;
 mod program;
 mod script_run;
 
-pub use files::InputFiles;
+pub use files::{InputFiles, each_is_opened_once};
 pub use iv_session::{SeesRefusals, Unseen};
 pub use memory::{MemFiles, NamedBytes};
 pub use program::{

@@ -1,24 +1,23 @@
 -- Views whose rows depend on nothing of a record except its interval.
 use Rattle.std.proofs.Common.{◌≡◌, ℕ, Bool, true, not, ◌&&◌, List, Ok, Err, if◌then◌else◌, refl, sym, ◌∙◌}
-use Rattle.std.specs.Prelude.{map, nat_lt}
-use Rattle.iv_lines.specs.Intervals.{bare}
+use Rattle.std.specs.Prelude.{nat_lt}
 use Rattle.iv_lines.specs.declared.fault.Fault.TheVariants as refused
 use Rattle.iv_view.specs.NarrowedViews.{as_merge, narrowed, has_columns}
-use Rattle.iv_view.specs.Views.{read_arguments}
+use Rattle.iv_view.specs.Arguments.{read_arguments}
 use Rattle.iv_view.proofs.NarrowingLemmas.{view-narrowed}
 use Rattle.iv_view.specs.declared.view.View.TheVariants as view
 use Rattle.iv_view.specs.declared.view.KeptView.{KeptView}
 use Rattle.iv_view.specs.declared.view.KeptView.TheVariants as kept
 use Rattle.iv_run.specs.Columns.{AskForIntervals, IsOfIntervals}
 use Rattle.iv_run.specs.Inside.Intervals.{NeedsIntervalsAlone}
-use Rattle.iv_run.proofs.IntervalsAlone.{complement-bare, genomecov-bare, genomecov-text, merge-bare}
+use Rattle.iv_run.proofs.IntervalsAlone.{complement-bare, genomecov-bare, merge-bare}
 
 -- nothing except the intervals of records counts
 pub alone : (asked : KeptView) → IsOfIntervals asked → NeedsIntervalsAlone asked
 alone (kept.Merge o) plain = λ g records. merge-bare o.distance o g records plain
 alone (kept.Cluster distance) is = absurd is
-alone (kept.Complement limited) is = λ g records. complement-bare limited g records
-alone (kept.Genomecov shown) is = λ g records. sym (genomecov-text shown g (map bare records)) ∙ genomecov-bare shown g records ∙ genomecov-text shown g records
+alone (kept.Complement limited) is = complement-bare limited
+alone (kept.Genomecov shown) is = genomecov-bare shown
 
 -- the view is the same on fewer columns and without files
 narrowed-same : (width : ℕ) (b c : Bool) (asked : KeptView) → IsOfIntervals asked → narrowed width b c (view.Kept asked) ≡ Ok (view.Kept asked)

@@ -1,5 +1,5 @@
 -- The views whose rows depend on nothing of a record except its interval.
-use Rattle.std.proofs.Common.{◌≡◌, ℕ, ◌-◌, ◌++◌, ◌==◌, ◌&&◌, ◌||◌, Bool, true, false, not, cond, List, [], ◌∷◌, map, Option, Some, None, if◌then◌else◌, refl, sym, ap, ◌∙◌, arith}
+use Rattle.std.proofs.Common.{◌≡◌, ℕ, ◌-◌, ◌++◌, ◌==◌, ◌&&◌, ◌||◌, Bool, true, false, not, cond, List, [], ◌∷◌, map, Option, Some, None, if◌then◌else◌, refl, sym, ap, ◌∙◌}
 use Rattle.std.specs.Prelude.{filter, max}
 use Rattle.std.specs.List.{cons_option, filter_map, flat_map, list_any, range_with_len}
 use Rattle.std.specs.Option.{option_map}
@@ -11,21 +11,17 @@ use Rattle.iv_lines.specs.CoveredPositions.{covers}
 use Rattle.iv_cover.specs.Depth.{depth}
 use Rattle.iv_cover.specs.Runs.{empty_runs}
 use Rattle.iv_cover.specs.declared.column.ColumnSummary.{ColumnSummary}
-use Rattle.iv_blocks.specs.Inside.Texts.{complement_text, merge_text}
-use Rattle.iv_blocks.specs.ComplementRows.{gap_row}
+use Rattle.iv_blocks.specs.ComplementRows.{gap_row, complement_text}
 use Rattle.iv_blocks.specs.Groups.{group, sides}
 use Rattle.iv_blocks.specs.Inside.Groups.{is_in_group}
-use Rattle.iv_blocks.specs.MergeRows.{block_row}
+use Rattle.iv_blocks.specs.MergeRows.{block_row, merge_text}
 use Rattle.iv_blocks.specs.declared.options.BlockOptions.{BlockOptions}
-use Rattle.iv_depth.specs.DepthRows.{position_row}
-use Rattle.iv_depth.specs.Inside.Texts.{depth_text, text_by}
+use Rattle.iv_depth.specs.DepthRows.{depth_text}
+use Rattle.iv_depth.specs.Inside.Texts.{text_by}
 use Rattle.iv_depth.specs.declared.depth_rows.DepthOutput.{DepthOutput}
-use Rattle.iv_depth.specs.declared.depth_rows.DepthOutput.TheVariants.{Covered, All, EachPosition}
 use Rattle.iv_lines.specs.Intervals.{bare}
 use Rattle.iv_places.proofs.BareLemmas.{count-bare}
 use Rattle.iv_blocks.specs.IntervalOptions.{IsByIntervals}
-use Rattle.iv_view.specs.Views.{kept_text}
-use Rattle.iv_view.specs.declared.view.KeptView.TheVariants as projected
 
 -- ---- tests of bare records
 
@@ -47,17 +43,6 @@ filter-bare p (r ∷ records) = by (p (bare r)) (filter-bare p records)
 -- bare records cover what the records do
 depth-bare : (records : List RecordValue) → depth (map bare records) ≡ depth records
 depth-bare records = λ i sequence p. count-bare (covers sequence p) records i
-
--- the text of depth is that of the view
-pub genomecov-text : (shown : DepthOutput) (g : Sequences) (records : List RecordValue) → depth_text shown g records ≡ kept_text None (projected.Genomecov shown) g records
-genomecov-text Covered g records = refl
-genomecov-text All g records = refl
-genomecov-text EachPosition g records = λ i. flat_map
-    (λ rank. flat_map (λ p. position_row (sequence_name g rank) p (depth records rank p)) (range_with_len 0 (less-none (sequence_length g rank) i)))
-    (range_with_len 0 (seq_count g))
-  where
-    less-none : (n : ℕ) → n - 0 ≡ n
-    less-none n = omega arith
 
 pub genomecov-bare : (shown : DepthOutput) (g : Sequences) (records : List RecordValue) → depth_text shown g (map bare records) ≡ depth_text shown g records
 genomecov-bare shown g records = ap (text_by shown g) (depth-bare records)

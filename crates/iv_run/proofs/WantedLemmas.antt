@@ -19,7 +19,8 @@ use Rattle.iv_places.specs.declared.places.HeldColumns.{HeldColumns}
 use Rattle.iv_places.specs.declared.places.HeldColumns.TheVariants as held
 use Rattle.iv_places.proofs.BareLemmas.{ordered-bare}
 use Rattle.iv_text.proofs.BedReadingLemmas.{all-held}
-use Rattle.iv_view.specs.Views.{kept_text, read_arguments, written_rows}
+use Rattle.iv_view.specs.Arguments.{read_arguments}
+use Rattle.iv_view.specs.Views.{kept_text, written_rows}
 use Rattle.iv_view.specs.declared.view.View.{View}
 use Rattle.iv_view.specs.declared.view.View.TheVariants as view
 use Rattle.iv_view.specs.declared.written_view.WrittenView.{WrittenView}
@@ -136,7 +137,7 @@ module _ (said : Result Parsed CliFault) (wanted : Wanted) (files : Parsed) (rep
   text-is : text_beside files (view.Kept ask.asked) ≡ text_beside sound (view.Kept ask.asked)
   text-is =
       ap (λ (f : Parsed). text_beside f (view.Kept ask.asked)) reports.2
-      ∙ ap (kept_text None ask.asked sound.genome) (ordered-bare sound.first.records)
+      ∙ ap (kept_text ask.asked sound.genome) (ordered-bare sound.first.records)
       ∙ alone ask.asked ask.is_of sound.genome (ordered sound.first.records)
 
   bare-text : (v : View) → view_beside files arguments ≡ Ok v → (old new : SinkState) (result : Result (Unit {0}) CliFault)

@@ -3,7 +3,7 @@ use Rattle.std.specs.Prelude.{◌≡◌, ℕ, ⊤, Bool, List, Ok}
 use Rattle.iv_blocks.specs.IntervalOptions.{IsByIntervals}
 use Rattle.iv_places.specs.declared.places.HeldColumns.{HeldColumns}
 use Rattle.iv_places.specs.declared.places.HeldColumns.TheVariants as held
-use Rattle.iv_view.specs.Views.{read_arguments}
+use Rattle.iv_view.specs.Arguments.{read_arguments}
 use Rattle.iv_view.specs.declared.view.KeptView.{KeptView}
 use Rattle.iv_view.specs.declared.view.KeptView.TheVariants as kept
 use Rattle.iv_view.specs.declared.view.View.TheVariants as view

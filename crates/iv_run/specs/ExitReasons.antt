@@ -22,19 +22,22 @@ pub record Report : Type 0 where
   pub slot : Option Slot
   pub text : List ℕ
 
+-- a report with this status, of this file or of none, that says this
+abbrev pub with_status : ℕ → Option Slot → List ℕ → Report
+with_status status slot text = record { status = status; slot = slot; text = text }
+
 -- the report of an ending
 abbrev pub report_of : ExitReason → Report
-report_of exit_reason.Done = record { status = 0; slot = None; text = [] }
-report_of exit_reason.Refused = record { status = 1; slot = None; text = [] }
-report_of (exit_reason.Words f) = record { status = 2; slot = None; text = fault_text f }
-report_of (exit_reason.Damaged slot damage) =
-    record { status = 3; slot = Some slot; text = codes "line " ++ decimal damage.line ++ codes ": " ++ load_text damage.cause }
-report_of (exit_reason.Unreadable slot) = record { status = 4; slot = Some slot; text = codes "cannot be read" }
-report_of (exit_reason.TooLong slot) = record { status = 4; slot = Some slot; text = codes "too long" }
-report_of exit_reason.InputUnreadable = record { status = 4; slot = None; text = codes "input cannot be read" }
-report_of exit_reason.InputTooLong = record { status = 4; slot = None; text = codes "input too long" }
-report_of exit_reason.Output = record { status = 4; slot = None; text = codes "output cannot be written" }
-report_of exit_reason.Memory = record { status = 5; slot = None; text = codes "no memory" }
+report_of exit_reason.Done = with_status 0 None []
+report_of exit_reason.Refused = with_status 1 None []
+report_of (exit_reason.Words f) = with_status 2 None (fault_text f)
+report_of (exit_reason.Damaged slot damage) = with_status 3 (Some slot) (codes "line " ++ decimal damage.line ++ codes ": " ++ load_text damage.cause)
+report_of (exit_reason.Unreadable slot) = with_status 4 (Some slot) (codes "cannot be read")
+report_of (exit_reason.TooLong slot) = with_status 4 (Some slot) (codes "too long")
+report_of exit_reason.InputUnreadable = with_status 4 None (codes "input cannot be read")
+report_of exit_reason.InputTooLong = with_status 4 None (codes "input too long")
+report_of exit_reason.Output = with_status 4 None (codes "output cannot be written")
+report_of exit_reason.Memory = with_status 5 None (codes "no memory")
 
 -- the exit status of an ending
 abbrev pub status_of : ExitReason → ℕ

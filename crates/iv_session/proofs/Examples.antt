@@ -12,7 +12,7 @@ use Rattle.iv_workspace.specs.OpenViews.{Shown}
 use Rattle.iv_track.specs.Edits.{with_record}
 use Rattle.iv_workspace.specs.States.{State}
 use Rattle.iv_workspace.specs.Views.{view_asked, all_text, text_in}
-use Rattle.iv_view.specs.Views.{read_arguments}
+use Rattle.iv_view.specs.Arguments.{read_arguments}
 use Rattle.iv_session.specs.Written.{Written, refused_by}
 use Rattle.iv_session.specs.declared.request.Request.TheVariants as request
 use Rattle.iv_workspace.specs.declared.session.edits.Edit.TheVariants as edit

@@ -2,6 +2,5 @@ pub mod Copies
 pub mod Edits
 pub mod Lent
 pub mod Regions
-pub mod Parts
 pub mod Tracked
 pub mod Inside

@@ -3,13 +3,17 @@ use Rattle.std.specs.Prelude.{ℕ, ◌+◌, ◌-◌, ◌*◌, ◌≤◌, ◌==�
 use Rattle.iv_lines.specs.RecordValue.{RecordValue}
 use Rattle.iv_track.specs.declared.region.Region.{Region}
 
+-- the interval from `from` to `to` shares a position with the one from `start` to `stop`; neither `to` nor `stop` is included
+abbrev pub shares : ℕ → ℕ → ℕ → ℕ → Bool
+shares start stop from to = nat_lt from stop && nat_lt start to
+
 -- the record is on the sequence of this rank and shares a position with the interval from start to stop, which is not included
 abbrev pub overlaps : ℕ → ℕ → ℕ → RecordValue → Bool
-overlaps seq start stop q = (q.seq == seq) && (nat_lt q.start stop && nat_lt start q.stop)
+overlaps seq start stop q = (q.seq == seq) && shares start stop q.start q.stop
 
 -- the records on the sequence of this rank that share a position with the interval from start to stop, in their order, copies repeated
 abbrev pub hits : List RecordValue → ℕ → ℕ → ℕ → List RecordValue
-hits records seq start stop = filter (λ q. (q.seq == seq) && (nat_lt q.start stop && nat_lt start q.stop)) records
+hits records seq start stop = filter (λ q. (q.seq == seq) && shares start stop q.start q.stop) records
 
 -- the greatest number of positions that a record has, 0 if there is no record
 abbrev pub longest : List RecordValue → ℕ

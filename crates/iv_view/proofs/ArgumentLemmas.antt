@@ -10,7 +10,8 @@ use Rattle.iv_lines.proofs.ListLemmas.{some-cons}
 use Rattle.iv_view.specs.Merge.{MergeArgs, said_by, with_flag, with_option, unless_given, nothing_said}
 use Rattle.iv_view.specs.Flags.{only_flag, beside_flag, genomecov_rows, intersect_said, fasta_said}
 use Rattle.iv_view.specs.NarrowedViews.{as_merge}
-use Rattle.iv_view.specs.Views.{read_arguments, or_bad_arguments, beside_second, beside_fasta, needs_second}
+use Rattle.iv_view.specs.Arguments.{read_arguments, or_bad_arguments, beside_second, beside_fasta}
+use Rattle.iv_view.specs.Views.{needs_second}
 use Rattle.iv_blocks.specs.declared.options.BlockOptions.{BlockOptions}
 use Rattle.iv_fasta.specs.declared.rows.FastaOutput.{FastaOutput}
 use Rattle.iv_pair.specs.declared.pair_rows.PairOutput.{PairOutput}

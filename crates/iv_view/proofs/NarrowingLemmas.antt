@@ -23,7 +23,7 @@ use Rattle.iv_view.specs.Flags.{only_flag, beside_flag, genomecov_rows, intersec
 use Rattle.iv_view.specs.Lists.{all_some, pairs}
 use Rattle.iv_view.specs.Merge.{MergeArgs, said_by, nothing_said, distance_of, lists_of, summary_within, merge_options, cluster_distance}
 use Rattle.iv_view.specs.NarrowedViews.{number_of, has_columns, narrowed_options, as_merge, narrowed}
-use Rattle.iv_view.specs.Views.{read_arguments, or_bad_arguments, beside_second, beside_fasta}
+use Rattle.iv_view.specs.Arguments.{read_arguments, or_bad_arguments, beside_second, beside_fasta}
 use Rattle.iv_view.specs.declared.view.View.{View}
 use Rattle.iv_view.specs.declared.view.View.TheVariants as view
 use Rattle.iv_view.specs.declared.view.KeptView.{KeptView}

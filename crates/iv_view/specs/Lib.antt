@@ -1,3 +1,4 @@
+pub mod Arguments
 pub mod Flags
 pub mod Lists
 pub mod Merge

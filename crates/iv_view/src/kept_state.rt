@@ -9,9 +9,8 @@ ghost use Rattle.iv_track.specs.Regions.{near};
 ghost use Rattle.iv_ledger.specs.Steps.{TakesUpTo};
 ghost use Rattle.iv_cover.specs.Depth.{depth as depth_of};
 ghost use Rattle.iv_depth.specs.Changes.{AreChangesOf};
-ghost use Rattle.iv_depth.specs.RegionRows.{covered_runs_in};
-ghost use Rattle.iv_depth.specs.Inside.Texts.{depth_text_in};
-ghost use Rattle.iv_view.specs.RegionText.{IsWithin, PrintsInWithin};
+ghost use Rattle.iv_depth.specs.RegionRows.{covered_runs_in, depth_text_in};
+ghost use Rattle.iv_view.specs.RegionText.{IsWithin, PrintsInWithin, kept_text_in};
 ghost use Rattle.iv_view.specs.Views.{kept_text};
 
 use crate::view::{KeptView, View};
@@ -70,7 +69,7 @@ impl KeptView {
         requires kept { what_is_kept state.now ≡ kept_for self }
         requires right { IsRight state.now (names_of genome.now) track.now.records }
         requires fit { All (Fits genome.now track.now.width) track.now.records }
-        ensures text { Puts (S.state sink.old) (S.state sink.new) result (kept_text None self genome.now track.now.records) }
+        ensures text { Puts (S.state sink.old) (S.state sink.new) result (kept_text self genome.now track.now.records) }
         ensures steps { PrintsWithin self genome.now track.now.records meter.old meter.new }
     {
         match (self, state) {
@@ -109,7 +108,7 @@ impl KeptView {
         requires within { IsWithin genome.now at }
         requires right { IsRight state.now (names_of genome.now) track.now.records }
         requires fit { All (Fits genome.now track.now.width) track.now.records }
-        ensures text { Puts (S.state sink.old) (S.state sink.new) result (kept_text (Some at) self genome.now track.now.records) }
+        ensures text { Puts (S.state sink.old) (S.state sink.new) result (kept_text_in at self genome.now track.now.records) }
         ensures steps { PrintsInWithin at self genome.now track.now.records meter.old meter.new }
     {
         match (self, state) {

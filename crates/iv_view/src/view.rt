@@ -1,14 +1,14 @@
 //! The kinds of view: the arguments that ask for one, and the print of a run.
 ghost use Rattle.std.specs.Prelude.{[], ◌≡◌, true, map, All, IfOk, OnErr, None};
-ghost use Rattle.iv_view.specs.Views.{read_arguments, or_bad_arguments as kept_or_bad_arguments, beside_second as beside_a_second, beside_fasta as beside_a_fasta, kept_text, shown_text, written_rows};
+ghost use Rattle.iv_view.specs.Arguments.{read_arguments, or_bad_arguments as kept_or_bad_arguments, beside_second as beside_a_second, beside_fasta as beside_a_fasta};
+ghost use Rattle.iv_view.specs.Views.{kept_text, shown_text, written_rows};
 ghost use Rattle.iv_view.specs.NarrowedViews.{narrowed as narrowed_view};
 ghost use Rattle.std.specs.List.{flat_map};
 ghost use Rattle.std.specs.Option.{option_copied, unwrap_or};
 ghost use Rattle.iv_bytes.specs.Sinks.{Puts};
 ghost use Rattle.iv_lines.specs.Ordered.{AreInOrder};
 ghost use Rattle.iv_lines.specs.Read.{IsOnGenome};
-ghost use Rattle.iv_blocks.specs.Inside.Texts.{merge_text};
-ghost use Rattle.iv_pair.specs.PairRows.{pair_text};
+ghost use Rattle.iv_blocks.specs.MergeRows.{merge_text};
 
 use crate::flags::{read_complement, read_genomecov, read_getfasta, read_intersect, read_subtract};
 use crate::merge::{narrow_merge, read_cluster, read_merge};
@@ -19,7 +19,7 @@ use iv_cover::RecordWalk;
 use iv_depth::{DepthOutput, DepthSweep};
 use iv_fasta::{Fasta, FastaOutput};
 use iv_lines::{Fault, Genome};
-use iv_pair::{PairOutput, PairSweep, join_beside};
+use iv_pair::{PairOutput, print_beside};
 use iv_places::{PlacedRecords, Places};
 use std::alloc::{AllocError, Allocator};
 
@@ -185,7 +185,7 @@ impl View {
     ///
     /// The records of both files are in the order of a track. Without a FASTA file `getfasta` puts nothing. All memory is allocated
     /// before the first byte is put: room for a value of each record if a merge asks for `distinct`, for start and stop of each for
-    /// `genomecov`, and what a [`PairSweep`] needs. Other views take none.
+    /// `genomecov`, and what [`print_beside`] needs. Other views take none.
     ///
     /// # Errors
     ///
@@ -202,7 +202,7 @@ impl View {
         requires order { AreInOrder records }
         requires on_genome { All (IsOnGenome genome.now) records }
         requires second { AreInOrder second.records }
-        ensures text { IfOk result (λ put. Puts (S.state sink.old) (S.state sink.new) put (shown_text None self genome.now records.entry second.records (unwrap_or (option_copied fasta.entry) []))) }
+        ensures text { IfOk result (λ put. Puts (S.state sink.old) (S.state sink.new) put (shown_text self genome.now records.entry second.records (unwrap_or (option_copied fasta.entry) []))) }
         ensures alone { OnErr result (sink.new ≡ sink.old) }
     {
         match self {
@@ -225,7 +225,7 @@ impl KeptView {
     ) -> Result<Result<(), WriteFault>, AllocError>
         requires order { AreInOrder records }
         requires on_genome { All (IsOnGenome genome.now) records }
-        ensures text { IfOk result (λ put. Puts (S.state sink.old) (S.state sink.new) put (kept_text None self genome.now records.entry)) }
+        ensures text { IfOk result (λ put. Puts (S.state sink.old) (S.state sink.new) put (kept_text self genome.now records.entry)) }
         ensures alone { OnErr result (sink.new ≡ sink.old) }
     {
         match self {
@@ -279,31 +279,10 @@ impl WrittenView {
     {
         match self {
             WrittenView::Paired(output) => {
-                put_pairs(alloc, output, records, second, genome, meter, sink)
+                print_beside(alloc, output, records, second, genome, meter, sink)
             }
             WrittenView::Getfasta(_) => Ok(self.put_each(records, fasta, genome, meter, sink)),
             WrittenView::Records => Ok(self.put_each(records, fasta, genome, meter, sink)),
         }
     }
-}
-
-/// Puts the rows of each record beside the second file.
-fn put_pairs<A: Allocator + Copy, W: RecordWalk, S: Sink>(
-    alloc: A,
-    output: PairOutput,
-    records: W,
-    second: Places<A>,
-    genome: &Genome<A>,
-    meter: &mut W::Meter,
-    sink: &mut S,
-) -> Result<Result<(), WriteFault>, AllocError>
-    requires order { AreInOrder (W.left records) }
-    requires second { AreInOrder second.records }
-    ensures text { IfOk result (λ put. Puts (S.state sink.old) (S.state sink.new) put (pair_text output genome.now (W.left records) second.records)) }
-    ensures alone { OnErr result (sink.new ≡ sink.old) }
-{
-    let mut second = second;
-    join_beside(output, &mut second);
-    let sweep = PairSweep::new(alloc, output, second.records())?;
-    Ok(sweep.print(records, genome, meter, sink))
 }

@@ -15,7 +15,7 @@ use Rattle.iv_view.specs.declared.view.View.{View}
 use Rattle.iv_view.specs.declared.view.View.TheVariants as view
 use Rattle.iv_view.specs.declared.written_view.WrittenView.{WrittenView}
 use Rattle.iv_view.specs.KeptStates.{state_key_of}
-use Rattle.iv_view.specs.Views.{read_arguments}
+use Rattle.iv_view.specs.Arguments.{read_arguments}
 use Rattle.iv_workspace.specs.OpenViews.{Shown, Stales, Freshens, all_current, with_current}
 use Rattle.iv_workspace.specs.Views.{is_view_name, view_named, view_asked}
 use Rattle.iv_workspace.proofs.OpenViewLemmas.{freshens-all, freshens-one}

@@ -8,7 +8,9 @@ use Rattle.iv_lines.specs.Fault.{code_of}
 use Rattle.iv_lines.specs.declared.fault.Fault.{Fault}
 use Rattle.iv_lines.specs.declared.fault.Fault.TheVariants as fault
 use Rattle.iv_track.specs.declared.region.Region.{Region}
-use Rattle.iv_view.specs.Views.{read_arguments, second_records, shown_text}
+use Rattle.iv_view.specs.Arguments.{read_arguments}
+use Rattle.iv_view.specs.RegionText.{view_text}
+use Rattle.iv_view.specs.Views.{second_records}
 use Rattle.iv_view.specs.declared.view.View.{View}
 use Rattle.iv_workspace.specs.OpenViews.{Shown}
 use Rattle.iv_workspace.specs.States.{State}
@@ -45,7 +47,7 @@ RefusesOpen s name arguments f = (view_asked s name arguments ≡ Err f) ⊎ ((f
 -- what is printed of a view, all of it or a region: its text for the records as they are, beside the second file's records and the
 -- bases, if there are any
 abbrev pub text_in : Option Region → State → View → List ℕ
-text_in part s v = shown_text part v s.genome s.track.records (second_records s.second) (unwrap_or s.bases [])
+text_in part s v = view_text part v s.genome s.track.records (second_records s.second) (unwrap_or s.bases [])
 
 -- the same of all views, in order of opening, each under a line with its name
 abbrev pub all_text : Option Region → State → List ℕ

@@ -8,8 +8,8 @@ ghost use Rattle.iv_bytes.specs.Sinks.{Puts};
 ghost use Rattle.iv_lines.specs.Named.{names_of};
 ghost use Rattle.iv_lines.specs.Read.{Fits};
 ghost use Rattle.iv_lines.specs.RecordValue.{RecordValue};
-ghost use Rattle.iv_view.specs.RegionText.{IsWithin};
-ghost use Rattle.iv_view.specs.Views.{second_records, shown_text};
+ghost use Rattle.iv_view.specs.RegionText.{IsWithin, view_text};
+ghost use Rattle.iv_view.specs.Views.{second_records};
 ghost use Rattle.iv_workspace.specs.OpenViews.{Freshens, all_current, stale_count, with_current};
 ghost use Rattle.iv_workspace.specs.Prints.{ViewPrintsWithin};
 ghost use Rattle.iv_workspace.specs.Inside.States.{IsServed};
@@ -238,7 +238,7 @@ impl<A: Allocator + Copy> Views<A> {
         requires fit { All (Fits genome.now track.now.width) track.now.records }
         requires within { IfSome part (IsWithin genome.now) }
         ensures text { Puts (S.state sink.old) (S.state sink.new) result
-            (shown_text part view genome.now track.now.records (second_records (option_copied second.entry)) (unwrap_or (option_copied fasta.entry) [])) }
+            (view_text part view genome.now track.now.records (second_records (option_copied second.entry)) (unwrap_or (option_copied fasta.entry) [])) }
         ensures steps { ViewPrintsWithin part view genome.now track.now.records meter.old meter.new }
     {
         match view {

@@ -18,8 +18,8 @@ use test_faults::{Manner, Stream, copied, words_of};
 pub(crate) enum Begun {
     /// `run_program`, with all that it calls: `Plan::read`, `FilesReader::begin`, `read_all`, `FilesReader::read_first`,
     /// `FilesReader::read_second`, `FilesReader::read_fasta`, `FilesReader::finish`, `begin_session`, `shot_of_held`, `View::print_from`,
-    /// `MergeSweep::new`, `DepthSweep::new`, `PairSweep::new`, `Places::hold`, `Places::sort`, `Places::ranks`, `BedReader::take_piece`,
-    /// `BedReader::finish`, `FastaReader::take_piece`, `FastaReader::finish`
+    /// `print_beside`, `MergeSweep::new`, `DepthSweep::new`, `PairSweep::new`, `Places::hold`, `Places::sort`, `Places::ranks`,
+    /// `BedReader::take_piece`, `BedReader::finish`, `FastaReader::take_piece`, `FastaReader::finish`
     Program,
     /// `Plan::read` and `shot`, with `RunFiles::of_inputs`
     Shot,

@@ -9,7 +9,7 @@ use Rattle.iv_args.specs.declared.subcommand.RunOption.TheVariants as option
 use Rattle.iv_lines.specs.declared.fault.Fault.{Fault}
 use Rattle.iv_lines.specs.declared.fault.Fault.TheVariants as fault
 use Rattle.iv_lines.specs.Number.{number}
-use Rattle.iv_view.specs.Views.{read_arguments}
+use Rattle.iv_view.specs.Arguments.{read_arguments}
 use Rattle.iv_view.specs.declared.view.View.{View}
 use Rattle.iv_args.specs.declared.subcommand.Subcommand.TheVariants as kind
 use Rattle.iv_args.specs.Arguments.{RunPlan, most_limit, option_of, said_once, takes_value}

@@ -10,7 +10,7 @@ use Rattle.iv_blocks.specs.Inside.Insertion.{key_of}
 use Rattle.iv_blocks.specs.Inside.Texts.{is_shown}
 use Rattle.iv_blocks.specs.KeptBlocks.{Entries, Key, Kept, key_cmp}
 use Rattle.iv_blocks.specs.declared.group.Group.{Group}
-use Rattle.iv_blocks.specs.RegionRows.{shares}
+use Rattle.iv_track.specs.Regions.{shares}
 
 -- the blocks before `low` stop at the position or before it, and those from `low` on stop past it
 pub record ReachesFrom (look : ℕ → Option Kept) (position low : ℕ) : Type 0 where

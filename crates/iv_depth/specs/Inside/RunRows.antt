@@ -2,8 +2,7 @@
 use Rattle.std.specs.Prelude.{ℕ, ◌-◌, List, max, min, filter}
 use Rattle.std.specs.List.{flat_map, range_with_len}
 use Rattle.iv_cover.specs.Runs.{Run, runs}
-use Rattle.iv_depth.specs.DepthRows.{run_row, position_row, covered_runs}
-use Rattle.iv_depth.specs.Inside.Texts.{rows_between}
+use Rattle.iv_depth.specs.DepthRows.{run_row, position_row, covered_runs, rows_between}
 use Rattle.iv_depth.specs.RegionRows.{run_shares}
 use Rattle.iv_depth.specs.declared.depth_rows.DepthOutput.{DepthOutput}
 use Rattle.iv_depth.specs.declared.depth_rows.DepthOutput.TheVariants.{Covered, All, EachPosition}

@@ -8,4 +8,4 @@ use Rattle.iv_view.specs.declared.view.KeptView.{KeptView}
 
 -- on each genome and for each list of records, the text stays as it is if only the intervals of the records are held
 abbrev pub NeedsIntervalsAlone : KeptView → Type 0
-NeedsIntervalsAlone view = (g : Sequences) (records : List RecordValue) → kept_text None view g (map bare records) ≡ kept_text None view g records
+NeedsIntervalsAlone view = (g : Sequences) (records : List RecordValue) → kept_text view g (map bare records) ≡ kept_text view g records

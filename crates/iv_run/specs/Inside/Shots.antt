@@ -8,7 +8,8 @@ use Rattle.iv_lines.specs.RecordValue.{RecordValue}
 use Rattle.iv_lines.specs.declared.fault.Fault.{Fault}
 use Rattle.iv_lines.specs.declared.fault.LoadFault.{LoadFault}
 use Rattle.iv_fasta.specs.Fasta.{Bases, fasta_of}
-use Rattle.iv_view.specs.Views.{read_arguments, shown_text}
+use Rattle.iv_view.specs.Arguments.{read_arguments}
+use Rattle.iv_view.specs.Views.{shown_text}
 use Rattle.iv_view.specs.declared.view.View.{View}
 use Rattle.iv_run.specs.Loading.{Parsed}
 
@@ -30,4 +31,4 @@ view_beside files arguments = read_arguments files.first.width (is_some files.se
 
 -- what the view prints for the files: its text for their records in track order
 abbrev pub text_beside : Parsed → View → List ℕ
-text_beside files view = shown_text None view files.genome (ordered files.first.records) (ordered_other files.second) (unwrap_or files.bases [])
+text_beside files view = shown_text view files.genome (ordered files.first.records) (ordered_other files.second) (unwrap_or files.bases [])

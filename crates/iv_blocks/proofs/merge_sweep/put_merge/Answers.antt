@@ -6,7 +6,7 @@ use Rattle.iv_lines.specs.Genome.{Sequences}
 use Rattle.iv_lines.specs.RecordValue.{RecordValue}
 use Rattle.iv_cover.specs.Inside.TrackBlocks.{blocks_of}
 use Rattle.iv_blocks.specs.Inside.BlockSweeps.{interval_of, interval_row}
-use Rattle.iv_blocks.specs.Inside.Texts.{merge_text}
+use Rattle.iv_blocks.specs.MergeRows.{merge_text}
 use Rattle.iv_blocks.specs.IntervalOptions.{IsByIntervals}
 use Rattle.iv_blocks.specs.declared.options.BlockOptions.{BlockOptions}
 use Rattle.iv_blocks.proofs.MergeTexts.{text-blocks}

@@ -3,7 +3,8 @@ use Rattle.std.proofs.lemmas.Int.{ints}
 use lib.IntN.{nat_abs}
 use Rattle.iv_bytes.proofs.PutLemmas.{Underway-begin, Underway-more, Underway-fails, Underway-last, Puts-err}
 use Rattle.iv_track.proofs.StepLemmas.{each_none, each_more}
-use Rattle.iv_depth.specs.Inside.Texts.{rows_between, sequence_text}
+use Rattle.iv_depth.specs.Inside.Texts.{sequence_text}
+use Rattle.iv_depth.specs.DepthRows.{rows_between}
 use Rattle.iv_depth.proofs.Stretches.{rows-next, rows-end}
 use Rattle.iv_depth.proofs.depth_rows.put_sequence.Goals as goal
 

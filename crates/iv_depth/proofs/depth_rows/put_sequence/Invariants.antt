@@ -1,7 +1,7 @@
 use Rattle.std.proofs.Common.{◌≡◌, ℕ, pos}
 use Rattle.iv_bytes.proofs.PutLemmas.{Underway}
 use Rattle.iv_track.specs.Inside.Steps.{TakesForEach}
-use Rattle.iv_depth.specs.Inside.Texts.{rows_between}
+use Rattle.iv_depth.specs.DepthRows.{rows_between}
 use Rattle.iv_depth.proofs.depth_rows.put_sequence.Given as goal
 
 -- the rows from `start` on remain to be written, and the changes that are left are those of the depth from there on

@@ -4,8 +4,7 @@ use lib.IntN.{nat_abs}
 use Rattle.iv_bytes.proofs.PutLemmas.{Underway-begin, Underway-more, Underway-fails, Underway-ends, Puts-err}
 use Rattle.iv_lines.specs.Genome.{sequence_name, sequence_length}
 use Rattle.iv_track.proofs.StepLemmas.{takes_one_more}
-use Rattle.iv_depth.specs.Inside.Texts.{rows_in}
-use Rattle.iv_depth.specs.RegionRows.{covered_runs_in}
+use Rattle.iv_depth.specs.RegionRows.{covered_runs_in, rows_in}
 use Rattle.iv_depth.specs.Inside.Region.{AreChangesOn, IsRunStart}
 use Rattle.iv_depth.specs.Inside.Walks.{depth_by}
 use Rattle.iv_depth.proofs.Lookups.{AreLeft-run}

@@ -1,7 +1,6 @@
 use Rattle.std.proofs.Common.{◌+◌, ◌-◌, ◌*◌, length}
 use Rattle.iv_bytes.proofs.PutLemmas.{Underway}
-use Rattle.iv_depth.specs.Inside.Texts.{rows_in}
-use Rattle.iv_depth.specs.RegionRows.{covered_runs_in}
+use Rattle.iv_depth.specs.RegionRows.{covered_runs_in, rows_in}
 use Rattle.iv_depth.specs.Inside.Region.{IsWalking}
 use Rattle.iv_depth.specs.Inside.RunRows.{rows_from}
 use Rattle.iv_depth.specs.Inside.Walks.{depth_by}

@@ -1,5 +1,5 @@
 use Rattle.std.proofs.Common.{◌≡◌, ◌∙◌, true, Ok, sym, ap}
-use Rattle.iv_view.specs.Views.{read_arguments}
+use Rattle.iv_view.specs.Arguments.{read_arguments}
 use Rattle.iv_view.specs.declared.view.View.TheVariants as view
 use Rattle.iv_run.proofs.ColumnsLemmas.{asks}
 use Rattle.iv_run.proofs.run.columns_for.Goals as goal

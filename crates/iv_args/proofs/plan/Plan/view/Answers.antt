@@ -1,5 +1,5 @@
 use Rattle.std.proofs.Common.{true, ap, ◌∙◌}
-use Rattle.iv_view.specs.Views.{read_arguments}
+use Rattle.iv_view.specs.Arguments.{read_arguments}
 use Rattle.iv_args.specs.Arguments.{RunPlan}
 use Rattle.iv_args.proofs.plan.Plan.view.Goals as goal
 

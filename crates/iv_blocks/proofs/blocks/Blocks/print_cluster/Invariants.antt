@@ -3,8 +3,7 @@ use Rattle.std.specs.List.{flat_map}
 use Rattle.iv_bytes.proofs.PutLemmas.{Underway}
 use Rattle.iv_lines.specs.Ordered.{AreInOrder}
 use Rattle.iv_blocks.specs.Inside.BlockCursor.{interval_of}
-use Rattle.iv_blocks.specs.ClusterRows.{cluster_row}
-use Rattle.iv_blocks.specs.Inside.Texts.{cluster_text}
+use Rattle.iv_blocks.specs.ClusterRows.{cluster_row, cluster_text}
 use Rattle.iv_blocks.proofs.ClusterLemmas.{IsPassed}
 use Rattle.iv_blocks.proofs.blocks.Blocks.print_cluster.Given as goal
 

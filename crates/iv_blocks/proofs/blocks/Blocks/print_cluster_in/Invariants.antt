@@ -7,7 +7,7 @@ use Rattle.iv_lines.proofs.ListLemmas.{Mem}
 use Rattle.iv_track.specs.Regions.{near}
 use Rattle.iv_blocks.specs.Inside.BlockCursor.{interval_of}
 use Rattle.iv_blocks.specs.ClusterRows.{blocks_until, cluster_row}
-use Rattle.iv_blocks.specs.Inside.Texts.{cluster_text_in}
+use Rattle.iv_blocks.specs.RegionRows.{cluster_text_in}
 use Rattle.iv_blocks.proofs.ClusterLemmas.{IsPassed}
 use Rattle.iv_blocks.proofs.blocks.Blocks.print_cluster_in.Given as goal
 

@@ -3,7 +3,7 @@ use Rattle.std.specs.List.{flat_map, range_with_len}
 use Rattle.iv_bytes.proofs.PutLemmas.{Underway}
 use Rattle.iv_lines.specs.Genome.{seq_count}
 use Rattle.iv_blocks.specs.Groups.{listed, sides}
-use Rattle.iv_blocks.specs.Inside.Texts.{merge_text, side_rows}
+use Rattle.iv_blocks.specs.MergeRows.{merge_text, side_rows}
 use Rattle.iv_cover.specs.Results.{HasRoom}
 use Rattle.iv_places.proofs.SequenceLemmas.{is_from}
 use Rattle.iv_blocks.proofs.merge_sweep.MergeSweep.print.Given as goal

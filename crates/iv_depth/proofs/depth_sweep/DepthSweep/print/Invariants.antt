@@ -2,7 +2,7 @@ use Rattle.std.proofs.Common.{◌≡◌, filter}
 use Rattle.iv_bytes.proofs.PutLemmas.{Underway}
 use Rattle.iv_cover.specs.Depth.{depth}
 use Rattle.iv_places.proofs.SequenceLemmas.{is_from}
-use Rattle.iv_depth.specs.Inside.Texts.{depth_text}
+use Rattle.iv_depth.specs.DepthRows.{depth_text}
 use Rattle.iv_depth.proofs.Genomes.{texts_from}
 use Rattle.iv_depth.proofs.depth_sweep.DepthSweep.print.Given as goal
 

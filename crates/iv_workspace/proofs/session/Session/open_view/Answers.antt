@@ -1,7 +1,7 @@
 use Rattle.std.proofs.Common.{◌≡◌, ◌∙◌, ℕ, ◌<◌, List, [], ◌∷◌, ◌++◌, Ok, true, false, length, map, arith, refl, sym, subst}
 use Rattle.std.specs.Option.{is_some}
 use Rattle.std.proofs.lemmas.List.{length-map}
-use Rattle.iv_view.specs.Views.{read_arguments}
+use Rattle.iv_view.specs.Arguments.{read_arguments}
 use Rattle.iv_view.proofs.ArgumentLemmas.{needs-there}
 use Rattle.iv_workspace.specs.Inside.ViewStates.{all_seen, seen}
 use Rattle.iv_workspace.specs.declared.views.OpenView.{OpenView}

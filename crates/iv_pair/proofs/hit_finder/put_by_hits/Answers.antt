@@ -3,7 +3,7 @@ use Rattle.iv_bytes.specs.Sinks.{Takes, FailsIn}
 use Rattle.iv_lines.specs.RecordValue.{RecordValue}
 use Rattle.iv_pair.specs.PairRows.{pair_rows}
 use Rattle.iv_pair.proofs.PairTextLemmas.{put-none, put-more, put-fails, put-ended, puts-some}
-use Rattle.iv_pair.proofs.pair_rows.put_by_hits.Goals as goal
+use Rattle.iv_pair.proofs.hit_finder.put_by_hits.Goals as goal
 
 pub loop-feature-init : goal.loop-feature-init
 loop-feature-init g c = record {

@@ -5,7 +5,7 @@ use Rattle.std.proofs.lemmas.Iterator.{YieldsList}
 use Rattle.iv_lines.specs.Ordered.{AreInOrder}
 use Rattle.iv_lines.specs.RecordValue.{RecordValue}
 use Rattle.iv_pair.specs.Hits.{hits_of}
-use Rattle.iv_pair.proofs.pair_rows.put_beside.Goals as goal
+use Rattle.iv_pair.proofs.hit_finder.put_beside.Goals as goal
 
 pub returns-then-has_none-clause-text : goal.returns-then-has_none-clause-text
 returns-then-has_none-clause-text g c =

@@ -2,7 +2,7 @@ use Rattle.std.proofs.Common.{◌≡◌, List, length}
 use Rattle.iv_lines.specs.RecordValue.{RecordValue}
 use Rattle.iv_pair.specs.CoverAlone.{GiveRowsAlike}
 use Rattle.iv_pair.proofs.PairTextLemmas.{HasPut}
-use Rattle.iv_pair.proofs.pair_rows.put_by_hits.Given as goal
+use Rattle.iv_pair.proofs.hit_finder.put_by_hits.Given as goal
 
 -- the rows of the records that were taken are put
 abbrev pub invariant-loop-feature : goal.invariant-loop-feature
