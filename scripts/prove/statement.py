@@ -10,6 +10,20 @@ from collections import Counter, defaultdict, namedtuple
 
 PROGRAM = ("iv_program", "run_program")
 LINES_OF_A_SCRIPT = ("iv_session", "ScriptLines")  # with these the first part begins
+# The titles of the parts; those definitions that an earlier part uses and leaves to each, with all that only these need.
+TITLES = ["1: edits, session and views", "2: the shell", "3: arguments", "4: regions"]
+LATER = [
+    [],
+    [("iv_lines", "Fault", "fault_text"), ("iv_session", "ScriptLines", "EndsAt")],
+    [("iv_args", "Arguments", "IsPlan"), ("iv_view", "Arguments", "read_arguments")],
+    [("iv_session", "Requests", "show_asked"), ("iv_session", "Requests", "show_all_asked"), ("iv_view", "RegionText", "shown_text_in")],
+]
+# The definitions in which a `List ℕ` is no text but a list of numbers.
+OF_NUMBERS = {"greatest", "AreWithin", "line_sizes", "one_longer", "Keeps", "Passes"}
+# What the page writes for what the sources have.
+WRITTEN = [(r"\b(?:abbrev|unfoldable) pub |\bpub (?=record |data |\w+ :)", ""), (r"\bType 0\b", "Type"),
+           (r'\(codes ("(?:\\.|[^"\\])*")\)', r"\1"), (r'\bcodes (?=")', "")]
+TEXTS = [(r"\(List ℕ\)", "Text"), (r"\bList ℕ", "Text")]
 BYTES = ("iv_lines", "Bytes")  # names of bytes, which are lines of the glossary
 NOTICES = {("iv_args", "Notices"), ("iv_args", "Texts")}  # what has a section of its own at the end
 # Several definitions of one file have a heading of their own if they are all that it has, or have so many lines; the second number is
@@ -57,7 +71,7 @@ GLOSSARY = {
         "+ℤ int_min int_max": "`y +ℤ z`, `int_min y z`, `int_max y z`: the sum, the less and the greater of two of these",
     },
     "Lists": {
-        "List [] ∷": "`List A`: lists of As; `[]` is the empty one, and `x ∷ xs` has x first and then the list xs. A text is a `List ℕ`: its bytes",
+        "List [] ∷": "`List A`: lists of As; `[]` is the empty one, and `x ∷ xs` has x first and then the list xs. A `Text` is a list of bytes",
         "++": "`xs ++ ys`: the one list, and then the other",
         "length": "`length xs`: how many items it has",
         "map": "`map f xs`: f x for each x of xs, in order",
@@ -98,6 +112,7 @@ GLOSSARY = {
         "IsSome": "`IsSome o`: there is a value",
         "IfSome": "`IfSome o P`: P of the value, if there is one",
         "IsSomeAnd": "`IsSomeAnd o P`: there is a value, and P of it",
+        "MatchOption": "`MatchOption o P Q`: P if there is no value, and Q of it if there is one",
     },
     "Results": {
         "Result Ok Err": "`Result A E`: `Ok x`, with an x of A, or `Err e`, with an e of E: the fault",
@@ -108,7 +123,7 @@ GLOSSARY = {
         "option_transpose": "`option_transpose o`: `Ok None` for `None`; `Ok (Some x)` for `Some (Ok x)`; `Err e` for `Some (Err e)`",
     },
     "Texts": {
-        "codes": "`codes \"ab\"`: the bytes of this text; `\\t` is a TAB and `\\n` a line feed",
+        "codes": "`\"ab\"`: the bytes of this text; `\\t` is a TAB and `\\n` a line feed",
         "bytes_eq": "`bytes_eq a b`: whether two texts are equal",
         "decimal": "`decimal n`: the digits of n",
         "signed_decimal": "`signed_decimal z`: the same of a ℤ, with `-` in front if it is below 0",
@@ -140,13 +155,13 @@ HEAD = """\
 
 The contract of `bedkeep`, and each definition on which it rests, after the one that first uses it. It is proved for all arguments, files and scripts; no proof is part of it. [PROMISES](PROMISES.md) says in words what it means, what else is proved, and what is tested or trusted.
 
-| Part | Definitions | Lines without comments |
-|---|---|---|
+| Part | Definitions | Lines without comments | Minutes |
+|---|---|---|---|
 {rows}
 
-These numbers are without {uncounted}: the first are lines of the glossary, and the others are the last section.
+These numbers are without {uncounted}: the first are lines of the glossary, and the others are the last section. The minutes are those of a reader who takes in 200 words of prose a minute, and three names or signs of a definition in two seconds.
 
-`scripts/prove/reached.py --write` writes the page from the sources, and `make test` compares the two. The prose is that of comments; only the text in blocks counts.
+`scripts/prove/reached.py --write` writes the page from the sources, and `make test` compares the two. The prose is that of comments; only the text in blocks counts. It is that of the sources, except that `Text` is a `List ℕ` there if it holds bytes, `Type` is `Type 0`, `"ab"` is `codes "ab"`, and `abbrev`, `unfoldable` and `pub`, which are for the prover, are left out.
 
 ## Contents
 
@@ -154,19 +169,20 @@ These numbers are without {uncounted}: the first are lines of the glossary, and 
 
 ## How to read it
 
-- **A definition** begins with its name and its type: `f : A → B → C` takes an A and a B, and gives a C. Then come equations, of which the first that fits counts. `f x y` is f of x and y, without brackets or commas. `abbrev`, `unfoldable` and `pub` are for the prover. To find a definition, search for its name with ` :` after it.
-- **`Type 0`** is the type of types and of statements. `Sequences : Type 0` is a type. `RunsLine : State → ... → Type 0` is a statement about a State and more: it holds or doesn't. The names of both begin with a capital letter; those of values begin with a small one.
+- **A definition** begins with its name and its type: `f : A → B → C` takes an A and a B, and gives a C. Then come equations, of which the first that fits counts. `f x y` is f of x and y, without brackets or commas. To find a definition, search for its name with ` :` after it.
+- **`Type`** is the type of types and of statements. `Sequences : Type` is a type. `RunsLine : State → ... → Type` is a statement about a State and more: it holds or doesn't. The names of both begin with a capital letter; those of values begin with a small one.
 - **A record** has named fields. `r.x` is a field, `record {{ x = a }}` is made of fields, and `record r {{ x = a }}` is r except for this field. A record with parameters is a statement: it holds if there are values for all of its fields, and its fields that are statements hold.
 - **A `data`**, or an `enum` of Rust, is one of its cases. In `kind.Add` the case is `Add`, and its type is the one that the last line *Cases* gives for `kind.`.
 - **In an equation** `λ x. e` is the function that gives e for x; `let x = e in d` is d with e for x; and `elim e [ p ↦ a | q ↦ b ]` is a if e has the form p, and b if it has the form q. `_` is any value.
 - **Arguments** in `{{ }}` are left out if the others show them. What is defined below `module _ (x : A) where` takes x as its first argument.
 - **Binding**: fields bind tightest, then functions, `∷`, signs between numbers and `++`, those that compare, `&&`, `||`, `¬`, `×`, `⊎`, and last `→`.
 - **Values of Rust**: an unsigned number, such as a `u8` or a `u64`, is an ℕ, a `bool` is a Bool, and an array or what a `&[u8]` refers to is a List. Declarations are shortened to names and types.
+- **A call of Rust** promises each of its `ensures {{ P }}` when it returns, if its `requires {{ P }}` holds when it is made. `ensures NAME {{ P }}` has a name for P, `ghost` is what only contracts see, and `Self` is the type that has the call.
 - Positions count from 0, and the end of an interval is not included. *Stop* is the end of an interval.
 
 ## Glossary
 
-The words of Rattle's standard library that definitions use, where each has a definition too, and the names of bytes, from [`iv_lines/specs/Bytes.antt`](../crates/iv_lines/specs/Bytes.antt). *New words* below a definition are those that no definition above uses.
+The words of Rattle's standard library that definitions use, where each has a definition too, and the names of bytes, from [`iv_lines/specs/Bytes.antt`](../crates/iv_lines/specs/Bytes.antt). A sign between `◌` is a function, as `◌+ℤ◌`: each `◌` is an argument.
 
 {glossary}
 
@@ -180,15 +196,19 @@ This is about any files, input, output and messages; `F.state`, `R.state`, `W.st
 """
 
 FIRST = """\
-## Part 1: edits, session and views
-
-The contract's `Runs` is about the whole program. It leads to the lines of a script through {chain}, which are in part 2: the input is split into lines, and each line in turn takes the session from one state to the next, and writes something. `RunsLine` says what one line may do. The text of a view, which is below too, is also what a run of one subcommand prints.
+The contract's `Runs` is about the whole program. It leads to the lines of a script through {chain}, which are in part 2: the input is split into lines, and each line in turn takes the session from one state to the next, and writes something. `RunsLine` says what one line may do. The text of a view, which is below too, is also what a run of one subcommand prints. Which arguments ask for which view is in part 3, and what `show` and `showall` print of a region is in part 4.
 """
 
 SECOND = """\
-## Part 2: the shell
+What is around a session or a view: files, streams, endings. It begins with the contract's `Runs`.
+"""
 
-What is around a session or a view: arguments, files, streams, endings. It begins with the contract's `Runs`.
+ARGUMENTS = """\
+What the arguments of a run mean, and those of a view, which are the words of `open` too.
+"""
+
+REGIONS = """\
+What `show` and `showall` ask for, and what they print: the rows of a view that share a position with a region, whole and in their order.
 """
 
 DEVICES = """\
@@ -228,6 +248,22 @@ def what_is_uncounted(keys):
     """What the numbers of definitions leave out, with how many there are."""
     names, notices = (sum(test(key[1:3]) for key in keys) for test in (BYTES.__eq__, NOTICES.__contains__))
     return f"{names} names of bytes and the {notices} definitions of notices"
+
+
+def as_written(text, is_of_texts=True):
+    """A definition or a type as the page writes it."""
+    for pattern, written in WRITTEN + TEXTS * is_of_texts:
+        text = re.sub(pattern, written, text)
+    return text
+
+
+def minutes(text):
+    """How long a text takes to read: 200 words of prose a minute, and 3 tokens of definitions in 2 seconds."""
+    pieces = re.split(r"^```\w*\n(.*?)^```\n", text, flags=re.M | re.S)
+    comments = [line for piece in pieces[1::2] for line in piece.split("\n") if line.lstrip().startswith("//")]
+    words = sum(len(piece.split()) for piece in pieces[::2]) + sum(len(line.split()) - 1 for line in comments)
+    tokens = sum(len(re.findall(r"[\w'-]+|[^\w\s]", line)) for piece in pieces[1::2] for line in piece.split("\n") if line not in comments)
+    return words / 200 + tokens / 90
 
 
 def slug(heading):
@@ -271,18 +307,23 @@ class Statement:
         self.roots, self.types = [used for used in named if used[0] == "spec"], [used for used in named if used[0] == "src"]
         self.traits = self.all_traits()
         self.before = self.ways(self.roots)
-        self.starts = [used for key in self.before for used in self.uses(key) if used[1:3] == LINES_OF_A_SCRIPT != key[1:3]]
+        self.starts = [used for key in self.before for used in self.uses(key) if used[1:3] == LINES_OF_A_SCRIPT != key[1:3] and used[1:] not in LATER[1]]
         if not self.starts:
             sys.exit(f"scripts/prove/statement.py: the contract leads to no definition of {' '.join(LINES_OF_A_SCRIPT)}")
         devices = [used for trait in self.traits for used in self.uses_of_type(trait) if used[0] == "spec"]
-        first, second = {*self.ways(self.starts)}, {*self.before}
-        third = {*self.ways(devices)} - first - second
+        later = [[("spec", *name) for name in names] for names in LATER]
+        left = [key for keys in later for key in keys]
+        missing = [key for key in left if key not in self.before]
+        if missing:
+            sys.exit(f"scripts/prove/statement.py: the contract doesn't lead to {' '.join(missing[0][1:])}")
         notices = [key for key in self.before if key[1:3] in NOTICES]
-        others = first | second | third
-        self.bytes = {key: self.byte(key) for key in sorted(others, key=lambda key: self.walk.specs[key]["at"]) if key[1:3] == BYTES}
-        first, second, third = ({key for key in keys if is_counted(key)} for keys in (first, second, third))
-        self.groups = (self.ordered(self.starts, first), self.ordered(self.roots, second - first), self.ordered(devices, third),
-                       self.ordered(notices, {*notices}))
+        among, begins = [], [self.starts, self.roots, *later[2:]]
+        for own, roots in zip(later, begins):  # the definitions of each part
+            others = {key for key in [*left, *notices] if key not in own}
+            among.append({key for key in self.ways(roots, others) if is_counted(key) and not any(key in keys for keys in among)})
+        of_devices = {key for key in self.ways(devices) if key not in self.before and is_counted(key)}
+        self.bytes = {key: self.byte(key) for key in sorted(self.before, key=lambda key: self.walk.specs[key]["at"]) if key[1:3] == BYTES}
+        self.groups = [*map(self.ordered, (*begins, devices, notices), (*among, of_devices, {*notices}))]
         self.keys = [key for groups in self.groups for _, keys, _ in groups for key in keys]
         self.user = {key: self.before[key] for key in self.starts}
         for key in self.keys:
@@ -290,6 +331,7 @@ class Statement:
                 if used[1:3] != key[1:3]:
                     self.user.setdefault(used, key)
         self.shown, self.said, self.titles, self.problems = set(), set(), Counter(), []
+        self.beside = {self.type_key(used) for key in self.keys for _, used in self.walk.uses[key] if used and used[0] == "src"}
         self.means, self.bearers = {}, self.all_names()
 
     # ---- what there is
@@ -336,12 +378,13 @@ class Statement:
         """The definitions that one uses, in order."""
         return [used for _, used in self.walk.uses[key] if used in self.walk.specs]
 
-    def ways(self, roots):
-        """The definitions that these rest on, and these, the nearest first: each with one that leads to it."""
+    def ways(self, roots, without=()):
+        """The definitions that these rest on, and these, the nearest first: each with one that leads to it. No way leads over one of those
+        that are left out."""
         before, todo = {key: None for key in roots}, list(roots)
         for key in todo:
             for used in self.uses(key):
-                if used not in before:
+                if used not in before and used not in without:
                     before[used] = key
                     todo.append(used)
         return before
@@ -414,12 +457,6 @@ class Statement:
     def link(self, path):
         return f"[`{path.relative_to('crates')}`](../{path})"
 
-    def new_words(self, words):
-        """What is said of the words of std that are met for the first time."""
-        new = [word for word in dict.fromkeys(words) if word not in self.said]
-        self.said.update(new)
-        return [f"*New words*: {quoted(new)}."] if new else []
-
     def meanings(self, key):
         """What is said of cases, and of names that mean several things, where they mean something else than before."""
         cases, others, text = defaultdict(list), [], self.walk.specs[key]["text"]
@@ -437,22 +474,22 @@ class Statement:
         said = "; ".join(f"{quoted(names)} of `{of}`" for of, names in cases.items())
         return ([f"*Cases*: {said}."] if cases else []) + ([f"*Here* {', '.join(others)}."] if others else [])
 
-    def type_block(self, key):
-        """A declaration of Rust, and then those of the types that it names."""
+    def type_block(self, key, later=True):
+        """A declaration of Rust, and then those of the types that it names, except if they come later: beside a definition that uses them."""
         if key in self.shown:
             return []
         self.shown.add(key)
         if self.seen_as(key):
-            nested = [used for used in self.uses_of_type(key) if used[0] == "src"]
-            return [f"A `{key[2]}` of Rust is seen as `{self.seen_as(key)}`."] + [part for used in nested for part in self.type_block(used)]
+            nested = [used for used in self.uses_of_type(key) if used[0] == "src" and not (later and used in self.beside)]
+            return [f"A `{key[2]}` of Rust is seen as `{as_written(self.seen_as(key))}`."] + [part for used in nested for part in self.type_block(used)]
         kind, comment, text, path = self.declared[key]
         words = self.walk.items[key[1:]][0][1].words if kind == "trait" else set()
         known = OF_RUST | words | {used[-1] for used in [key, *self.uses_of_type(key)]} | self.cases(key)
         self.problems += [f"{path}: {key[2]} names {name}, which the page doesn't explain" for name in re.findall(r"\b[A-Z]\w+", text) if name not in known]
-        nested = [used for used in self.uses_of_type(key) if used[0] == "src" and used not in self.traits]
+        nested = [used for used in self.uses_of_type(key) if used[0] == "src" and used not in self.traits and not (later and used in self.beside)]
         parts = [f"**`{key[2]}`** ({self.link(path)}): {sentence(comment)}", block(text, "rust")]
-        parts += self.new_words(word for word in re.findall(r"(?<![\w.])[^\W\d]\w*|[≡→×<≤]|\[\]", text) if word in words)
-        return parts + [part for used in nested for part in self.type_block(used)]
+        self.said.update(word for word in re.findall(r"(?<![\w.])[^\W\d]\w*|[≡→×<≤]|\[\]", text) if word in words)
+        return parts + [part for used in nested for part in self.type_block(used, later)]
 
     def constants(self, keys):
         """A line on constants of Rust that are met for the first time."""
@@ -461,12 +498,16 @@ class Statement:
         paths = list(dict.fromkeys(self.declared[key].path for key in new))
         return [f"{quoted(key[2] for key in new)}: texts in {' and '.join(map(self.link, paths))}."] if new else []
 
-    def definition(self, key, where):
-        """A definition with its comment, its text, the new words, and the declarations that it uses first."""
+    def definition(self, key, where, around):
+        """A definition with its comment, its text, what its names mean, and the declarations that it uses first. The line around it is left out
+        if it is the one that is given."""
         one = self.walk.specs[key]
-        said = sentence(one["comment"])
-        parts = [f"**`{key[3]}`**{where}" + (f": {said}" if said else ""), block(one["text"])]
-        notes = self.new_words(self.words(key)) + self.meanings(key)
+        said, text = sentence(one["comment"]), one["text"]
+        if around and text.startswith(around):
+            text = textwrap.dedent(text[len(around):])
+        parts = [f"**`{key[3]}`**{where}" + (f": {said}" if said else ""), block(as_written(text, key[3] not in OF_NUMBERS))]
+        self.said.update(self.words(key))
+        notes = self.meanings(key)
         parts += [" ".join(notes)] if notes else []
         used = [self.type_key(used) for _, used in self.walk.uses[key] if used and used[0] == "src"]
         parts += self.constants([used for used in used if used in self.declared])
@@ -491,8 +532,12 @@ class Statement:
                 headings.append(title)
                 user = self.user.get(keys[0])
                 parts += [f"### {title}", f"{rest} From {self.link(path)}{f', first used by `{user[3]}`' if user else ''}.".strip()]
+            modules = Counter(self.walk.specs[key]["text"].split("\n")[0] for key in keys if self.walk.specs[key]["text"].startswith("module"))
+            around = next((line for line, count in modules.items() if has_heading and count > 1), "")
+            if around:
+                parts += ["These are below this line:", block(as_written(around))]
             for key in keys:
-                parts += self.definition(key, f" ({self.link(path)})" if not has_heading and key == keys[0] else "")
+                parts += self.definition(key, f" ({self.link(path)})" if not has_heading and key == keys[0] else "", around)
         return parts, headings
 
     def words(self, key):
@@ -505,27 +550,31 @@ class Statement:
         """The text of the page. It also finds what is wrong with it."""
         words = re.findall(r"\w+", self.contract[self.contract.index("ensures"):])
         known = self.walk.items[PROGRAM][0][1].words | {"now", "old", "new"}
-        contract = [block(self.contract, "rust"), *self.new_words(word for word in words if word in known)]
-        ended = [part for key in self.types if key not in self.traits for part in self.type_block(key)]
-        (first, of_first), (second, of_second) = map(self.part, self.groups[:2])
-        devices = [part for key in self.traits for part in self.type_block(key)] + self.part(self.groups[2], False)[0]
-        notices = self.part(self.groups[3], False)[0]
+        self.said.update(word for word in words if word in known)
+        ended = [part for key in self.types if key not in self.traits for part in self.type_block(key, False)]
+        parts = [*map(self.part, self.groups[:len(TITLES)])]
+        devices = [part for key in self.traits for part in self.type_block(key)] + self.part(self.groups[-2], False)[0]
+        parts[1][0].extend([DEVICES, *devices])
+        parts[1][1].append("The devices")
+        notices = self.part(self.groups[-1], False)[0]
         self.check()
-        headings = [("Part 1: edits, session and views", of_first), ("Part 2: the shell", of_second + ["The devices"])]
-        contents = "\n\n".join(f"[{title}](#{slug(title)}): " + " · ".join(f"[{name}](#{slug(name)})" for name in names) for title, names in headings)
-        contents += f"\n\n[Notices](#{slug('Notices')})"
+        link = lambda heading: f"[{heading}](#{slug(heading)})"
+        contents = "\n\n".join(f"{link(f'Part {title}')}: " + " · ".join(map(link, headings)) for title, (_, headings) in zip(TITLES, parts))
+        contents += f"\n\n{link('Notices')}"
         named = {"**Bytes**, by names": [f"`{key[3]}`: the byte {byte}" for key, byte in self.bytes.items()]}
         subjects = {**{f"**{subject}**": lines.values() for subject, lines in GLOSSARY.items()}, **named}
         glossary = "\n\n".join(f"{subject}\n\n" + "\n".join(f"- {line}" for line in lines) for subject, lines in subjects.items())
-        count = len([key for _, keys, _ in self.groups[0] for key in keys])
-        counted = [*filter(is_counted, self.keys)]
-        parts = {"1: edits, session and views": counted[:count], "2: the shell": counted[count:], "Both": counted}
-        rows = "\n".join(f"| {name} | {len(keys)} | {sum(self.walk.specs[key]['lines'] for key in keys):,} |" for name, keys in parts.items())
+        joined = lambda pieces: "\n\n".join(piece.strip() for piece in pieces) + "\n"
+        intros = [FIRST.format(chain=quoted(self.chain())), SECOND, ARGUMENTS, REGIONS]
+        bodies = [joined([f"## Part {title}", intro, *body]) for title, intro, (body, _) in zip(TITLES, intros, parts)]
+        groups = [self.groups[0], [*self.groups[1], *self.groups[-2]], *self.groups[2:-2]]
+        of_parts = [[key for _, keys, _ in part for key in keys] for part in groups]
+        row = lambda name, keys, time: f"| {name} | {len(keys)} | {sum(self.walk.specs[key]['lines'] for key in keys):,} | {time:.0f} |"
+        counted, times = [key for keys in of_parts for key in keys], [*map(minutes, bodies)]
+        rows = "\n".join([*map(row, TITLES, of_parts, times), row("All", counted, sum(times))])
         uncounted = what_is_uncounted([*self.keys, *self.bytes])
-        head = HEAD.format(rows=rows, uncounted=uncounted, contents=contents, glossary=glossary, contract="\n\n".join(contract), ended="\n\n".join(ended))
-        pieces = [head, FIRST.format(chain=quoted(self.chain())), *first, SECOND, *second, DEVICES, *devices,
-                  LAST.format(count=len(self.keys) - len(counted)), *notices]
-        return "\n\n".join(piece.strip() for piece in pieces) + "\n"
+        head = HEAD.format(rows=rows, uncounted=uncounted, contents=contents, glossary=glossary, contract=block(self.contract, "rust"), ended="\n\n".join(ended))
+        return joined([head, *bodies, LAST.format(count=len(self.keys) - len(counted)), *notices])
 
     # ---- what a reader would miss
 
