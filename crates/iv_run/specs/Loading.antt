@@ -9,12 +9,12 @@ use Rattle.iv_lines.specs.declared.fault.LoadCause.{LoadCause}
 use Rattle.iv_lines.specs.declared.fault.LoadCause.TheVariants as cause
 use Rattle.iv_lines.specs.declared.fault.Fault.{Fault}
 use Rattle.iv_lines.specs.declared.fault.Fault.TheVariants as refused
-use Rattle.iv_fasta.specs.Fasta as fasta
+use Rattle.iv_fasta.specs.Fasta.{Bases, fasta_of}
 use Rattle.iv_lines.specs.Chains.{if_ok, map_fault}
 use Rattle.iv_run.specs.declared.exit_reason.CliFault.{CliFault}
 use Rattle.iv_run.specs.declared.exit_reason.CliFault.TheVariants.{Words, Damaged, Memory}
 use Rattle.iv_args.specs.declared.plan.Slot.{Slot}
-use Rattle.iv_args.specs.declared.plan.Slot.TheVariants.{Sizes, First, Other, Bases}
+use Rattle.iv_args.specs.declared.plan.Slot.TheVariants as slot
 
 -- how a fault of a file is reported: out of memory is no damage
 abbrev pub fault_of : LoadCause → CliFault → CliFault
@@ -39,7 +39,7 @@ pub record Parsed : Type 0 where
   pub genome : Sequences
   pub first : Bed
   pub second : Option Bed
-  pub bases : Option fasta.Bases
+  pub bases : Option Bases
   pub limit : ℕ
 
 -- the files of these bytes: the genome file, the first file, and the second and the FASTA file, if there are any. A
@@ -47,8 +47,8 @@ pub record Parsed : Type 0 where
 -- damaged file
 abbrev pub parsed : ℕ → List ℕ → List ℕ → Option (List ℕ) → Option (List ℕ) → ℕ → Result Parsed CliFault
 parsed width sizes first other bases limit =
-    if_ok (map_fault (Damaged Sizes) (genome_of sizes)) (λ g.
-    if_ok (map_fault (Damaged First) (bed_of g width limit first)) (λ records.
-    if_ok (map_fault (Damaged Other) (option_transpose (option_map (bed_of g width limit) other))) (λ second.
-    if_ok (map_fault (Damaged Bases) (option_transpose (option_map (fasta.fasta_of g) bases))) (λ found.
+    if_ok (map_fault (Damaged slot.Sizes) (genome_of sizes)) (λ g.
+    if_ok (map_fault (Damaged slot.First) (bed_of g width limit first)) (λ records.
+    if_ok (map_fault (Damaged slot.Other) (option_transpose (option_map (bed_of g width limit) other))) (λ second.
+    if_ok (map_fault (Damaged slot.Bases) (option_transpose (option_map (fasta_of g) bases))) (λ found.
     Ok (record { genome = g; first = records; second = second; bases = found; limit = limit })))))
