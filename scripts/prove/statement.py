@@ -161,7 +161,7 @@ The contract of `bedkeep`, and each definition on which it rests, after the one 
 
 These numbers are without {uncounted}: the first are lines of the glossary, and the others are the last section. The minutes are those of a reader who takes in 200 words of prose a minute, and three names or signs of a definition in two seconds.
 
-`scripts/prove/reached.py --write` writes the page from the sources, and `make test` compares the two. The prose is that of comments; only the text in blocks counts. It is that of the sources, except that `Text` is a `List ℕ` there if it holds bytes, `Type` is `Type 0`, `"ab"` is `codes "ab"`, and `abbrev`, `unfoldable` and `pub`, which are for the prover, are left out.
+`scripts/prove/reached.py --write` writes the page from the sources, and `make test` compares the two. The prose is that of comments; only the text in blocks counts. That text is the sources', but the page writes `Text` for a `List ℕ` that holds bytes, `Type` for `Type 0`, and `"ab"` for `codes "ab"`, and leaves out `abbrev`, `unfoldable` and `pub`, which are for the prover.
 
 ## Contents
 
